@@ -1,0 +1,126 @@
+-- Running plans: appended pieces, walks over a list, and what holds after every step of a plan.
+use mathlib.Core.Path.{_≡_, refl, sym, _∙_, ap, ap₂, subst}
+use Prim.Native.Nat.{ℕ, zero, suc}
+use mathlib.Core.List.{List, [], _∷_, _++_, map, append-nil, append-assoc}
+use mathlib.Core.Option.{Option, none, some}
+use mathlib.Core.Bool.{Bool}
+use mathlib.Core.Logic.{_⊎_, inl, inr}
+use lib.ListN.{take}
+use lib.Seq.{append-snoc}
+use Rattle.model.specs.Step
+use Rattle.model.specs.Order.{Name, Key}
+use Rattle.model.specs.Map.{Map, look, del}
+use Rattle.model.specs.Store.{Store, keys}
+use Rattle.model.specs.Step.{Step, apply, applyAll, removeStaging}
+use Rattle.model.specs.Plan.{inTurn, removeStagingFiles}
+use Rattle.model.specs.Name.{originalName}
+use Rattle.model.specs.Base.{Any, In}
+use Rattle.cut_rule.specs.Names.{dels, dels-keys}
+
+pub applyAll-append : (xs ys : List Step) (s : Store) → applyAll (xs ++ ys) s ≡ applyAll ys (applyAll xs s)
+applyAll-append [] ys s = refl
+applyAll-append (x ∷ xs) ys s = applyAll-append xs ys (apply x s)
+
+abbrev pub runOver : {A : Type 0} → (A → Store → List Step) → List A → Store → Store
+runOver g [] s = s
+runOver g (a ∷ l) s = runOver g l (applyAll (g a s) s)
+
+pub applyAll-seqOver : {A : Type 0} (g : A → Store → List Step) (l : List A) (s : Store) → applyAll (inTurn g l s) s ≡ runOver g l s
+applyAll-seqOver g [] s = refl
+applyAll-seqOver g (a ∷ l) s = applyAll-append (g a s) (inTurn g l (applyAll (g a s) s)) s ∙ applyAll-seqOver g l (applyAll (g a s) s)
+
+-- No step touches the open mark.
+apply-busy : (x : Step) (s : Store) → apply x s .openMark ≡ s .openMark
+unfolding apply
+apply-busy Step.rewriteHeader s = refl
+apply-busy Step.syncStaging s = refl
+apply-busy Step.syncLog s = refl
+apply-busy Step.removeLog s = refl
+apply-busy Step.syncJournal s = refl
+apply-busy Step.syncCollections s = refl
+apply-busy (Step.makeDirectory d) s = refl
+apply-busy (Step.renameFile d a b) s = refl
+apply-busy (Step.moveStaged f d k) s = refl
+apply-busy (Step.renameDirectory a b) s = refl
+apply-busy (Step.copyFile a b f) s = refl
+apply-busy (Step.removeFile d f) s = refl
+apply-busy (Step.removeDirectory d) s = refl
+apply-busy (Step.removeStaging k) s = refl
+apply-busy (Step.syncDirectory d) s = refl
+
+pub applyAll-busy : (xs : List Step) (s : Store) → applyAll xs s .openMark ≡ s .openMark
+applyAll-busy [] s = refl
+applyAll-busy (x ∷ xs) s = applyAll-busy xs (apply x s) ∙ apply-busy x s
+
+-- Emptying the staging folder.
+abbrev pub withStaging : Map → Store → Store
+withStaging m s = record { tree = s .tree; staging = m; log = s .log; openMark = s .openMark }
+
+unstage : (l : List Key) (s : Store) → applyAll (map removeStaging l) s ≡ withStaging (dels l (s .staging)) s
+unfolding apply
+unstage [] s = refl
+unstage (k ∷ l) s = unstage l (apply (removeStaging k) s)
+
+pub staging-gone : (s : Store) → applyAll (removeStagingFiles s) s ≡ withStaging [] s
+staging-gone s = unstage (keys (s .staging)) s ∙ ap (λ (m : Map). withStaging m s) (dels-keys (s .staging))
+
+-- A walk over a list in which each element's steps keep I and leave no backup that the element hits, and bring none back.
+abbrev pub Clears : List Step → (Store → Type 0) → (Key → Type 0) → Store → Type 0
+Clears xs I Hit s =
+    I (applyAll xs s)
+    × ((d n h : Name) → originalName n ≡ some h → Hit (d, n) ⊎ (look (d, n) (s .tree) ≡ none) → look (d, n) (applyAll xs s .tree) ≡ none)
+
+module _ {A : Type 0} (g : A → Store → List Step) (Ready : List A → Store → Type 0) (I : Store → Type 0) (Hit : A → Key → Type 0)
+    (each : (a : A) (l : List A) (s : Store) → Ready (a ∷ l) s → I s → Clears (g a s) I (Hit a) s × Ready l (applyAll (g a s) s)) where
+  pub walk : (l : List A) (s : Store) → Ready l s → I s →
+      I (runOver g l s)
+      × ((d n h : Name) → originalName n ≡ some h → Any (λ a. Hit a (d, n)) l ⊎ (look (d, n) (s .tree) ≡ none) → look (d, n) (runOver g l s .tree) ≡ none)
+  walk [] s r i = (i, λ d n h p q. go d n q)
+    where
+      go : (d n : Name) → ⊥ ⊎ (look (d, n) (s .tree) ≡ none) → look (d, n) (s .tree) ≡ none
+      go d n (inl q) = absurd q
+      go d n (inr q) = q
+  walk (a ∷ l) s r i =
+      let rest = walk l (applyAll (g a s) s) (one .1) (one .0 .0) in
+      (rest .0, λ d n h p q. rest .1 d n h p (go d n h p q))
+    where
+      one : Clears (g a s) I (Hit a) s × Ready l (applyAll (g a s) s)
+      one = each a l s r i
+
+      go : (d n h : Name) → originalName n ≡ some h → Any (λ b. Hit b (d, n)) (a ∷ l) ⊎ (look (d, n) (s .tree) ≡ none) → Any (λ b. Hit b (d, n)) l ⊎ (look (d, n) (applyAll (g a s) s .tree) ≡ none)
+      go d n h p (inl (inl q)) = inr (one .0 .1 d n h p (inl q))
+      go d n h p (inl (inr q)) = inl q
+      go d n h p (inr q) = inr (one .0 .1 d n h p (inr q))
+
+-- What is asked of each element alone.
+abbrev pub Each : {A : Type 0} → (A → Type 0) → List A → Store → Type 0
+Each G l s = (a : _) → In a l → G a
+
+-- What holds of the steps done and the store after each step of a plan.
+abbrev pub Runs : (List Step → Store → Type 0) → List Step → List Step → Store → Type 0
+Runs P pre [] s = P pre s
+Runs P pre (x ∷ xs) s = P pre s × Runs P (pre ++ x ∷ []) xs (apply x s)
+
+module _ (P : List Step → Store → Type 0) where
+  pub runs-take : (pre xs : List Step) (s : Store) → Runs P pre xs s → (n : ℕ) → P (pre ++ take n xs) (applyAll (take n xs) s)
+  runs-take pre [] s h zero = rw append-nil h
+  runs-take pre [] s h (suc n) = rw append-nil h
+  runs-take pre (x ∷ xs) s h zero = rw append-nil (h .0)
+  runs-take pre (x ∷ xs) s h (suc n) = rw append-snoc at (runs-take (pre ++ x ∷ []) xs (apply x s) (h .1) n)
+
+  pub runs-end : (pre xs : List Step) (s : Store) → Runs P pre xs s → P (pre ++ xs) (applyAll xs s)
+  runs-end pre [] s h = rw append-nil h
+  runs-end pre (x ∷ xs) s h = rw append-snoc at (runs-end (pre ++ x ∷ []) xs (apply x s) (h .1))
+
+  pub runs-append : (pre xs ys : List Step) (s : Store) → Runs P pre xs s → Runs P (pre ++ xs) ys (applyAll xs s) → Runs P pre (xs ++ ys) s
+  runs-append pre [] ys s h k = rw append-nil at k
+  runs-append pre (x ∷ xs) ys s h k = (h .0, runs-append (pre ++ x ∷ []) xs ys (apply x s) (h .1) (rw append-snoc k))
+
+  module _ {A : Type 0} (g : A → Store → List Step) (G : A → Type 0)
+      (each : (a : A) (pre : List Step) (s : Store) → G a → P pre s → Runs P pre (g a s) s) where
+    pub runs-over : (l : List A) (pre : List Step) (s : Store) → ((a : A) → In a l → G a) → P pre s → Runs P pre (inTurn g l s) s
+    runs-over [] pre s good p = p
+    runs-over (a ∷ l) pre s good p =
+        let h : Runs P pre (g a s) s = each a pre s (good a (inl refl)) p in
+        runs-append pre (g a s) (inTurn g l (applyAll (g a s) s)) s h
+        (runs-over l (pre ++ g a s) (applyAll (g a s) s) (λ b q. good b (inr q)) (runs-end pre (g a s) s h))

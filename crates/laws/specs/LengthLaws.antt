@@ -1,0 +1,145 @@
+-- "So at most 19,262 bytes", and how long a log of so many operations is.
+use mathlib.Core.Path.{_≡_, refl, sym, _∙_, ap, ap₂, subst}
+use Prim.Native.Nat.{ℕ, zero, suc, _+_, _*_, _-_, _≤_, _<_}
+use native.Mathlib.Omega.{arith}
+use mathlib.Core.List.{List, [], _∷_, _++_, map}
+use mathlib.Core.Option.{Option, none, some}
+use mathlib.Core.Bool.{Bool, true, false, _&&_, false≢true}
+use lib.ListN.{length, take, drop, getD, length-append, length-drop}
+use lib.Seq.{length-take-le}
+use lib.Dec.{leb, eqb}
+use Rattle.model.specs.Order.{Name}
+use Rattle.model.specs.Map.{Map, Node, none≢some, some-inj}
+use Rattle.model.specs.Base.{Bytes, caseOption, if_then_else_, ifEmpty, sameBytes, atLeast, flatMap}
+use Rattle.model.specs.Name.{validName}
+use Rattle.model.specs.Field.{littleEndian, fromLittleEndian, Field, encodeField, encodeFields, fieldsFrom, decodeFields}
+use Rattle.model.specs.Operation.{Op, fieldTable, fieldTags, kind, values, tagged, encodePayload, opOfFields, decodePayload}
+use Rattle.model.specs.Log.{Entries, Ending, whole, truncated, undecodable, tooMany, entry, walk, entries, firstPayload, stop, after, Journal, recording, validHeader, readJournal, appendOperation}
+use Rattle.model.specs.Store.{Store, validNumber, validNode, validNodes, validStaged, wellFormed}
+use Rattle.model.specs.Image.{nodeField, stagedField, logField, markField, imageFields, encode}
+use Rattle.laws.specs.Tests.{and-both, leb-le, All, all-of}
+use Rattle.laws.specs.ImageLaws.{valid-length, node-parts, file-parts, staged-parts, Parts, parts, regroup}
+use Rattle.laws.specs.TreeLaws.{size, isFile, isDir, one}
+use Rattle.laws.specs.StoreLaws.{Good, good, LogFits}
+use Rattle.laws.specs.OperationLaws.{ValidOp, decoded-valid, op-forth}
+use Rattle.laws.specs.AppendLaws.{payload-length, not-whole, journal-parts, entry-length}
+use mathlib.Core.Logic.{_⊎_, inl, inr}
+
+-- How long fields are when joined.
+abbrev pub bulk : List Field → ℕ
+bulk [] = 0
+bulk (f ∷ fs) = 3 + length (f .value) + bulk fs
+
+pub join-length : (fs : List Field) → length (encodeFields fs) ≡ bulk fs
+unfolding encodeFields encodeField littleEndian
+join-length [] = refl
+join-length (f ∷ fs) = let h = join-length fs in let k = length-append (f .value) (flatMap encodeField fs) in omega arith
+
+bulk-append : (l r : List Field) → bulk (l ++ r) ≡ bulk l + bulk r
+bulk-append [] r = omega arith
+bulk-append (f ∷ l) r = let h = bulk-append l r in omega arith
+
+nodes-bulk : (d : Name) (t : Map) → validNodes d t ≡ true → bulk (map nodeField t) ≤ 67 * size isDir t + 71 * size isFile t
+unfolding validNodes
+nodes-bulk d [] e = omega arith
+nodes-bulk d (n ∷ t) e =
+    let k = and-both (validNode d n) (validNodes (n .0 .0) t) e in
+    let h = node-parts d n (k .0) in
+    go (n .0 .1) (nodes-bulk (n .0 .0) t (k .1)) (valid-length (n .0 .0) (h .0)) (h .1)
+  where
+    go : (f : Name) → bulk (map nodeField t) ≤ 67 * size isDir t + 71 * size isFile t → (1 ≤ length (n .0 .0)) × (length (n .0 .0) ≤ 64) → ifEmpty f (eqb (n .1) 0) (sameBytes (n .0 .0) d && validName f && validNumber (n .1)) ≡ true →
+        bulk (ifEmpty f (record { tag = 0x10; value = n .0 .0 }) (record { tag = 0x11; value = littleEndian 4 (n .1) ++ f }) ∷ map nodeField t) ≤ 67 * (ifEmpty f 1 0 + size isDir t) + 71 * (ifEmpty f 0 1 + size isFile t)
+    go [] ih v p = omega arith
+    go (y ∷ ys) ih v p = let w = valid-length (y ∷ ys) (file-parts d (n .0 .0) (y ∷ ys) (n .1) p .1) in unfold littleEndian in (omega arith)
+
+staged-bulk : (m : Map) → All (λ n. validStaged n ≡ true) m → bulk (map stagedField m) ≤ 71 * size one m
+unfolding littleEndian
+staged-bulk [] h = omega arith
+staged-bulk (n ∷ m) h = let v = valid-length (n .0 .1) (staged-parts n (h .0) .1) in let k = staged-bulk m (h .1) in omega arith
+
+tail-bulk : (l : Option Bytes) (b : Bool) → LogFits l → bulk (logField l ++ markField b) ≤ 6830
+tail-bulk none true h = omega arith
+tail-bulk none false h = omega arith
+tail-bulk (some l) true h = omega arith
+tail-bulk (some l) false h = omega arith
+
+pub encode-length : (s : Store) → wellFormed s ≡ true → length (encode s) ≤ 19262
+unfolding encode
+encode-length s e =
+    let p = parts s e in
+    let g = good s e in
+    let a = nodes-bulk [] (s .tree) (p .nodes) in
+    let b = staged-bulk (s .staging) (all-of validStaged (s .staging) (p .staged)) in
+    let c = tail-bulk (s .log) (s .openMark) (g .log) in
+    let d = g .tree .dirsFit in
+    let f = g .tree .filesFit in
+    let h = g .staging .fits in
+    let x = bulk-append (map nodeField (s .tree)) (map stagedField (s .staging) ++ (logField (s .log) ++ markField (s .openMark))) in
+    let y = bulk-append (map stagedField (s .staging)) (logField (s .log) ++ markField (s .openMark)) in
+    let z = join-length (imageFields s) in
+    let r : bulk (imageFields s) ≡ bulk (map nodeField (s .tree) ++ (map stagedField (s .staging) ++ (logField (s .log) ++ markField (s .openMark)))) = ap bulk (regroup s) in
+    omega arith
+
+-- A payload that decodes is at most 205 bytes long.
+split-bulk : (m : ℕ) (p : Bytes) (fs : List Field) → fieldsFrom m p ≡ some fs → length p ≡ m + bulk fs
+unfolding fieldsFrom
+split-bulk (suc m) [] fs e = none≢some e
+split-bulk (suc m) (x ∷ p) fs e = let h = split-bulk m p fs e in omega arith
+split-bulk zero [] fs e = let h : bulk [] ≡ bulk fs = ap bulk (some-inj e) in omega arith
+split-bulk zero (t ∷ r) fs e = go (fieldsFrom (2 + fromLittleEndian (take 2 r)) r) (λ l z. split-bulk (2 + fromLittleEndian (take 2 r)) r l z) e
+  where
+    n : ℕ
+    n = fromLittleEndian (take 2 r)
+
+    go : (o : Option (List Field)) → ((l : List Field) → o ≡ some l → length r ≡ 2 + n + bulk l) → caseOption o none (λ l. some (record { tag = t; value = take n (drop 2 r) } ∷ l)) ≡ some fs → length (t ∷ r) ≡ 0 + bulk fs
+    go none h e = none≢some e
+    go (some l) h e =
+        let a = h l refl in
+        let b = length-drop 2 r in
+        let c : length (take n (drop 2 r)) ≡ n = length-take-le n (drop 2 r) (omega arith) in
+        let d : bulk (record { tag = t; value = take n (drop 2 r) } ∷ l) ≡ bulk fs = ap bulk (some-inj e) in
+        omega arith
+
+pub decoded-length : (p : Bytes) (o : Op) → decodePayload p ≡ some o → length p ≤ 205
+decoded-length p o e = go (fieldsFrom 0 p) refl (unfold decodePayload decodeFields in e)
+  where
+    go : (q : Option (List Field)) → fieldsFrom 0 p ≡ q → caseOption q none opOfFields ≡ some o → length p ≤ 205
+    go none z f = none≢some f
+    go (some fs) z f =
+        let a = split-bulk 0 p fs z in
+        let b : bulk (tagged (fieldTags (kind o)) ((kind o ∷ []) ∷ values o)) ≡ bulk fs = ap bulk (op-forth fs o f) in
+        let c = join-length (tagged (fieldTags (kind o)) ((kind o ∷ []) ∷ values o)) in
+        let d = payload-length o (decoded-valid p o e) in
+        let g : length (encodePayload o) ≡ length (encodeFields (tagged (fieldTags (kind o)) ((kind o ∷ []) ∷ values o))) = unfold encodePayload in refl in
+        omega arith
+
+-- A log that is whole is no longer than its operations allow.
+walk-length : (k m : ℕ) (l : Bytes) → walk k m l .end ≡ whole → length l ≤ m + 213 * length (walk k m l .ops)
+unfolding walk
+walk-length k (suc m) [] e = not-whole truncated e (inl refl)
+walk-length k (suc m) (x ∷ r) e = let h = walk-length k m r e in omega arith
+walk-length k zero [] e = omega arith
+walk-length zero zero (x ∷ r) e = not-whole tooMany e (inr (inr refl))
+walk-length (suc k) zero (x ∷ r) e = go (λ m z. walk-length k m r z) (firstPayload (x ∷ r)) e
+  where
+    at : ((m : ℕ) → walk k m r .end ≡ whole → length r ≤ m + 213 * length (walk k m r .ops)) → (p : Bytes) (q : Option Op) → decodePayload p ≡ q → caseOption q (stop undecodable) (λ o. after o (walk k (7 + length p) r)) .end ≡ whole →
+        suc (length r) ≤ 0 + 213 * length (caseOption q (stop undecodable) (λ o. after o (walk k (7 + length p) r)) .ops)
+    at ih p none z e = not-whole undecodable e (inr (inl refl))
+    at ih p (some o) z e = let a = ih (7 + length p) e in let b = decoded-length p o z in omega arith
+
+    go : ((m : ℕ) → walk k m r .end ≡ whole → length r ≤ m + 213 * length (walk k m r .ops)) → (q : Option Bytes) → caseOption q (stop truncated) (λ p. caseOption (decodePayload p) (stop undecodable) (λ o. after o (walk k (7 + length p) r))) .end ≡ whole →
+        suc (length r) ≤ 0 + 213 * length (caseOption q (stop truncated) (λ p. caseOption (decodePayload p) (stop undecodable) (λ o. after o (walk k (7 + length p) r))) .ops)
+    go ih none e = not-whole truncated e (inl refl)
+    go ih (some p) e = at ih p (decodePayload p) refl e
+
+pub appended-length : (l : Bytes) (ops : List Op) (o : Op) → readJournal l ≡ recording ops whole → length ops < 32 → ValidOp o → length (appendOperation o l) ≤ 6824
+unfolding appendOperation
+appended-length l ops o e h v =
+    let p = journal-parts l ops e in
+    let a : length (drop 8 l) ≤ 0 + 213 * length (entries l .ops) = unfold entries in (walk-length 32 0 (drop 8 l) (p .3)) in
+    let b : length (entries l .ops) ≡ length ops = ap length (p .2) in
+    let c = payload-length o v in
+    let d = length-append l (entry (encodePayload o)) in
+    let f = entry-length (encodePayload o) in
+    let g = length-drop 8 l in
+    omega arith

@@ -1,0 +1,105 @@
+-- The six operations and their payload: transaction.rs.
+use Prim.Native.Nat.{ℕ, zero, suc, _-_}
+use mathlib.Core.List.{List, [], _∷_, _++_, map}
+use mathlib.Core.Option.{Option, none, some}
+use mathlib.Core.Bool.{Bool, true, false, _&&_, _||_}
+use lib.ListN.{length, getD, getElem?}
+use lib.Dec.{eqb}
+use Rattle.model.specs.Order.{Name, Key}
+use Rattle.model.specs.Base.{Bytes, caseOption, if_then_else_, sameBytes, allOf}
+use Rattle.model.specs.Name.{validName, backupName}
+use Rattle.model.specs.Field.{Field, encodeFields, decodeFields}
+
+-- A Write: its collection, its key, the name of its staging file.
+pub record Write : Type 0 where
+  pub collection : Name
+  pub key : Name
+  pub staged : Name
+
+-- Where it puts its file, and where the backup of a file there goes.
+abbrev pub target : Write → Key
+target w = (w .collection, w .key)
+
+abbrev pub backup : Write → Key
+backup w = (w .collection, backupName (w .key))
+
+-- A copy holds its source, its destination, and whether the destination existed.
+pub data Op : Type 0 where
+  write : Write → Op
+  delete : Name → Name → Op
+  deleteAll : Name → Op
+  createCollection : Name → Op
+  deleteCollection : Name → Op
+  copyCollection : Name → Name → Bool → Op
+
+-- "The fields of each kind stand in one constant table of six rows."
+unfoldable pub fieldTable : List (List ℕ)
+fieldTable =
+    (1 ∷ 2 ∷ 3 ∷ 4 ∷ [])
+    ∷ (1 ∷ 2 ∷ 3 ∷ [])
+    ∷ (1 ∷ 2 ∷ [])
+    ∷ (1 ∷ 2 ∷ [])
+    ∷ (1 ∷ 2 ∷ [])
+    ∷ (1 ∷ 2 ∷ 5 ∷ 6 ∷ [])
+    ∷ []
+
+-- The row of a kind, kinds counted from 1; no kind has an empty row.
+unfoldable pub fieldTags : ℕ → List ℕ
+fieldTags k = getD ([] ∷ fieldTable) k []
+
+-- "1 Write; 2 Delete; 3 DeleteAll, 4 CreateCollection and 5 DeleteCollection; 6 CopyCollection".
+unfoldable pub kind : Op → ℕ
+kind (write w) = 1
+kind (delete c k) = 2
+kind (deleteAll c) = 3
+kind (createCollection c) = 4
+kind (deleteCollection c) = 5
+kind (copyCollection a b x) = 6
+
+-- The values behind the kind, in the row's order.
+unfoldable pub values : Op → List Bytes
+values (write w) = w .collection ∷ w .key ∷ w .staged ∷ []
+values (delete c k) = c ∷ k ∷ []
+values (deleteAll c) = c ∷ []
+values (createCollection c) = c ∷ []
+values (deleteCollection c) = c ∷ []
+values (copyCollection a b x) = a ∷ b ∷ (if_then_else_ x 1 0 ∷ []) ∷ []
+
+-- Values under the tags of a row.
+unfoldable pub tagged : List ℕ → List Bytes → List Field
+tagged [] vs = []
+tagged (t ∷ ts) [] = []
+tagged (t ∷ ts) (v ∷ vs) = record { tag = t; value = v } ∷ tagged ts vs
+
+-- "CreateCollection of db is 01 01 00 04 02 02 00 64 62."
+unfoldable pub encodePayload : Op → Bytes
+encodePayload o = encodeFields (tagged (fieldTags (kind o)) ((kind o ∷ []) ∷ values o))
+
+-- The operation of each kind from its values.
+unfoldable pub makers : List (List Bytes → Op)
+makers =
+    (λ v. write (record { collection = getD v 0 []; key = getD v 1 []; staged = getD v 2 [] }))
+    ∷ (λ v. delete (getD v 0 []) (getD v 1 []))
+    ∷ (λ v. deleteAll (getD v 0 []))
+    ∷ (λ v. createCollection (getD v 0 []))
+    ∷ (λ v. deleteCollection (getD v 0 []))
+    ∷ (λ v. copyCollection (getD v 0 []) (getD v 1 []) (sameBytes (getD v 2 []) (1 ∷ [])))
+    ∷ []
+
+-- "0x01 kind, one byte"; "0x06 destination existed, one byte 0 or 1"; "all names valid".
+unfoldable pub validValue : Field → Bool
+validValue f =
+    if_then_else_ (eqb (f .tag) 1) (eqb (length (f .value)) 1)
+    (if_then_else_ (eqb (f .tag) 6) (sameBytes (f .value) (0 ∷ []) || sameBytes (f .value) (1 ∷ [])) (validName (f .value)))
+
+-- "Ascending tags, exactly these, all names valid, nothing behind."
+unfoldable pub opOfFields : List Field → Option Op
+opOfFields [] = none
+opOfFields (f ∷ fs) =
+    let k : ℕ = getD (f .value) 0 0 in
+    if_then_else_ (sameBytes (f .tag ∷ map (λ g. g .tag) fs) (fieldTags k) && allOf validValue (f ∷ fs))
+    (caseOption (getElem? makers (k - 1)) none (λ m. some (m (map (λ g. g .value) fs)))) none
+
+-- The operation of a payload.
+unfoldable pub decodePayload : Bytes → Option Op
+decodePayload p = caseOption (decodeFields p) none opOfFields

@@ -6,7 +6,8 @@ use mathlib.Core.Option.{Option, none, some}
 use mathlib.Core.Bool.{Bool, true, false}
 use mathlib.Core.Logic.{_⊎_, inl, inr}
 use Rattle.model.specs.Order.{Name, Key}
-use Rattle.model.specs.Map.{Map, look, put, del, Has, Sorted, key-dec, none≢some, ext, look-del-same, look-del-other, look-del-some, sorted-del}
+use Rattle.model.specs.Map.{Map, look, put, del, Has}
+use Rattle.laws.specs.MapLaws.{Sorted, key-dec, none≢some, ext, look-del-same, look-del-other, look-del-some, sorted-del}
 use Rattle.model.specs.Step.{removeLog, Step, removeFile, removeDirectory, apply, applyAll}
 use Rattle.model.specs.Name.{originalName}
 use Rattle.model.specs.Base.{Bytes, Any, In, caseOption, ifPresent}
@@ -15,8 +16,10 @@ use Rattle.model.specs.Log.{Journal, absent, recording, committing, journal, wh
 use Rattle.model.specs.Store.{Store, dirs, files}
 use Rattle.model.specs.Plan.{removeStandingLog, removeStagingFiles, inTurn, run, undoSteps, removeBackupFile, removeBackupsIn, restoreBackups, removeBackups, recoverParts, recoverPlan, recovered, withoutMark}
 use Rattle.cut_rule.specs.Words.{settled, Plain}
-use Rattle.cut_rule.specs.Names.{unbak-nil, key-apart, dirs-in, dirs-has, files-has, any-map}
-use Rattle.cut_rule.specs.Walk.{runOver, applyAll-seqOver, applyAll-busy, staging-gone, withStaging, Clears, walk, Each, Runs, runs-over}
+use Rattle.laws.specs.StoreLaws.{Bare}
+use Rattle.laws.specs.NameLaws.{original-nil}
+use Rattle.cut_rule.specs.Names.{key-apart, dirs-in, dirs-has, files-has, any-map}
+use Rattle.cut_rule.specs.Walk.{runOver, applyAll-seqOver, applyAll-busy, applyAll-bare, staging-gone, withStaging, Clears, walk, Each, Runs, runs-over}
 use Rattle.cut_rule.specs.Inv.{Inv, Nothing}
 use Rattle.cut_rule.specs.Recover.{restore-all}
 
@@ -71,7 +74,7 @@ clean-dir p d s e h = go (originalName d) e
 
     listed : (c n g : Name) → originalName n ≡ some g → c ≡ d → (y : Option ℕ) → look (c, n) (s .tree) ≡ y → Any (λ f. CleanHit d f (c, n)) l ⊎ (look (c, n) (s .tree) ≡ none)
     listed c n g p r none q = inr q
-    listed c n g p r (some x) q = inl (any-map (λ f z. (r, z)) l (files-has d n (s .tree) (λ z. none≢some (sym unbak-nil ∙ ap originalName (sym z) ∙ p)) (x, rw (← r) q)))
+    listed c n g p r (some x) q = inl (any-map (λ f z. (r, z)) l (files-has d n (s .tree) (λ z. none≢some (sym original-nil ∙ ap originalName (sym z) ∙ p)) (x, rw (← r) q)))
 
     hit : (c n g : Name) → originalName n ≡ some g → (c ≡ d) ⊎ (look (c, n) (s .tree) ≡ none) → Any (λ f. CleanHit d f (c, n)) l ⊎ (look (c, n) (s .tree) ≡ none)
     hit c n g p (inl r) = listed c n g p r (look (c, n) (s .tree)) refl
@@ -83,7 +86,7 @@ clean-dir p d s e h = go (originalName d) e
 
 module _ (p : Map) (okSorted : Sorted p) (okDirs : (d : Name) → Has (d, []) p → originalName d ≡ none) (okFiles : (d f : Name) → Has (d, f) p → originalName f ≡ none) where
   end-dirs : (s : Store) → End p s → (d : Name) → In d (dirs (s .tree)) → originalName d ≡ none
-  end-dirs s h d q = let z = dirs-in d (s .tree) q in okDirs d (z .0, sym (h .agrees d [] unbak-nil) ∙ z .1)
+  end-dirs s h d q = let z = dirs-in d (s .tree) q in okDirs d (z .0, sym (h .agrees d [] original-nil) ∙ z .1)
 
   clean-all : (s : Store) → End p s → End p (applyAll (removeBackups s) s) × (applyAll (removeBackups s) s .tree ≡ p)
   clean-all s h = (rw end (all .0), rw end (ext (v .tree) p (all .0 .sorted) okSorted λ k. at (k .0) (k .1) (originalName (k .1)) refl))
@@ -103,7 +106,7 @@ module _ (p : Map) (okSorted : Sorted p) (okDirs : (d : Name) → Has (d, []) p 
 
       hit : (c n g : Name) → originalName n ≡ some g → (y : Option ℕ) → look (c, n) (s .tree) ≡ y → Any (λ d. c ≡ d) l ⊎ (look (c, n) (s .tree) ≡ none)
       hit c n g q none r = inr r
-      hit c n g q (some x) r = let z = h .within c n g q (x, r) in inl (dirs-has c (s .tree) (z .0, h .agrees c [] unbak-nil ∙ z .1))
+      hit c n g q (some x) r = let z = h .within c n g q (x, r) in inl (dirs-has c (s .tree) (z .0, h .agrees c [] original-nil ∙ z .1))
 
       old : (d n g : Name) → originalName n ≡ some g → (q : Option ℕ) → look (d, n) p ≡ q → look (d, n) p ≡ none
       old d n g e none a = a
@@ -134,11 +137,11 @@ recover-by : (s : Store) (l : Journal) → journal (s .log) ≡ l → recovered 
 unfolding recovered recoverPlan
 recover-by s l e = applyAll-seqOver run (recoverParts (journal (s .log))) (withoutMark s) ∙ ap (λ (m : Journal). runOver run (recoverParts m) (withoutMark s)) e
 
-pub recover-recording : (s : Store) (ops : List Op) → journal (s .log) ≡ recording ops whole → recovered s ≡ settled (s .tree)
-recover-recording s ops e = recover-by s (recording ops whole) e ∙ unfold apply in (staging-gone (apply removeLog (withoutMark s)))
+pub recover-recording : (s : Store) (ops : List Op) → Bare (s .staging) → journal (s .log) ≡ recording ops whole → recovered s ≡ settled (s .tree)
+recover-recording s ops b e = recover-by s (recording ops whole) e ∙ unfold apply in (staging-gone (apply removeLog (withoutMark s)) b)
 
-pub recover-end : (p : Map) → Sorted p → ((d : Name) → Has (d, []) p → originalName d ≡ none) → ((d f : Name) → Has (d, f) p → originalName f ≡ none) → (s : Store) → End p s → recovered s ≡ settled p
-recover-end p a b c s h = recover-by s absent (ap journal (h .gone)) ∙ drop-none ∙ staging-gone v ∙ λ i. record { tree = all .1 i; staging = []; log = all .0 .gone i; openMark = applyAll-busy (removeBackups (withoutMark s)) (withoutMark s) i }
+pub recover-end : (p : Map) → Sorted p → ((d : Name) → Has (d, []) p → originalName d ≡ none) → ((d f : Name) → Has (d, f) p → originalName f ≡ none) → (s : Store) → Bare (s .staging) → End p s → recovered s ≡ settled p
+recover-end p a b c s bare h = recover-by s absent (ap journal (h .gone)) ∙ drop-none ∙ staging-gone v (applyAll-bare (removeBackups (withoutMark s)) (withoutMark s) bare) ∙ λ i. record { tree = all .1 i; staging = []; log = all .0 .gone i; openMark = applyAll-busy (removeBackups (withoutMark s)) (withoutMark s) i }
   where
     v : Store
     v = applyAll (removeBackups (withoutMark s)) (withoutMark s)
@@ -157,9 +160,9 @@ recover-end p a b c s h = recover-by s absent (ap journal (h .gone)) ∙ drop-no
         go (some l) e = none≢some (sym e)
 
 pub recover-committing : (o : Map) → Sorted o → ((d f : Name) → Has (d, f) o → Plain d × Plain f) → ((d f : Name) → Has (d, f) o → Has (d, []) o) →
-    (s : Store) (ops : List Op) → journal (s .log) ≡ committing ops whole → Inv o Nothing (runOver undoSteps (reverse ops) (withoutMark s) .tree) → recovered s ≡ settled o
+    (s : Store) (ops : List Op) → Bare (s .staging) → journal (s .log) ≡ committing ops whole → Inv o Nothing (runOver undoSteps (reverse ops) (withoutMark s) .tree) → recovered s ≡ settled o
 unfolding apply
-recover-committing o a b c s ops e h = recover-by s (committing ops whole) e ∙ staging-gone (apply removeLog w) ∙ λ i. record { tree = t i; staging = []; log = none; openMark = k i }
+recover-committing o a b c s ops bare e h = recover-by s (committing ops whole) e ∙ staging-gone (apply removeLog w) (applyAll-bare (restoreBackups u) u (applyAll-bare (inTurn undoSteps (reverse ops) (withoutMark s)) (withoutMark s) bare)) ∙ λ i. record { tree = t i; staging = []; log = none; openMark = k i }
   where
     u : Store
     u = applyAll (inTurn undoSteps (reverse ops) (withoutMark s)) (withoutMark s)

@@ -9,18 +9,21 @@ use mathlib.Core.Logic.{_⊎_, inl, inr}
 use lib.ListN.{length, take}
 use Rattle.model.specs.Step
 use Rattle.model.specs.Order.{Name, Key}
-use Rattle.model.specs.Map.{Map, look, put, del, Has, Sorted, key-dec, none≢some, some-inj, look-put-same, look-put-other, look-del-same, look-del-other, look-del-some, sorted-put, sorted-del}
+use Rattle.model.specs.Map.{Map, look, put, del, Has}
+use Rattle.laws.specs.MapLaws.{Sorted, key-dec, none≢some, some-inj, look-put-same, look-put-other, look-del-same, look-del-other, look-del-some, sorted-put, sorted-del}
 use Rattle.model.specs.Name.{backupName, originalName}
 use Rattle.model.specs.Base.{Bytes, Any, In, caseOption, isSome, ifPresent, ifMissing}
 use Rattle.cut_rule.specs.Words.{Distinct, allWritesDone, settled, expectedFiles, Plain, Transaction, NoneWaits, CutRule}
 use Rattle.model.specs.Operation.{Write, target, backup, Op, write}
-use Rattle.model.specs.Log.{Journal, absent, recording, committing, journal, whole}
-use Rattle.model.specs.Plan.{opsOf, removeStagingFiles, inTurn, run, opSteps, undoSteps, removeBackups, syncExisting, firstNamings, collectionOf, firstFault, commitFault, operationSteps, commitParts, commitPlan, withoutMark, withoutMarkAtEnd, committedAt, recovered, recoverPlan, recoverFault}
-use Rattle.model.specs.Store.{Store, keys}
+use Rattle.model.specs.Log.{Journal, absent, recording, committing, journal, whole, opsOf}
+use Rattle.model.specs.Plan.{removeStagingFiles, inTurn, run, opSteps, undoSteps, removeBackups, syncExisting, firstNamings, collectionOf, firstFault, commitFault, operationSteps, commitParts, commitPlan, withoutMark, withoutMarkAtEnd, committedAt, recovered, recoverPlan, recoverFault}
+use Rattle.model.specs.Store.{Store, stagingNames}
 use Rattle.model.specs.Step.{Step, rewriteHeader, syncStaging, syncLog, removeLog, syncJournal, syncCollections, makeDirectory, renameFile, moveStaged, removeStaging, syncDirectory, apply, applyAll, Fault, fails, stepFault}
 use Rattle.cut_rule.specs.LogLaws.{mark-journal, recorded-stands, committed-stands}
-use Rattle.cut_rule.specs.Names.{unbak-bak, unbak-some, unbak-nil, unbak-named, key-apart, any-map, any-append, any-reverse, any-unreverse, any-of-map, any-to-map, any-find}
-use Rattle.cut_rule.specs.Walk.{runOver, applyAll-append, applyAll-seqOver, Runs, runs-take, runs-end, runs-append, runs-over}
+use Rattle.laws.specs.StoreLaws.{Bare}
+use Rattle.laws.specs.NameLaws.{original-backup, original-some, original-nil, original-named}
+use Rattle.cut_rule.specs.Names.{key-apart, any-map, any-append, any-reverse, any-unreverse, any-of-map, any-to-map, any-find}
+use Rattle.cut_rule.specs.Walk.{runOver, applyAll-append, applyAll-seqOver, applyAll-bare, Runs, runs-take, runs-end, runs-append, runs-over}
 use Rattle.cut_rule.specs.Inv.{Kept, kept, new, backed, Inv, Nothing, inv-rename, inv-move, inv-dir}
 use Rattle.cut_rule.specs.Recover.{Hits, GoodOp, undo-all, rename-tree}
 use Rattle.cut_rule.specs.Clean.{End, clean-runs, recover-recording, recover-end, recover-committing}
@@ -228,7 +231,7 @@ module _ (s : Store) (ws : List Write) (T : Transaction s ws) where
       go (some y) a (some x) q c c′ =
           let h = move-stands (w .staged) (w .collection) (w .key) [] u₁ (fault-append (step ∷ []) (moveStaged (w .staged) (w .collection) (w .key) ∷ []) u c .1) in (
             (m, (m₁, mid-move (pre ++ step ∷ []) u₁ w (h .0) i (h .1) (λ z. rw tr (look-put-same (backup w) x (del (target w) (u .tree)) ∙ sym q ∙ fr)) m₁)),
-            rest-move w l p u u₁ r (unfold apply in refl) h c′ (λ d f e z. rw tr (look-put-other (backup w) (d, f) x (del (target w) (u .tree)) (key-apart d (w .collection) f (backupName (w .key)) (w .key) e (unbak-bak (w .key) named)) ∙ look-del-other (target w) (d, f) (u .tree) z)),
+            rest-move w l p u u₁ r (unfold apply in refl) h c′ (λ d f e z. rw tr (look-put-other (backup w) (d, f) x (del (target w) (u .tree)) (key-apart d (w .collection) f (backupName (w .key)) (w .key) e (original-backup (w .key) named)) ∙ look-del-other (target w) (d, f) (u .tree) z)),
           )
         where
           step : Step
@@ -289,9 +292,9 @@ module _ (s : Store) (ws : List Write) (T : Transaction s ws) where
       go d n g p h (inl z) = none≢some (sym z ∙ h .1)
       go d n g p h (inr z) =
           let w = T .within d g (h .0, sym (z .1) ∙ h .1) in
-          (w .0, sym (r .agrees d [] unbak-nil) ∙ inv-dir (s .tree) R (u .tree) d (m .inv) (no-dir d) ∙ w .1)
+          (w .0, sym (r .agrees d [] original-nil) ∙ inv-dir (s .tree) R (u .tree) d (m .inv) (no-dir d) ∙ w .1)
 
-  unstage-runs : (l : List Key) (pre : List Step) (u : Store) → End final u → Runs At pre (map removeStaging l) u
+  unstage-runs : (l : List Name) (pre : List Step) (u : Store) → End final u → Runs At pre (map removeStaging l) u
   unstage-runs [] pre u h = end h
   unstage-runs (k ∷ l) pre u h = (end h, unstage-runs l (pre ++ removeStaging k ∷ []) (apply (removeStaging k) u) (unfold apply in record { gone = h .gone; sorted = h .sorted; agrees = h .agrees; within = h .within }))
 
@@ -379,8 +382,8 @@ module _ (s : Store) (ws : List Write) (T : Transaction s ws) where
       (runs-append At pre₃ (removeBackups u₃) (inTurn run (removeStagingFiles ∷ []) u₄) u₃
       (runs-map (λ x v. End final v) At (λ x v h. end h) pre₃ (removeBackups u₃) u₃ c)
       (runs-append At (pre₃ ++ removeBackups u₃) (removeStagingFiles u₄) [] u₄
-      (unstage-runs (keys (u₄ .staging)) (pre₃ ++ removeBackups u₃) u₄ e₄)
-      (runs-end At (pre₃ ++ removeBackups u₃) (removeStagingFiles u₄) u₄ (unstage-runs (keys (u₄ .staging)) (pre₃ ++ removeBackups u₃) u₄ e₄))))
+      (unstage-runs (stagingNames (u₄ .staging)) (pre₃ ++ removeBackups u₃) u₄ e₄)
+      (runs-end At (pre₃ ++ removeBackups u₃) (removeStagingFiles u₄) u₄ (unstage-runs (stagingNames (u₄ .staging)) (pre₃ ++ removeBackups u₃) u₄ e₄))))
     where
       e : End final (apply removeLog u)
       e = to-end pre u m r
@@ -448,9 +451,9 @@ module _ (s : Store) (ws : List Write) (T : Transaction s ws) where
       (subst (λ (q : Option Fault). Runs At (rewriteHeader ∷ []) (inTurn run (commitParts (opsOf (journal (s .log))) q) begun) begun) (sym (T .faultless))
       (subst (λ (o : List Op). Runs At (rewriteHeader ∷ []) (inTurn run (commitParts o none) begun) begun) (sym (ap opsOf (T .logged))) plan-runs)) n
 
-  recover-mid : (pre : List Step) (u : Store) → Mid pre u → ((w : Write) → In w ws → Has (target w) (s .tree) → In (renameFile (w .collection) (w .key) (backupName (w .key))) pre) → recovered u ≡ settled (s .tree)
+  recover-mid : (pre : List Step) (u : Store) → Bare (u .staging) → Mid pre u → ((w : Write) → In w ws → Has (target w) (s .tree) → In (renameFile (w .collection) (w .key) (backupName (w .key))) pre) → recovered u ≡ settled (s .tree)
   unfolding R
-  recover-mid pre u m h = recover-committing (s .tree) (T .sorted) (T .plain) (T .within) u (map write ws) (m .log)
+  recover-mid pre u bare m h = recover-committing (s .tree) (T .sorted) (T .plain) (T .within) u (map write ws) bare (m .log)
       (undo-all (s .tree) (reverse (map write ws)) (withoutMark u) good had (m .inv))
     where
       one-of : (a : Op) → In a (reverse (map write ws)) → (w : Write) × In w ws × (a ≡ write w)
@@ -466,11 +469,11 @@ module _ (s : Store) (ws : List Write) (T : Transaction s ws) where
       had w p z =
           let f = one-of (write w) p in
           let i : In w ws = rw (write-inj w (f .0) (f .2)) (f .1) in
-          m .marks (w .collection) (w .key) (backupName (w .key)) (w .key) (unbak-bak (w .key) (T .named w i)) (h w i z)
+          m .marks (w .collection) (w .key) (backupName (w .key)) (w .key) (original-backup (w .key) (T .named w i)) (h w i z)
 
   recover-at : (n : ℕ) → (n ≡ 0) ⊎ NoneWaits n s ws → recovered (applyAll (take n (commitPlan s)) s) ≡ settled (expectedFiles (isSome (applyAll (take n (commitPlan s)) s .log)) s ws)
   unfolding NoneWaits
-  recover-at zero z = recover-recording s (map write ws) (T .logged) ∙ ap settled (sym (ap (λ (l : Bool). expectedFiles l s ws) (recorded-stands (s .log) (map write ws) whole (T .logged))))
+  recover-at zero z = recover-recording s (map write ws) (T .bare) (T .logged) ∙ ap settled (sym (ap (λ (l : Bool). expectedFiles l s ws) (recorded-stands (s .log) (map write ws) whole (T .logged))))
   recover-at (suc n) z = go (at-suc n)
     where
       p : List Step
@@ -481,8 +484,8 @@ module _ (s : Store) (ws : List Write) (T : Transaction s ws) where
       ready (inr h) = h
 
       go : At p (applyAll p s) → recovered (applyAll p s) ≡ settled (expectedFiles (isSome (applyAll p s .log)) s ws)
-      go (mid m) = recover-mid p (applyAll p s) m (ready z) ∙ ap settled (sym (ap (λ (l : Bool). expectedFiles l s ws) (committed-stands (applyAll p s .log) (map write ws) whole (m .log))))
-      go (end e) = recover-end final final-sorted final-dirs final-files (applyAll p s) e ∙ ap settled (unfold final in (sym (ap (λ (l : Option Bytes). expectedFiles (isSome l) s ws) (e .gone))))
+      go (mid m) = recover-mid p (applyAll p s) (applyAll-bare p s (T .bare)) m (ready z) ∙ ap settled (sym (ap (λ (l : Bool). expectedFiles l s ws) (committed-stands (applyAll p s .log) (map write ws) whole (m .log))))
+      go (end e) = recover-end final final-sorted final-dirs final-files (applyAll p s) (applyAll-bare p s (T .bare)) e ∙ ap settled (unfold final in (sym (ap (λ (l : Option Bytes). expectedFiles (isSome l) s ws) (e .gone))))
 
 -- At a cut of this commit recovery meets a log that it refuses nothing of.
 pub cut-calm : (s : Store) (ws : List Write) → Transaction s ws → (n : ℕ) (t : Map) → recoverFault (journal (applyAll (take n (commitPlan s)) s .log)) t ≡ none

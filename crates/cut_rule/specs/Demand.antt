@@ -11,10 +11,9 @@ use Rattle.model.specs.Base.{Bytes, In}
 use Rattle.model.specs.Name.{backupExtension, stagingExtension}
 use Rattle.model.specs.Field.{hasTag}
 use Rattle.model.specs.Operation.{Write, write}
-use Rattle.model.specs.Log.{journal}
+use Rattle.model.specs.Log.{journal, opsOf}
 use Rattle.model.specs.Store.{Store}
 use Rattle.model.specs.Image.{decode}
-use Rattle.model.specs.Plan.{opsOf}
 use Rattle.model.specs.Answers.{Answer, answer, commit, commitStep, recover}
 use Rattle.cut_rule.specs.Words.{Distinct, NoneWaits, expectedFiles, settled}
 

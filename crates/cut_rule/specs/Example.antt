@@ -7,22 +7,24 @@ use mathlib.Core.Option.{Option, none, some}
 use mathlib.Core.Bool.{Bool, true, false}
 use mathlib.Core.Logic.{_⊎_, inl, inr}
 use lib.ListN.{length, take, drop, length-append}
-use Rattle.model.specs.Order.{Name, Key, Cmp, lt, eq, gt, cmpKey, cmpName, nameLaws}
-use Rattle.model.specs.Map.{Map, caseCmp, look, put, del, Has, key-dec, none≢some, look-tail}
+use Rattle.model.specs.Order.{Name, Key, Cmp, lt, eq, gt, cmpKey, cmpName}
+use Rattle.laws.specs.OrderLaws.{nameLaws}
+use Rattle.model.specs.Order.{caseCmp}
+use Rattle.model.specs.Map.{Map, look, put, del, Has}
+use Rattle.laws.specs.MapLaws.{key-dec, none≢some, look-tail}
 use Rattle.model.specs.Limits.{imageRoom, keysRoom, stepRoom}
 use Rattle.model.specs.Base.{Bytes, caseOption, if_then_else_, isSome, In}
 use Rattle.model.specs.Name.{lastDot, extension, stripExtension, backupExtension, stagingExtension, backupName, originalName, stripTmp, isNameByte, refusedNames, validName, lowerByte, lower}
 use Rattle.model.specs.Crc32.{crc32, register, feedByte, shifts, shift, addPolynomial}
 use Rattle.model.specs.Field.{littleEndian, fromLittleEndian, encodeField, encodeFields, fieldsFrom, decodeFields, hasTag}
-use Rattle.model.specs.Operation.{Op, Write, createCollection, fieldTable, fieldTags, kind, values, tagged, encodePayload, makers, validValue, opOfFields, decodePayload}
+use Rattle.model.specs.Operation.{Op, Write, fieldTable, fieldTags, kind, values, tagged, encodePayload, makers, validValue, opOfFields, decodePayload}
 use Rattle.model.specs.Log.{header, entry, validHeader, firstPayload, walk, entries, readJournal, markCommitting, appendOperation, Journal, absent, recording, committing, journal, Ending, whole, truncated, undecodable, tooMany}
 use Rattle.model.specs.Store.{Store, dirs, files, validNode, validNodes, validStaged, ascending, wellFormed, hasBackupFiles, hasPendingWork}
 use Rattle.model.specs.Image.{imageFields, encode, treeOf, stagingOf, logOf, storeOf, decode}
 use Rattle.model.specs.Step.{removeDir, renameDir, apply, zeroSeparated, tagAndNames, stepField, stepFault}
 use Rattle.model.specs.Plan.{opSteps, undoSteps, restoreFile, restoreDirectory, removeBackupFile, removeBackupsIn, firstNamings, syncExisting, commitFault, commitPlan, committedAt, isNewArtifact, recoverPlan, recoveredAt, recovered}
-use Rattle.model.specs.Record
-use Rattle.model.specs.Record.{transaction, recordWrite, otherCase, caseRenamed, recordDelete, recordDeleteAll, recordCreate, recordDeleteCollection, recordCopy, keyFields}
-use Rattle.model.specs.Answers.{Answer, begin, rollback, write, delete, deleteAll, create, deleteCollection, copy, commitStore, commit, recoverStore, recover, commitStep, recoverStep, pending, keyList, decimal, line, listing}
+use Rattle.model.specs.Record.{transaction, beginTransaction, discard, recordWrite, otherCase, caseRenamed, recordDelete, recordDeleteAll, recordCreate, recordDeleteCollection, recordCopy, keyList}
+use Rattle.model.specs.Answers.{Answer, begin, rollback, write, delete, deleteAll, createCollection, deleteCollection, copyCollection, commitStore, commit, recoverStore, recover, commitStep, recoverStep, pending, listKeys, decimal, listingLine, listing}
 use Rattle.cut_rule.specs.Words.{NoneWaits, settled}
 use Rattle.cut_rule.specs.Demand.{EndsIn, NoExtension, Conditions, cutAt}
 use Rattle.cut_rule.specs.Theorem.{image-cut-rule}
@@ -75,8 +77,8 @@ unfolding ten store tree7 write9 db a crc32 register feedByte shifts shift addPo
     imageFields encode treeOf stagingOf logOf storeOf decode
     removeDir renameDir apply zeroSeparated tagAndNames stepField stepFault
     opSteps undoSteps restoreFile restoreDirectory removeBackupFile removeBackupsIn firstNamings syncExisting commitFault commitPlan committedAt isNewArtifact recoverPlan recoveredAt recovered
-    transaction Record.begin Record.rollback recordWrite otherCase caseRenamed recordDelete recordDeleteAll recordCreate recordDeleteCollection recordCopy keyFields
-    begin rollback write delete deleteAll create deleteCollection copy commitStore commit recoverStore recover commitStep recoverStep pending keyList decimal line listing
+    transaction beginTransaction discard recordWrite otherCase caseRenamed recordDelete recordDeleteAll recordCreate recordDeleteCollection recordCopy keyList
+    begin rollback write delete deleteAll createCollection deleteCollection copyCollection commitStore commit recoverStore recover commitStep recoverStep pending listKeys decimal listingLine listing
 met = record {
   holds = refl;
   writesAlone = refl;

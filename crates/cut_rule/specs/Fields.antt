@@ -10,20 +10,21 @@ use lib.ListN.{length, take, drop, getElem?}
 use lib.Dec.{leb}
 use Rattle.model.specs.Limits.{imageRoom, stepRoom}
 use Rattle.model.specs.Order.{Name, Key}
-use Rattle.model.specs.Map.{look, Has, none≢some, some-inj}
+use Rattle.model.specs.Map.{look, Has}
+use Rattle.laws.specs.MapLaws.{none≢some, some-inj}
 use Rattle.model.specs.Base.{Bytes, caseOption, if_then_else_, allOf, ifPresent, ifMissing, In}
 use Rattle.model.specs.Name.{validName, isNameByte, backupName, originalName}
 use Rattle.model.specs.Field.{Field, littleEndian, encodeField, hasTag}
 use Rattle.model.specs.Operation.{Op, Write, write, target}
-use Rattle.model.specs.Log.{journal}
-use Rattle.model.specs.Store.{Store, dirs, files, keys}
+use Rattle.model.specs.Log.{journal, opsOf}
+use Rattle.model.specs.Store.{Store, dirs, files, stagingNames}
 use Rattle.model.specs.Image.{decode}
 use Rattle.model.specs.Step.{Step, rewriteHeader, syncStaging, syncLog, removeLog, syncJournal, syncCollections, makeDirectory, renameFile, moveStaged, renameDirectory, copyFile, removeFile, removeDirectory, removeStaging, syncDirectory, apply, applyAll, zeroSeparated, tagAndNames, stepField}
-use Rattle.model.specs.Plan.{inTurn, run, opSteps, removeBackupFile, removeBackupsIn, removeBackups, removeStagingFiles, collectionOf, firstNamings, syncExisting, commitFault, operationSteps, commitParts, commitPlan, opsOf, committedAt}
+use Rattle.model.specs.Plan.{inTurn, run, opSteps, removeBackupFile, removeBackupsIn, removeBackups, removeStagingFiles, collectionOf, firstNamings, syncExisting, commitFault, operationSteps, commitParts, commitPlan, committedAt}
 use Rattle.model.specs.Answers.{Answer, answer, refusal, fieldAt, stepAnswer, commitStep, recover}
-use Rattle.laws.specs.Tests.{and-both, leb-le, All}
+use Rattle.laws.specs.Tests.{and-both, leb-le, All, nil≢cons}
 use Rattle.laws.specs.OperationLaws.{ValidOp, journal-valid}
-use Rattle.cut_rule.specs.Names.{any-append, nil≢cons}
+use Rattle.cut_rule.specs.Names.{any-append}
 use Rattle.cut_rule.specs.Walk.{Runs, runs-end, runs-append, runs-over}
 use Rattle.cut_rule.specs.Words.{NoneWaits, expectedFiles, settled}
 use Rattle.cut_rule.specs.Demand.{Conditions, cutAt}
@@ -176,9 +177,9 @@ module _ (ws : List Write) where
       dir d pre u k (some n) = one-known (removeDirectory d) refl pre u k
 
   staging-quiet : Quiet removeStagingFiles
-  staging-quiet pre u k = all (keys (u .staging)) pre u k
+  staging-quiet pre u k = all (stagingNames (u .staging)) pre u k
     where
-      all : (l : List Key) (pre : List Step) (u : Store) → Known pre u → Runs Known pre (map removeStaging l) u
+      all : (l : List Name) (pre : List Step) (u : Store) → Known pre u → Runs Known pre (map removeStaging l) u
       all [] pre u k = k
       all (j ∷ l) pre u k = (k, all l (pre ++ removeStaging j ∷ []) (apply (removeStaging j) u) (known-snoc pre (removeStaging j) u _ refl k))
 

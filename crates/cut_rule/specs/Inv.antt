@@ -7,10 +7,12 @@ use mathlib.Core.List.{List, [], _∷_, _++_, map}
 use mathlib.Core.Option.{Option, none, some}
 use mathlib.Core.Logic.{_⊎_, inl, inr}
 use Rattle.model.specs.Order.{Name, Key}
-use Rattle.model.specs.Map.{Map, look, put, del, Has, Sorted, key-dec, none≢some, some-inj, ext, look-put-same, look-put-other, look-del-same, look-del-other, sorted-put, sorted-del}
+use Rattle.model.specs.Map.{Map, look, put, del, Has}
+use Rattle.laws.specs.MapLaws.{Sorted, key-dec, none≢some, some-inj, ext, look-put-same, look-put-other, look-del-same, look-del-other, sorted-put, sorted-del}
 use Rattle.model.specs.Name.{backupName, originalName, stripTmp}
 use Rattle.model.specs.Base.{Any, In}
-use Rattle.cut_rule.specs.Names.{unbak-bak, unbak-some, unbak-nil, unbak-named, key-apart}
+use Rattle.laws.specs.NameLaws.{original-backup, original-some, original-nil, original-named}
+use Rattle.cut_rule.specs.Names.{key-apart}
 
 pub data Kept (o : Map) (R : Key → Type 0) (t : Map) (d f : Name) : Type 0 where
   kept : look (d, f) t ≡ look (d, f) o → Kept o R t d f
@@ -33,23 +35,23 @@ pub record Touched (o : Map) (R S : Key → Type 0) (t v : Map) (c k : Name) : T
 module _ (o : Map) (R S : Key → Type 0) (t v : Map) (c k : Name) (plainKey : originalName k ≡ none) (named : k ≡ [] → ⊥) (h : Inv o R t) (w : Touched o R S t v c k) where
   touch-plain : (d f : Name) → originalName f ≡ none → Dec (_≡_ {A = Key} (d, f) (c, k)) → Kept o R t d f → Kept o S v d f
   touch-plain d f p (yes e) q = subst (λ (j : Key). Kept o S v (j .0) (j .1)) (sym e) (w .atKey)
-  touch-plain d f p (no e) (kept q) = kept (w .agrees (d, f) e (key-apart d c f (backupName k) k p (unbak-bak k named)) ∙ q)
+  touch-plain d f p (no e) (kept q) = kept (w .agrees (d, f) e (key-apart d c f (backupName k) k p (original-backup k named)) ∙ q)
   touch-plain d f p (no e) (new r q) = new (w .still (d, f) e r) q
   touch-plain d f p (no e) (backed m a q) = backed m a (w .agrees (d, backupName f) off-key off-bak ∙ q)
     where
       off-key : _≡_ {A = Key} (d, backupName f) (c, k) → ⊥
-      off-key z = key-apart c d k (backupName f) f plainKey (unbak-bak f m) (sym z)
+      off-key z = key-apart c d k (backupName f) f plainKey (original-backup f m) (sym z)
 
       off-bak : _≡_ {A = Key} (d, backupName f) (c, backupName k) → ⊥
       off-bak z =
-          let a : f ≡ k = some-inj (sym (unbak-bak f m) ∙ ap (λ (j : Key). originalName (j .1)) z ∙ unbak-bak k named) in
+          let a : f ≡ k = some-inj (sym (original-backup f m) ∙ ap (λ (j : Key). originalName (j .1)) z ∙ original-backup k named) in
           e (λ i. (ap (λ (j : Key). j .0) z i, a i))
 
   touch-baks : (d n g : Name) → originalName n ≡ some g → Dec (_≡_ {A = Key} (d, n) (c, backupName k)) → (look (d, n) v ≡ none) ⊎ ((originalName g ≡ none) × (look (d, n) v ≡ look (d, g) o))
   touch-baks d n g p (yes e) = go (w .atBak)
     where
       a : g ≡ k
-      a = some-inj (sym p ∙ ap (λ (j : Key). originalName (j .1)) e ∙ unbak-bak k named)
+      a = some-inj (sym p ∙ ap (λ (j : Key). originalName (j .1)) e ∙ original-backup k named)
 
       b : _≡_ {A = Key} (d, g) (c, k)
       b = λ i. (e i .0, a i)
@@ -80,14 +82,14 @@ Nothing k = ⊥
 module _ (o : Map) (R : Key → Type 0) (t : Map) (c k : Name) (plainKey : originalName k ≡ none) (named : k ≡ [] → ⊥) (h : Inv o R t) where
   -- What the backup of k holds.
   old-bak : (look (c, backupName k) t ≡ none) ⊎ (look (c, backupName k) t ≡ look (c, k) o)
-  old-bak = go (h .baks c (backupName k) k (unbak-bak k named))
+  old-bak = go (h .baks c (backupName k) k (original-backup k named))
     where
       go : (look (c, backupName k) t ≡ none) ⊎ ((originalName k ≡ none) × (look (c, backupName k) t ≡ look (c, k) o)) → (look (c, backupName k) t ≡ none) ⊎ (look (c, backupName k) t ≡ look (c, k) o)
       go (inl q) = inl q
       go (inr q) = inr (q .1)
 
   key≢bak : _≡_ {A = Key} (c, k) (c, backupName k) → ⊥
-  key≢bak = key-apart c c k (backupName k) k plainKey (unbak-bak k named)
+  key≢bak = key-apart c c k (backupName k) k plainKey (original-backup k named)
 
   bak≢key : _≡_ {A = Key} (c, backupName k) (c, k) → ⊥
   bak≢key e = key≢bak (sym e)
@@ -172,7 +174,7 @@ module _ (o : Map) (R : Key → Type 0) (t : Map) (c k : Name) (plainKey : origi
 
 -- The directories are the old ones.
 pub inv-dir : (o : Map) (R : Key → Type 0) (t : Map) (d : Name) → Inv o R t → (R (d, []) → ⊥) → look (d, []) t ≡ look (d, []) o
-inv-dir o R t d h r = go (h .plain d [] unbak-nil)
+inv-dir o R t d h r = go (h .plain d [] original-nil)
   where
     go : Kept o R t d [] → look (d, []) t ≡ look (d, []) o
     go (kept q) = q
@@ -186,7 +188,7 @@ inv-final o t s p h z = ext t o (h .sorted) s λ k. go (k .0) (k .1) (originalNa
     at : (d f : Name) → Kept o Nothing t d f → look (d, f) t ≡ look (d, f) o
     at d f (kept q) = q
     at d f (new a q) = absurd a
-    at d f (backed m a q) = none≢some (sym (z d (backupName f) f (unbak-bak f m)) ∙ q ∙ a .1)
+    at d f (backed m a q) = none≢some (sym (z d (backupName f) f (original-backup f m)) ∙ q ∙ a .1)
 
     old : (d n g : Name) → originalName n ≡ some g → (q : Option ℕ) → look (d, n) o ≡ q → look (d, n) o ≡ none
     old d n g e none a = a

@@ -8,20 +8,24 @@ use mathlib.Core.Bool.{Bool, true, false, not, _&&_, _||_, false≢true}
 use mathlib.Core.Logic.{_⊎_, inl, inr}
 use lib.ListN.{length, take, length-append}
 use lib.Dec.{leb, ltb, nltb→le}
-use Rattle.model.specs.Order.{Cmp, lt, eq, gt, Name, Key, cmpName, nameLaws}
-use Rattle.model.specs.Map.{Map, caseCmp, look, put, del, Has, key-dec, none≢some, some-inj, look-put-same, look-put-other, look-del-other}
+use Rattle.model.specs.Order.{Cmp, lt, eq, gt, Name, Key, cmpName}
+use Rattle.laws.specs.OrderLaws.{nameLaws}
+use Rattle.model.specs.Order.{caseCmp}
+use Rattle.model.specs.Map.{Map, look, put, del, Has}
+use Rattle.laws.specs.MapLaws.{key-dec, none≢some, some-inj, look-put-same, look-put-other, look-del-other}
 use Rattle.model.specs.Base.{Bytes, caseOption, if_then_else_, ifEmpty, sameBytes, isIn, allOf, anyOf, ifPresent, ifMissing, In}
 use Rattle.model.specs.Name.{validName, isNameByte, refusedNames, lastDot, extension, stripExtension, backupExtension, backupName, originalName}
 use Rattle.model.specs.Operation.{Op, Write, write, delete, deleteAll, createCollection, deleteCollection, copyCollection, target, backup}
-use Rattle.model.specs.Log.{journal}
-use Rattle.model.specs.Store.{Store, dirs, files, fileCount, keys, validNumber}
+use Rattle.model.specs.Log.{journal, opsOf}
+use Rattle.model.specs.Store.{Store, dirs, files, fileCount, stagingKey, stagingNames, validNumber}
 use Rattle.model.specs.Step.{Step, rewriteHeader, syncStaging, syncLog, removeLog, syncJournal, syncCollections, makeDirectory, renameFile, moveStaged, renameDirectory, copyFile, removeFile, removeDirectory, removeStaging, syncDirectory, apply, applyAll, Fault, fails, full, nameTooLong, newFile, stepFault}
-use Rattle.model.specs.Plan.{inTurn, run, opSteps, removeBackupFile, removeBackupsIn, removeBackups, removeStagingFiles, collectionOf, firstNamings, syncExisting, firstFault, commitFault, operationSteps, commitParts, commitPlan, opsOf}
-use Rattle.laws.specs.Tests.{and-both, and-made, leb-le, le-leb, All}
+use Rattle.model.specs.Plan.{inTurn, run, opSteps, removeBackupFile, removeBackupsIn, removeBackups, removeStagingFiles, collectionOf, firstNamings, syncExisting, firstFault, commitFault, operationSteps, commitParts, commitPlan}
+use Rattle.laws.specs.Tests.{and-both, and-made, leb-le, le-leb, All, nil≢cons}
 use Rattle.laws.specs.TreeLaws.{NodeGood, size, isFile, isDir, one, file-size, dir-size, size-put-le, size-put-has, size-del-has, invalid-nil}
 use Rattle.laws.specs.StoreLaws.{Tree, Staging, Good, tree-put, tree-del, tree-drop, tree-move, staging-del, log-marked}
 use Rattle.laws.specs.OperationLaws.{ValidOp, journal-valid}
-use Rattle.cut_rule.specs.Names.{nil≢cons, files-in, unbak-bak, unbak-nil, unbak-named}
+use Rattle.laws.specs.NameLaws.{original-backup, original-nil, original-named}
+use Rattle.cut_rule.specs.Names.{files-in}
 use Rattle.cut_rule.specs.Walk.{Runs, runs-take, runs-end, runs-append, runs-over}
 use Rattle.cut_rule.specs.Commit.{fault-append}
 
@@ -71,7 +75,7 @@ unfolding refusedNames
 refused-bak k v = rw (same-false (backupName k) (0x2E ∷ []) one-dot, same-false (backupName k) (0x2E ∷ 0x2E ∷ []) two-dots, same-false (backupName k) (0x2E ∷ 0x2E ∷ backupExtension) of-dot, same-false (backupName k) (0x2E ∷ 0x2E ∷ 0x2E ∷ backupExtension) of-dots)
   where
     u : originalName (backupName k) ≡ some k
-    u = unbak-bak k (valid-named k v)
+    u = original-backup k (valid-named k v)
 
     one-dot : backupName k ≡ 0x2E ∷ [] → ⊥
     one-dot e = none≢some (sym dot-none ∙ ap originalName (sym e) ∙ u)
@@ -183,9 +187,9 @@ keep-drop : (d : Name) (u : Store) → Good u → Good (apply (removeDirectory d
 unfolding apply
 keep-drop d u g = with-tree u _ refl refl g (tree-drop (u .tree) d (g .tree))
 
-keep-unstage : (k : Key) (u : Store) → Good u → Good (apply (removeStaging k) u)
+keep-unstage : (k : Name) (u : Store) → Good u → Good (apply (removeStaging k) u)
 unfolding apply
-keep-unstage k u g = record { tree = g .tree; staging = staging-del (u .staging) k (g .staging); log = g .log }
+keep-unstage k u g = record { tree = g .tree; staging = staging-del (u .staging) (stagingKey k) (g .staging); log = g .log }
 
 keep-unlog : (u : Store) → Good u → Good (apply removeLog u)
 unfolding apply
@@ -414,16 +418,16 @@ clean-keeps pre u g = runs-over (λ p v. Good v) removeBackupsIn (λ d. Unit {0}
   where
     file : (d f : Name) (pre : List Step) (u : Store) → Good u → (q : Option Name) → originalName f ≡ q → Keeps pre (ifPresent q (removeFile d f ∷ [])) u
     file d f pre u g none e = g
-    file d f pre u g (some n) e = (g, keep-remove d f u (λ z. none≢some (sym unbak-nil ∙ ap originalName (sym z) ∙ e)) g)
+    file d f pre u g (some n) e = (g, keep-remove d f u (λ z. none≢some (sym original-nil ∙ ap originalName (sym z) ∙ e)) g)
 
     dir : (d : Name) (pre : List Step) (u : Store) → Good u → (q : Option Name) → Keeps pre (caseOption q (inTurn (removeBackupFile d) (files d (u .tree)) u) (λ g. removeDirectory d ∷ [])) u
     dir d pre u g none = runs-over (λ p v. Good v) (removeBackupFile d) (λ f. Unit {0}) (λ f p v t h. file d f p v h (originalName f) refl) (files d (u .tree)) pre u (λ f i. tt) g
     dir d pre u g (some n) = (g, keep-drop d u g)
 
 staging-keeps : Harmless removeStagingFiles
-staging-keeps pre u g = all (keys (u .staging)) pre u g
+staging-keeps pre u g = all (stagingNames (u .staging)) pre u g
   where
-    all : (l : List Key) (pre : List Step) (u : Store) → Good u → Keeps pre (map removeStaging l) u
+    all : (l : List Name) (pre : List Step) (u : Store) → Good u → Keeps pre (map removeStaging l) u
     all [] pre u g = g
     all (k ∷ l) pre u g = (g, all l (pre ++ removeStaging k ∷ []) (apply (removeStaging k) u) (keep-unstage k u g))
 

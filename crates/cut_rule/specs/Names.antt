@@ -6,78 +6,16 @@ use mathlib.Core.List.{List, [], _∷_, _++_, map, reverse, reverseAux}
 use mathlib.Core.Option.{Option, none, some}
 use mathlib.Core.Logic.{_⊎_, inl, inr}
 use lib.ListN.{length, length-append}
-use Rattle.model.specs.Order.{Cmp, lt, eq, gt, Name, Key, cmpNat, natLaws, cmpName, nameLaws, lt≢eq, gt≢eq}
-use Rattle.model.specs.Map.{Map, Node, caseCmp, look, del, Has, key-dec, none≢some, some-inj, look-head, look-tail, look-nil, look-del-same, look-del-other, Sorted, above-none}
+use Rattle.model.specs.Order.{Cmp, lt, eq, gt, Name, Key, cmpNat, cmpName}
+use Rattle.laws.specs.OrderLaws.{natLaws, nameLaws, lt≢eq, gt≢eq}
+use Rattle.model.specs.Order.{caseCmp}
+use Rattle.model.specs.Map.{Map, Node, look, del, Has}
+use Rattle.laws.specs.MapLaws.{key-dec, none≢some, some-inj, look-head, look-tail, look-nil, look-del-same, look-del-other, Sorted, above-none}
 use Rattle.model.specs.Base.{caseOption, Any, In, ifEmpty}
+use Rattle.laws.specs.Tests.{nil≢cons}
+use Rattle.laws.specs.StoreLaws.{Bare}
 use Rattle.model.specs.Name.{lastDot, extension, stripExtension, backupName, originalName, backupExtension}
-use Rattle.model.specs.Store.{dirs, files, keys}
-
-pub nil≢cons : {A B : Type 0} {x : B} {l : List B} → [] ≡ x ∷ l → A
-nil≢cons {B = B} {x = x} {l = l} p = let z : _≡_ {A = ℕ} 0 1 = cc in absurd (omega arith)
-
-lastDot-append : (a b : Name) → lastDot b ≡ none → lastDot (a ++ 46 ∷ b) ≡ some (a, b)
-unfolding lastDot
-lastDot-append [] b h = rw h
-lastDot-append (x ∷ xs) b h = rw (lastDot-append xs b h)
-
-lastDot-some : (n : Name) (q : Name × Name) → lastDot n ≡ some q → n ≡ q .0 ++ 46 ∷ q .1
-unfolding lastDot
-lastDot-some [] q p = none≢some p
-lastDot-some (y ∷ ys) q p = go (lastDot ys) (λ r e. lastDot-some ys r e) (cmpNat y 46) refl p
-  where
-    go : (o : Option (Name × Name)) → ((r : Name × Name) → o ≡ some r → ys ≡ r .0 ++ 46 ∷ r .1) → (c : Cmp) → cmpNat y 46 ≡ c →
-        caseOption o (caseCmp c none (some ([], ys)) none) (λ p. some (y ∷ p .0, p .1)) ≡ some q → y ∷ ys ≡ q .0 ++ 46 ∷ q .1
-    go none ih lt e p = none≢some p
-    go none ih eq e p = rw (← (some-inj p)) (ap (_∷ ys) (natLaws .equal y 46 e))
-    go none ih gt e p = none≢some p
-    go (some r) ih c e p = rw (← (some-inj p)) (ap (y ∷_) (ih r refl))
-
-pub unbak-bak : (f : Name) → (f ≡ [] → ⊥) → originalName (backupName f) ≡ some f
-unfolding originalName backupName stripExtension extension backupExtension
-unbak-bak [] h = absurd (h refl)
-unbak-bak (x ∷ xs) h = rw (lastDot-append xs backupExtension (unfold lastDot in refl))
-
--- A name with an extension ends in it.
-pub unext-some : (e n g : Name) → stripExtension e n ≡ some g → n ≡ g ++ 46 ∷ e
-unfolding stripExtension extension
-unext-some e [] g p = none≢some p
-unext-some e (x ∷ xs) g p = go (lastDot xs) (λ r h. lastDot-some xs r h) p
-  where
-    at : (r : Name × Name) → xs ≡ r .0 ++ 46 ∷ r .1 → (c : Cmp) → cmpName (r .1) e ≡ c → caseCmp c none (some (x ∷ r .0)) none ≡ some g → x ∷ xs ≡ g ++ 46 ∷ e
-    at r h lt q p = none≢some p
-    at r h eq q p = rw (← (some-inj p), ← (nameLaws .equal (r .1) e q)) (ap (x ∷_) h)
-    at r h gt q p = none≢some p
-
-    go : (o : Option (Name × Name)) → ((r : Name × Name) → o ≡ some r → xs ≡ r .0 ++ 46 ∷ r .1) →
-        caseOption {A = Name × Name} (caseOption o none (λ p. some (x ∷ p .0, p .1))) none (λ p. caseCmp (cmpName (p .1) e) none (some (p .0)) none) ≡ some g → x ∷ xs ≡ g ++ 46 ∷ e
-    go none h p = none≢some p
-    go (some r) h p = at r (h r refl) (cmpName (r .1) e) refl p
-
--- What a name with the extension looks like.
-unbak-shape : (n g : Name) → originalName n ≡ some g → (x : ℕ) × (xs : Name) × (g ≡ x ∷ xs) × (n ≡ backupName (x ∷ xs))
-unfolding originalName backupName stripExtension extension
-unbak-shape [] g p = none≢some p
-unbak-shape (x ∷ xs) g p = go (lastDot xs) (λ r e. lastDot-some xs r e) p
-  where
-    at : (r : Name × Name) → xs ≡ r .0 ++ 46 ∷ r .1 → (c : Cmp) → cmpName (r .1) backupExtension ≡ c → caseCmp c none (some (x ∷ r .0)) none ≡ some g → (y : ℕ) × (ys : Name) × (g ≡ y ∷ ys) × (x ∷ xs ≡ backupName (y ∷ ys))
-    at r e lt q p = none≢some p
-    at r e eq q p = (x, r .0, sym (some-inj p), ap (x ∷_) (rw (← (nameLaws .equal (r .1) backupExtension q)) e))
-    at r e gt q p = none≢some p
-
-    go : (o : Option (Name × Name)) → ((r : Name × Name) → o ≡ some r → xs ≡ r .0 ++ 46 ∷ r .1) →
-        caseOption {A = Name × Name} (caseOption o none (λ p. some (x ∷ p .0, p .1))) none (λ p. caseCmp (cmpName (p .1) backupExtension) none (some (p .0)) none) ≡ some g → (y : ℕ) × (ys : Name) × (g ≡ y ∷ ys) × (x ∷ xs ≡ backupName (y ∷ ys))
-    go none h p = none≢some p
-    go (some r) h p = at r (h r refl) (cmpName (r .1) backupExtension) refl p
-
-pub unbak-some : (n g : Name) → originalName n ≡ some g → n ≡ backupName g
-unbak-some n g p = let h = unbak-shape n g p in rw (h .2) (h .3)
-
-pub unbak-nil : originalName [] ≡ none
-unfolding originalName stripExtension extension
-unbak-nil = refl
-
-pub unbak-named : (n g : Name) → originalName n ≡ some g → g ≡ [] → ⊥
-unbak-named n g p q = let h = unbak-shape n g p in nil≢cons (sym q ∙ h .2)
+use Rattle.model.specs.Store.{dirs, files, stagingKey, stagingNames}
 
 -- A backup's key is no plain key.
 pub key-apart : (d c f n g : Name) → originalName f ≡ none → originalName n ≡ some g → _≡_ {A = Key} (d, f) (c, n) → ⊥
@@ -220,16 +158,16 @@ files-once d (n ∷ r) s = go (files-once d r (s .1)) (cmpName d (n .0 .0)) refl
             none≢some (sym (above-none (n .0) r (s .0)) ∙ ap (λ (j : Key). look j r) k ∙ h .1)
     go ih gt e l e′ = ih
 
-keys-has : (k : Key) (m : Map) → Has k m → In k (keys m)
+staging-listed : (k : Key) (m : Map) → Bare m → Has k m → In k (map stagingKey (stagingNames m))
 unfolding look
-keys-has k [] p = none≢some (p .1)
-keys-has k (n ∷ r) p = go (λ q. keys-has k r q) (key-dec k (n .0))
+staging-listed k [] b p = none≢some (p .1)
+staging-listed k (n ∷ r) b p = go (λ q. staging-listed k r (b .1) q) (key-dec k (n .0))
   where
-    go : (Has k r → In k (keys r)) → Dec (k ≡ n .0) → In k (keys (n ∷ r))
-    go ih (yes q) = inl q
+    go : (Has k r → In k (map stagingKey (stagingNames r))) → Dec (k ≡ n .0) → In k (stagingKey (n .0 .1) ∷ map stagingKey (stagingNames r))
+    go ih (yes q) = inl (q ∙ λ i. (b .0 i, n .0 .1))
     go ih (no q) = inr (ih (p .0, sym (look-tail k n r q) ∙ p .1))
 
--- Removing every key leaves nothing.
+-- Removing every staging file leaves none.
 abbrev pub dels : List Key → Map → Map
 dels [] m = m
 dels (k ∷ l) m = dels l (del k m)
@@ -245,9 +183,9 @@ dels-none j (k ∷ l) m h = dels-none j l (del k m) (go (key-dec j k) h)
     go (no p) (inl (inr q)) = inl q
     go (no p) (inr q) = inr (look-del-other k j m p ∙ q)
 
-pub dels-keys : (m : Map) → dels (keys m) m ≡ []
-dels-keys m = look-nil (dels (keys m) m) λ k. dels-none k (keys m) m (go k (look k m) refl)
+pub dels-all : (m : Map) → Bare m → dels (map stagingKey (stagingNames m)) m ≡ []
+dels-all m b = look-nil (dels (map stagingKey (stagingNames m)) m) λ k. dels-none k (map stagingKey (stagingNames m)) m (go k (look k m) refl)
   where
-    go : (k : Key) (o : Option ℕ) → look k m ≡ o → In k (keys m) ⊎ (look k m ≡ none)
+    go : (k : Key) (o : Option ℕ) → look k m ≡ o → In k (map stagingKey (stagingNames m)) ⊎ (look k m ≡ none)
     go k none e = inr e
-    go k (some x) e = inl (keys-has k m (x, e))
+    go k (some x) e = inl (staging-listed k m b (x, e))

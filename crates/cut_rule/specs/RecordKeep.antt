@@ -1,4 +1,4 @@
--- Begin, rollback and every recorded operation hand back a well-formed store.
+-- Begin, discard and every recorded operation hand back a well-formed store.
 use mathlib.Core.Path.{_≡_, refl, sym, _∙_, ap, ap₂, subst}
 use Prim.Native.Nat.{ℕ, zero, suc, _+_, _≤_, _<_}
 use native.Mathlib.Omega.{arith}
@@ -9,7 +9,8 @@ use mathlib.Core.Logic.{_⊎_, inl, inr}
 use lib.ListN.{length}
 use lib.Dec.{T, leb, nltb→le}
 use Rattle.model.specs.Order.{Name, Key}
-use Rattle.model.specs.Map.{Map, look, put, Has, Sorted, key-dec, none≢some, some-inj, look-put-same, look-put-other, sorted-put}
+use Rattle.model.specs.Map.{Map, look, put, Has}
+use Rattle.laws.specs.MapLaws.{Sorted, key-dec, none≢some, some-inj, look-put-same, look-put-other, sorted-put}
 use Rattle.model.specs.Base.{Bytes, caseOption, if_then_else_, isSome, sameBytes, In}
 use Rattle.model.specs.Name.{validName, lower, originalName, stripTmp}
 use Rattle.model.specs.Field.{littleEndian}
@@ -17,7 +18,7 @@ use Rattle.model.specs.Operation.{Op, Write, write, delete, deleteAll, createCo
 use Rattle.model.specs.Log.{Journal, absent, recording, journal, whole, header, appendOperation}
 use Rattle.model.specs.Store.{Store, files, validNumber}
 use Rattle.model.specs.Step.{renameFile, apply}
-use Rattle.model.specs.Record.{Outcome, refuse, give, transaction, begin, rollback, recordInto, appended, require, hasDir, recordWrite, otherCase, caseRenamed, recordDelete, recordDeleteAll, recordCreate, recordDeleteCollection, recordCopy}
+use Rattle.model.specs.Record.{Outcome, refuse, give, transaction, beginTransaction, discard, recordInto, appended, require, hasDir, recordWrite, otherCase, caseRenamed, recordDelete, recordDeleteAll, recordCreate, recordDeleteCollection, recordCopy}
 use Rattle.laws.specs.Tests.{and-both, leb-le}
 use Rattle.laws.specs.TreeLaws.{size, one, length-size, size-put-le}
 use Rattle.laws.specs.StoreLaws.{Tree, Staging, StagedGood, Good}
@@ -77,16 +78,16 @@ staging-put m f x g v n h = record {
         rw (p, e) record { bare = refl; name = v; number = n }
     at k y l (no p) = g .node k y (sym (look-put-other ([], f) k x m p) ∙ l)
 
-pub begin-keeps : (s : Store) → Good s → Gives (begin s)
-unfolding begin header littleEndian
+pub begin-keeps : (s : Store) → Good s → Gives (beginTransaction s)
+unfolding beginTransaction header littleEndian
 begin-keeps s g = go (s .openMark)
   where
     go : (t : Bool) → Gives (if_then_else_ t (refuse 3) (give (record { tree = s .tree; staging = s .staging; log = some (header 0); openMark = true })))
     go true = tt
     go false = record { tree = g .tree; staging = g .staging; log = omega arith }
 
-pub rollback-keeps : (s : Store) → Good s → Gives (rollback s)
-unfolding rollback
+pub rollback-keeps : (s : Store) → Good s → Gives (discard s)
+unfolding discard
 rollback-keeps s g = go (transaction s)
   where
     go : (q : Option (List Op)) → Gives (caseOption q (refuse 4) (λ o. give (record { tree = s .tree; staging = []; log = none; openMark = false })))

@@ -7,7 +7,8 @@ use mathlib.Core.Option.{Option, none, some}
 use mathlib.Core.Bool.{Bool, true, false}
 use mathlib.Core.Logic.{_⊎_, inl, inr}
 use Rattle.model.specs.Order.{Name, Key}
-use Rattle.model.specs.Map.{Map, look, put, del, Has, Sorted, key-dec, none≢some, some-inj, ext, look-put-same, look-put-other, look-del-same, look-del-other, look-del-some, sorted-put, sorted-del, del-absent}
+use Rattle.model.specs.Map.{Map, look, put, del, Has}
+use Rattle.laws.specs.MapLaws.{Sorted, key-dec, none≢some, some-inj, ext, look-put-same, look-put-other, look-del-same, look-del-other, look-del-some, sorted-put, sorted-del, del-absent}
 use Rattle.model.specs.Name.{backupName, originalName, stripTmp}
 use Rattle.model.specs.Base.{Any, In, caseOption, ifPresent, ifMissing}
 use Rattle.model.specs.Operation.{Write, target, backup, Op, write, delete, deleteAll, createCollection, deleteCollection, copyCollection}
@@ -16,7 +17,8 @@ use Rattle.model.specs.Store.{Store, dirs, files}
 use Rattle.model.specs.Step.{Step, removeFile, renameFile, removeDirectory, renameDirectory, apply, applyAll}
 use Rattle.model.specs.Plan.{inTurn, run, undoSteps, restoreFile, restoreDirectory, removeBackupFile, removeBackupsIn, restoreBackups, removeBackups, recoverParts, recoverPlan, recovered, withoutMark}
 use Rattle.cut_rule.specs.Words.{settled, Plain}
-use Rattle.cut_rule.specs.Names.{unbak-bak, unbak-some, unbak-nil, unbak-named, key-apart, dirs-in, dirs-has, files-has, files-in, files-once, Once, any-map}
+use Rattle.laws.specs.NameLaws.{original-backup, original-some, original-nil, original-named}
+use Rattle.cut_rule.specs.Names.{key-apart, dirs-in, dirs-has, files-has, files-in, files-once, Once, any-map}
 use Rattle.cut_rule.specs.Walk.{runOver, applyAll-seqOver, applyAll-busy, staging-gone, withStaging, Clears, walk, Each}
 use Rattle.cut_rule.specs.Inv.{Kept, kept, new, backed, Inv, Nothing, inv-undo, inv-leave, inv-restore, inv-dir, inv-final}
 
@@ -74,7 +76,7 @@ undo-all o (write w ∷ l) s good had h =
     undo-all o l (applyAll (undoSteps (write w) s) s) (λ a p. good a (inr p)) (λ v p x. still v p (one .1) (had v (inr p) x)) (one .0)
   where
     still : (v : Write) → In (write v) l → ((j : Key) → (j ≡ target w → ⊥) → look j (applyAll (undoSteps (write w) s) s .tree) ≡ look j (s .tree)) → Has (backup v) (s .tree) → Has (backup v) (applyAll (undoSteps (write w) s) s .tree)
-    still v p k z = (z .0, k (backup v) (λ e. key-apart (w .collection) (v .collection) (w .key) (backupName (v .key)) (v .key) (good (write w) (inl refl) .0) (unbak-bak (v .key) (good (write v) (inr p) .1)) (sym e)) ∙ z .1)
+    still v p k z = (z .0, k (backup v) (λ e. key-apart (w .collection) (v .collection) (w .key) (backupName (v .key)) (v .key) (good (write w) (inl refl) .0) (original-backup (v .key) (good (write v) (inr p) .1)) (sym e)) ∙ z .1)
 undo-all o (delete c f ∷ l) s good had h = absurd (good (delete c f) (inl refl))
 undo-all o (deleteAll c ∷ l) s good had h = absurd (good (deleteAll c) (inl refl))
 undo-all o (createCollection c ∷ l) s good had h = absurd (good (createCollection c) (inl refl))
@@ -117,7 +119,7 @@ module _ (o : Map) (okSorted : Sorted o) (okPlain : (d f : Name) → Has (d, f) 
   put-back : (d g : Name) (s u : Store) (x : ℕ) → (g ≡ [] → ⊥) → Old s → look (d, backupName g) (s .tree) ≡ some x → Sorted (u .tree) → ((j : Key) → (j ≡ (d, g) → ⊥) → look j (u .tree) ≡ look j (s .tree)) →
       Put d g s u
   unfolding FileHit
-  put-back d g s u x named h e sorted agrees = at (h .baks d (backupName g) g (unbak-bak g named))
+  put-back d g s u x named h e sorted agrees = at (h .baks d (backupName g) g (original-backup g named))
     where
       at : (look (d, backupName g) (s .tree) ≡ none) ⊎ ((originalName g ≡ none) × (look (d, backupName g) (s .tree) ≡ look (d, g) o)) → Put d g s u
       at (inl z) = none≢some (sym z ∙ e)
@@ -130,7 +132,7 @@ module _ (o : Map) (okSorted : Sorted o) (okPlain : (d f : Name) → Has (d, f) 
       )
         where
           off : _≡_ {A = Key} (d, backupName g) (d, g) → ⊥
-          off y = key-apart d d g (backupName g) g (z .0) (unbak-bak g named) (sym y)
+          off y = key-apart d d g (backupName g) g (z .0) (original-backup g named) (sym y)
 
           tr : apply (renameFile d (backupName g) g) u .tree ≡ put (d, g) x (del (d, backupName g) (u .tree))
           tr = rename-tree d (backupName g) g u x (agrees (d, backupName g) off ∙ e)
@@ -177,8 +179,8 @@ module _ (o : Map) (okSorted : Sorted o) (okPlain : (d f : Name) → Has (d, f) 
           ((rw agrees h, λ c n g p r. rw agrees (other e c n g p r)), λ n g p z k. rw agrees k)
       go (some g) e r e′ =
           let z = stands g e in
-          let y : f ≡ backupName g = unbak-some f g e in
-          rw y (restore-backup d g s (z .0) (unbak-named f g e) h (rw y at (z .1)) (look (d, g) (s .tree)) refl)
+          let y : f ≡ backupName g = original-some f g e in
+          rw y (restore-backup d g s (z .0) (original-named f g e) h (rw y at (z .1)) (look (d, g) (s .tree)) refl)
 
   -- What is still to be walked stands, each once.
   abbrev Listed : Name → List Name → Store → Type 0
@@ -205,7 +207,7 @@ module _ (o : Map) (okSorted : Sorted o) (okPlain : (d f : Name) → Has (d, f) 
 
       listed : (c n g : Name) → originalName n ≡ some g → c ≡ d → (y : Option ℕ) → look (c, n) (s .tree) ≡ y → Any (λ f. FileHit d f (c, n)) l ⊎ (look (c, n) (s .tree) ≡ none)
       listed c n g p r none q = inr q
-      listed c n g p r (some x) q = inl (any-map (λ f z. (r, z)) l (files-has d n (s .tree) (λ z. none≢some (sym unbak-nil ∙ ap originalName (sym z) ∙ p)) (x, rw (← r) q)))
+      listed c n g p r (some x) q = inl (any-map (λ f z. (r, z)) l (files-has d n (s .tree) (λ z. none≢some (sym original-nil ∙ ap originalName (sym z) ∙ p)) (x, rw (← r) q)))
 
       hit : (c n g : Name) → originalName n ≡ some g → (c ≡ d) ⊎ (look (c, n) (s .tree) ≡ none) → Any (λ f. FileHit d f (c, n)) l ⊎ (look (c, n) (s .tree) ≡ none)
       hit c n g p (inl r) = listed c n g p r (look (c, n) (s .tree)) refl

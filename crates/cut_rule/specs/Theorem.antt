@@ -10,26 +10,27 @@ use lib.ListN.{length, take}
 use lib.Dec.{leb}
 use Rattle.model.specs.Limits.{imageRoom, stepRoom}
 use Rattle.model.specs.Order.{Name}
-use Rattle.model.specs.Map.{Map, look, Has, none≢some, some-inj}
+use Rattle.model.specs.Map.{Map, look, Has}
+use Rattle.laws.specs.MapLaws.{none≢some, some-inj}
 use Rattle.model.specs.Base.{Bytes, caseOption, if_then_else_, isSome, In}
 use Rattle.model.specs.Name.{backupExtension, stagingExtension, backupName, stripExtension, originalName, stripTmp, validName}
 use Rattle.model.specs.Field.{hasTag}
 use Rattle.model.specs.Operation.{Op, Write, write}
-use Rattle.model.specs.Log.{Journal, absent, recording, committing, Ending, whole, truncated, undecodable, tooMany, journal}
+use Rattle.model.specs.Log.{Journal, absent, recording, committing, Ending, whole, truncated, undecodable, tooMany, journal, opsOf}
 use Rattle.model.specs.Store.{Store, wellFormed}
 use Rattle.model.specs.Image.{encode, decode}
 use Rattle.model.specs.Step.{Fault, fails, full, applyAll}
-use Rattle.model.specs.Plan.{opsOf, commitFault, commitPlan, withoutMark, withoutMarkAtEnd, committedAt, recovered, recoverFault}
+use Rattle.model.specs.Plan.{commitFault, commitPlan, withoutMark, withoutMarkAtEnd, committedAt, recovered, recoverFault}
 use Rattle.model.specs.Record.{recordedOps, transaction}
-use Rattle.model.specs.Answers.{Answer, answer, refusal, numberOf, stepAnswer, onImage, commitStore, commit, commitStep, recoverStore, recover}
-use Rattle.laws.specs.Tests.{leb-le, le-leb, All}
+use Rattle.model.specs.Answers.{Answer, answer, refusal, commitNumber, stepAnswer, onImage, commitStore, commit, commitStep, recoverStore, recover}
+use Rattle.laws.specs.Tests.{leb-le, le-leb, All, nil≢cons}
 use Rattle.laws.specs.ImageLaws.{decode-encode, decode-only, log-stood}
-use Rattle.laws.specs.StoreLaws.{Good, good, well-formed}
+use Rattle.laws.specs.StoreLaws.{Good, good, well-formed, bare}
 use Rattle.laws.specs.OperationLaws.{ValidOp, journal-valid}
 use Rattle.cut_rule.specs.LogLaws.{found-whole}
 use Rattle.cut_rule.specs.Words.{Plain, Transaction, NoneWaits, expectedFiles, settled}
 use Rattle.cut_rule.specs.Demand.{EndsIn, NoExtension, Conditions, cutAt, CutRuleOverImages}
-use Rattle.cut_rule.specs.Names.{nil≢cons, unext-some}
+use Rattle.laws.specs.NameLaws.{strip-some}
 use Rattle.cut_rule.specs.Commit.{cut-rule, cut-calm, close-log}
 use Rattle.cut_rule.specs.Keep.{valid-named, commit-keeps}
 
@@ -39,14 +40,14 @@ no-ext e n h = go (stripExtension e n) refl
   where
     go : (q : Option Name) → stripExtension e n ≡ q → stripExtension e n ≡ none
     go none p = p
-    go (some g) p = absurd (h record { front = g; joined = unext-some e n g p })
+    go (some g) p = absurd (h record { front = g; joined = strip-some e n g p })
 
 plain : (n : Name) → NoExtension n → Plain n
 unfolding originalName stripTmp
 plain n h = record { noBak = no-ext backupExtension n (h .noBak); noTmp = no-ext stagingExtension n (h .noTmp) }
 
 -- What commit's answer 0 says of the store.
-no-fault : (q : Option Fault) → numberOf q ≡ 0 → q ≡ none
+no-fault : (q : Option Fault) → commitNumber q ≡ 0 → q ≡ none
 no-fault none e = refl
 no-fault (some fails) e = absurd (omega arith)
 no-fault (some full) e = absurd (omega arith)
@@ -60,7 +61,7 @@ committed-store : (s : Store) → commitStore s .number ≡ 0 → Committed s
 unfolding commitStore
 committed-store s e = go (transaction s) refl e
   where
-    go : (q : Option (List Op)) → transaction s ≡ q → caseOption q (refusal 4) (λ o. answer (numberOf (commitFault s)) (committedAt (length (commitPlan s)) s)) .number ≡ 0 → Committed s
+    go : (q : Option (List Op)) → transaction s ≡ q → caseOption q (refusal 4) (λ o. answer (commitNumber (commitFault s)) (committedAt (length (commitPlan s)) s)) .number ≡ 0 → Committed s
     go none p e = absurd (omega arith)
     go (some o) p e = record { ops = o; found = p; clear = no-fault (commitFault s) e }
 
@@ -128,6 +129,7 @@ module _ (b : Bytes) (s : Store) (ws : List Write) (C : Conditions b s ws) where
   transacts = record {
     logged = logged;
     sorted = start .tree .sorted;
+    bare = bare s (decode-only b s (C .holds) .1);
     within = λ d f h. inside d f h;
     plain = λ d f h. let p = C .names d f h in (plain d (p .0), plain f (p .1));
     plainKeys = λ w i. plain (w .key) (C .keys w i);

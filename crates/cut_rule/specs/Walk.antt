@@ -10,12 +10,13 @@ use lib.Seq.{append-snoc}
 use Rattle.model.specs.Step
 use Rattle.model.specs.Order.{Name, Key}
 use Rattle.model.specs.Map.{Map, look, del}
-use Rattle.model.specs.Store.{Store, keys}
+use Rattle.model.specs.Store.{Store, stagingKey, stagingNames}
 use Rattle.model.specs.Step.{Step, apply, applyAll, removeStaging}
 use Rattle.model.specs.Plan.{inTurn, removeStagingFiles}
 use Rattle.model.specs.Name.{originalName}
 use Rattle.model.specs.Base.{Any, In}
-use Rattle.cut_rule.specs.Names.{dels, dels-keys}
+use Rattle.laws.specs.StoreLaws.{Bare, bare-del}
+use Rattle.cut_rule.specs.Names.{dels, dels-all}
 
 pub applyAll-append : (xs ys : List Step) (s : Store) → applyAll (xs ++ ys) s ≡ applyAll ys (applyAll xs s)
 applyAll-append [] ys s = refl
@@ -56,13 +57,36 @@ applyAll-busy (x ∷ xs) s = applyAll-busy xs (apply x s) ∙ apply-busy x s
 abbrev pub withStaging : Map → Store → Store
 withStaging m s = record { tree = s .tree; staging = m; log = s .log; openMark = s .openMark }
 
-unstage : (l : List Key) (s : Store) → applyAll (map removeStaging l) s ≡ withStaging (dels l (s .staging)) s
+unstage : (l : List Name) (s : Store) → applyAll (map removeStaging l) s ≡ withStaging (dels (map stagingKey l) (s .staging)) s
 unfolding apply
 unstage [] s = refl
-unstage (k ∷ l) s = unstage l (apply (removeStaging k) s)
+unstage (f ∷ l) s = unstage l (apply (removeStaging f) s)
 
-pub staging-gone : (s : Store) → applyAll (removeStagingFiles s) s ≡ withStaging [] s
-staging-gone s = unstage (keys (s .staging)) s ∙ ap (λ (m : Map). withStaging m s) (dels-keys (s .staging))
+pub staging-gone : (s : Store) → Bare (s .staging) → applyAll (removeStagingFiles s) s ≡ withStaging [] s
+staging-gone s b = unstage (stagingNames (s .staging)) s ∙ ap (λ (m : Map). withStaging m s) (dels-all (s .staging) b)
+
+-- No step puts a staging file elsewhere.
+apply-bare : (x : Step) (s : Store) → Bare (s .staging) → Bare (apply x s .staging)
+unfolding apply
+apply-bare Step.rewriteHeader s b = b
+apply-bare Step.syncStaging s b = b
+apply-bare Step.syncLog s b = b
+apply-bare Step.removeLog s b = b
+apply-bare Step.syncJournal s b = b
+apply-bare Step.syncCollections s b = b
+apply-bare (Step.makeDirectory d) s b = b
+apply-bare (Step.renameFile d a c) s b = b
+apply-bare (Step.moveStaged f d k) s b = bare-del (stagingKey f) (s .staging) b
+apply-bare (Step.renameDirectory a c) s b = b
+apply-bare (Step.copyFile a c f) s b = b
+apply-bare (Step.removeFile d f) s b = b
+apply-bare (Step.removeDirectory d) s b = b
+apply-bare (Step.removeStaging f) s b = bare-del (stagingKey f) (s .staging) b
+apply-bare (Step.syncDirectory d) s b = b
+
+pub applyAll-bare : (xs : List Step) (s : Store) → Bare (s .staging) → Bare (applyAll xs s .staging)
+applyAll-bare [] s b = b
+applyAll-bare (x ∷ xs) s b = applyAll-bare xs (apply x s) (apply-bare x s b)
 
 -- A walk over a list in which each element's steps keep I and leave no backup that the element hits, and bring none back.
 abbrev pub Clears : List Step → (Store → Type 0) → (Key → Type 0) → Store → Type 0

@@ -7,13 +7,15 @@ use mathlib.Core.Bool.{Bool, true, false}
 use mathlib.Core.Logic.{_⊎_}
 use lib.ListN.{length, take}
 use Rattle.model.specs.Order.{Name}
-use Rattle.model.specs.Map.{Map, look, put, Has, Sorted}
+use Rattle.model.specs.Map.{Map, look, put, Has}
+use Rattle.laws.specs.MapLaws.{Sorted}
 use Rattle.model.specs.Base.{Bytes, caseOption, if_then_else_, isSome, In}
 use Rattle.model.specs.Name.{backupName, originalName, stripTmp}
 use Rattle.model.specs.Operation.{Op, Write, write, target}
 use Rattle.model.specs.Log.{journal, recording, whole}
 use Rattle.model.specs.Store.{Store}
 use Rattle.model.specs.Step.{renameFile}
+use Rattle.laws.specs.StoreLaws.{Bare}
 use Rattle.model.specs.Plan.{commitFault, commitPlan, committedAt, recovered}
 
 -- "All writes done: take the Writes in log order. Each puts into its collection a file with its key as name and the number
@@ -35,6 +37,7 @@ pub record Plain (n : Name) : Type 0 where
 pub record Transaction (s : Store) (ws : List Write) : Type 0 where
   pub logged : journal (s .log) ≡ recording (map write ws) whole
   pub sorted : Sorted (s .tree)
+  pub bare : Bare (s .staging)
   pub within : (d f : Name) → Has (d, f) (s .tree) → Has (d, []) (s .tree)
   pub plain : (d f : Name) → Has (d, f) (s .tree) → Plain d × Plain f
   pub plainKeys : (w : Write) → In w ws → Plain (w .key)

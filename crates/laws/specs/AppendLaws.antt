@@ -9,7 +9,7 @@ use mathlib.Core.Logic.{_⊎_, inl, inr}
 use lib.ListN.{length, take, drop, getD, length-append}
 use lib.Seq.{take-length}
 use lib.Dec.{leb, eqb}
-use Rattle.model.specs.Map.{none≢some, some-inj}
+use Rattle.laws.specs.MapLaws.{none≢some, some-inj}
 use Rattle.model.specs.Base.{Bytes, caseOption, if_then_else_, sameBytes, allOf, atLeast, flatMap}
 use Rattle.model.specs.Name.{validName}
 use Rattle.model.specs.Crc32.{crc32}

@@ -9,7 +9,8 @@ use lib.ListN.{length, take, drop, getD, length-append, length-drop}
 use lib.Seq.{length-take-le}
 use lib.Dec.{leb, eqb}
 use Rattle.model.specs.Order.{Name}
-use Rattle.model.specs.Map.{Map, Node, none≢some, some-inj}
+use Rattle.model.specs.Map.{Map, Node}
+use Rattle.laws.specs.MapLaws.{none≢some, some-inj}
 use Rattle.model.specs.Base.{Bytes, caseOption, if_then_else_, ifEmpty, sameBytes, atLeast, flatMap}
 use Rattle.model.specs.Name.{validName}
 use Rattle.model.specs.Field.{littleEndian, fromLittleEndian, Field, encodeField, encodeFields, fieldsFrom, decodeFields}

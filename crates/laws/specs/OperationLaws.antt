@@ -7,13 +7,12 @@ use mathlib.Core.Option.{Option, none, some}
 use mathlib.Core.Bool.{Bool, true, false, not, _&&_, _||_, false≢true}
 use lib.ListN.{length, take, drop, getD, getElem?}
 use lib.Dec.{leb, eqb}
-use Rattle.model.specs.Map.{none≢some, some-inj}
+use Rattle.laws.specs.MapLaws.{none≢some, some-inj}
 use Rattle.model.specs.Base.{Bytes, caseOption, if_then_else_, sameBytes, allOf}
 use Rattle.model.specs.Name.{validName}
 use Rattle.model.specs.Field.{Field, encodeField, encodeFields, fieldsFrom, decodeFields}
 use Rattle.model.specs.Operation.{Op, Write, write, delete, deleteAll, createCollection, deleteCollection, copyCollection, fieldTable, fieldTags, kind, values, tagged, encodePayload, makers, validValue, opOfFields, decodePayload}
-use Rattle.model.specs.Log.{Entries, Ending, walk, entries, firstPayload, Journal, absent, recording, committing, byStatus, readJournal, journal, stop, after, truncated, undecodable, validHeader}
-use Rattle.model.specs.Plan.{opsOf}
+use Rattle.model.specs.Log.{Entries, Ending, walk, entries, firstPayload, Journal, absent, recording, committing, byStatus, readJournal, journal, stop, after, truncated, undecodable, validHeader, opsOf}
 use Rattle.laws.specs.Tests.{and-both, and-made, eqb-eq, same-eq, same-refl, All, all-of, of-all}
 use Rattle.laws.specs.FieldLaws.{Short, split-join, Byte, split-only}
 use Rattle.laws.specs.ImageLaws.{valid-length}

@@ -8,8 +8,11 @@ use mathlib.Core.Bool.{Bool, true, false, not, _&&_, false≢true}
 use mathlib.Core.Logic.{_⊎_, inl, inr}
 use lib.ListN.{length, drop, length-append, length-drop}
 use lib.Dec.{leb, eqb}
-use Rattle.model.specs.Order.{Cmp, lt, eq, gt, Name, Key, cmpName, cmpKey, nameLaws, keyLaws, lt≢gt, lt≢eq, gt≢eq}
-use Rattle.model.specs.Map.{Map, Node, caseCmp, look, put, del, Has, Above, Sorted, key-dec, none≢some, some-inj, look-head, look-tail, look-put-same, look-put-other, look-del-same, look-del-other, look-del-some, sorted-put, sorted-del, above-none}
+use Rattle.model.specs.Order.{Cmp, lt, eq, gt, Name, Key, cmpName, cmpKey}
+use Rattle.laws.specs.OrderLaws.{nameLaws, keyLaws, lt≢gt, lt≢eq, gt≢eq}
+use Rattle.model.specs.Order.{caseCmp}
+use Rattle.model.specs.Map.{Map, Node, look, put, del, Has}
+use Rattle.laws.specs.MapLaws.{Above, Sorted, key-dec, none≢some, some-inj, look-head, look-tail, look-put-same, look-put-other, look-del-same, look-del-other, look-del-some, sorted-put, sorted-del, above-none}
 use Rattle.model.specs.Base.{Bytes, caseOption, ifEmpty, sameBytes, allOf}
 use Rattle.model.specs.Name.{validName}
 use Rattle.model.specs.Field.{littleEndian}
@@ -226,6 +229,28 @@ staging-del m k g = record {
   node = λ j x l. g .node j x (look-del-some k j m x l);
   fits = let p = size-del-le one k m in let q = g .fits in omega arith;
 }
+
+-- Staging files stand under the empty directory name.
+abbrev pub Bare : Map → Type 0
+Bare [] = Unit {0}
+Bare (n ∷ r) = (n .0 .0 ≡ []) × Bare r
+
+pub bare-del : (k : Key) (m : Map) → Bare m → Bare (del k m)
+unfolding del
+bare-del k [] h = h
+bare-del k (n ∷ r) h = go (bare-del k r (h .1)) (cmpKey k (n .0))
+  where
+    go : Bare (del k r) → (c : Cmp) → Bare (caseCmp c (n ∷ del k r) (del k r) (n ∷ del k r))
+    go ih lt = (h .0, ih)
+    go ih eq = ih
+    go ih gt = (h .0, ih)
+
+pub bare-staged : (m : Map) → All (λ n. validStaged n ≡ true) m → Bare m
+bare-staged [] h = tt
+bare-staged (n ∷ r) h = (staged-parts n (h .0) .0, bare-staged r (h .1))
+
+pub bare : (s : Store) → wellFormed s ≡ true → Bare (s .staging)
+bare s e = bare-staged (s .staging) (all-of validStaged (s .staging) (parts s e .staged))
 
 pub log-marked : (l : Option Bytes) → LogFits l → LogFits (marked l)
 unfolding markCommitting header littleEndian

@@ -6,8 +6,12 @@ use mathlib.Core.List.{List, [], _∷_, _++_, map}
 use mathlib.Core.Bool.{Bool, true, false, not, _&&_, false≢true}
 use lib.Dec.{T, leb, eqb, leb→le, le→leb, eqb→eq}
 use Rattle.model.specs.Base.{Bytes, if_then_else_, sameBytes, allOf}
-use Rattle.model.specs.Order.{Cmp, lt, eq, gt, cmpName, nameLaws}
-use Rattle.model.specs.Map.{caseCmp}
+use Rattle.model.specs.Order.{Cmp, lt, eq, gt, cmpName}
+use Rattle.laws.specs.OrderLaws.{nameLaws}
+use Rattle.model.specs.Order.{caseCmp}
+
+pub nil≢cons : {A B : Type 0} {x : B} {l : List B} → [] ≡ x ∷ l → A
+nil≢cons {B = B} {x = x} {l = l} p = let z : _≡_ {A = ℕ} 0 1 = cc in absurd (omega arith)
 
 pub to-T : {b : Bool} → b ≡ true → T b
 to-T {b} e = subst (λ (c : Bool). T c) (sym e) tt

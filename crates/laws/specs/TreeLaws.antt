@@ -8,11 +8,14 @@ use mathlib.Core.Bool.{Bool, true, false, not, _&&_, false≢true}
 use mathlib.Core.Logic.{_⊎_, inl, inr}
 use lib.ListN.{length}
 use lib.Dec.{leb, eqb}
-use Rattle.model.specs.Order.{Cmp, lt, eq, gt, thenCmp, flip, Name, Key, cmpName, cmpKey, nameLaws, keyLaws, lt≢gt, lt≢eq, gt≢eq}
-use Rattle.model.specs.Map.{Map, Node, caseCmp, look, put, del, Has, Above, Sorted, key-dec, none≢some, some-inj, look-head, look-tail, look-put-same, look-put-other, look-del-same, look-del-other, look-del-some, sorted-put, sorted-del, above-none}
+use Rattle.model.specs.Order.{Cmp, lt, eq, gt, thenCmp, Name, Key, cmpName, cmpKey}
+use Rattle.laws.specs.OrderLaws.{flip, nameLaws, keyLaws, lt≢gt, lt≢eq, gt≢eq}
+use Rattle.model.specs.Order.{caseCmp}
+use Rattle.model.specs.Map.{Map, Node, look, put, del, Has}
+use Rattle.laws.specs.MapLaws.{Above, Sorted, key-dec, none≢some, some-inj, look-head, look-tail, look-put-same, look-put-other, look-del-same, look-del-other, look-del-some, sorted-put, sorted-del, above-none}
 use Rattle.model.specs.Base.{ifEmpty, sameBytes, allOf}
 use Rattle.model.specs.Name.{validName}
-use Rattle.model.specs.Store.{dirs, fileCount, validNumber, validNode, validNodes, validStaged, below, ascending}
+use Rattle.model.specs.Store.{dirs, fileCount, validNumber, validNode, validNodes, validStaged, belowFirst, ascending}
 use Rattle.laws.specs.Tests.{and-both, and-made, leb-le, le-leb, eqb-eq, same-eq, same-refl, All, all-of, of-all}
 use Rattle.laws.specs.ImageLaws.{valid-length, node-parts, file-parts, staged-parts}
 
@@ -22,7 +25,7 @@ below-lt lt p = refl
 below-lt eq p = absurd (false≢true p)
 below-lt gt p = absurd (false≢true p)
 
-below-above : (k : Key) (r : Map) → below k r ≡ true → Sorted r → Above k r
+below-above : (k : Key) (r : Map) → belowFirst k r ≡ true → Sorted r → Above k r
 below-above k [] e s j x h = unfold look in (none≢some h)
 below-above k (n ∷ r) e s j x h = go (key-dec j (n .0))
   where
@@ -37,16 +40,16 @@ pub ascending-sorted : (m : Map) → ascending m ≡ true → Sorted m
 unfolding ascending
 ascending-sorted [] e = tt
 ascending-sorted (n ∷ r) e =
-    let h = and-both (below (n .0) r) (ascending r) e in
+    let h = and-both (belowFirst (n .0) r) (ascending r) e in
     let s = ascending-sorted r (h .1) in
     (below-above (n .0) r (h .0) s, s)
 
 pub sorted-ascending : (m : Map) → Sorted m → ascending m ≡ true
 unfolding ascending
 sorted-ascending [] s = refl
-sorted-ascending (n ∷ r) s = and-made (below (n .0) r) (ascending r) (go r (s .0)) (sorted-ascending r (s .1))
+sorted-ascending (n ∷ r) s = and-made (belowFirst (n .0) r) (ascending r) (go r (s .0)) (sorted-ascending r (s .1))
   where
-    go : (r : Map) → Above (n .0) r → below (n .0) r ≡ true
+    go : (r : Map) → Above (n .0) r → belowFirst (n .0) r ≡ true
     go [] a = refl
     go (m ∷ q) a = rw (a (m .0) (m .1) (look-head m q))
 
@@ -166,7 +169,7 @@ rest-tail e n r s m h = record {
     go d f x l (inl z) = inl (z ∙ sym (m d f x (up (d, f) x l) z))
     go d f x l (inr w) = at d w (key-dec (d, []) (n .0))
 
--- What stands before a rest: nothing, or a key of the directory e below all of it.
+-- What stands before a rest: nothing, or a key of the directory e belowFirst all of it.
 abbrev Edge : Name → Map → Type 0
 Edge e r = (e ≡ []) ⊎ ((g : Name) × Above (e, g) r)
 

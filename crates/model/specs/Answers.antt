@@ -1,31 +1,29 @@
--- What each public entry answers, from the input bytes and the lengths of the lent output.
-use Prim.Native.Nat.{ℕ, zero, suc, _+_, _-_, _/_, _%_}
+-- What each exported entry answers, from the lent bytes and the lengths of the lent outputs. The contracts of the entries cite these.
+use Prim.Native.Nat.{ℕ, zero, suc, _+_, _/_, _%_}
 use mathlib.Core.List.{List, [], _∷_, _++_, map}
 use mathlib.Core.Option.{Option, none, some}
 use mathlib.Core.Bool.{Bool, true, false, _&&_}
-use lib.ListN.{length, take, drop, getElem?}
+use lib.ListN.{length, drop, getElem?}
 use lib.Dec.{leb}
 use Rattle.model.specs.Limits.{imageRoom, keysRoom, stepRoom}
 use Rattle.model.specs.Order.{Name}
-use Rattle.model.specs.Map.{Map, Node}
+use Rattle.model.specs.Map.{Node}
 use Rattle.model.specs.Base.{Bytes, caseOption, if_then_else_, ifEmpty, flatMap}
 use Rattle.model.specs.Name.{validName}
-use Rattle.model.specs.Operation.{Op}
 use Rattle.model.specs.Log.{journal}
 use Rattle.model.specs.Store.{Store, hasPendingWork}
 use Rattle.model.specs.Image.{encode, decode}
 use Rattle.model.specs.Step.{Step, stepField, Fault, faultNumber}
 use Rattle.model.specs.Plan.{commitFault, commitPlan, committedAt, recoverFault, recoverPlan, recoveredAt, recovered, withoutMark}
-use Rattle.model.specs.Record
-use Rattle.model.specs.Record.{Outcome, refuse, give, transaction, keyFields}
+use Rattle.model.specs.Record.{Outcome, refuse, give, transaction, beginTransaction, discard, recordWrite, recordDelete, recordDeleteAll, recordCreate, recordDeleteCollection, recordCopy, keyList}
 
--- The number, the bytes written to the output, and those written to the step output; 0 is done.
+-- The number (0 is done), the bytes written to the output, and those written to the step output.
 pub record Answer : Type 0 where
   pub number : ℕ
   pub image : Bytes
   pub step : Bytes
 
--- "A refusal gives its number alone."
+-- 01, Sixteen numbers: "A refusal gives its number alone".
 abbrev pub refusal : ℕ → Answer
 refusal n = record { number = n; image = []; step = [] }
 
@@ -33,95 +31,95 @@ refusal n = record { number = n; image = []; step = [] }
 abbrev pub answer : ℕ → Store → Answer
 answer n s = record { number = n; image = encode s; step = [] }
 
--- What a recording entry answers.
 abbrev pub outcome : Outcome → Answer
 outcome (refuse n) = refusal n
 outcome (give s) = answer 0 s
 
--- "The lent output keeps its bytes behind them."
+-- 01, Sixteen numbers: "An answer says how many bytes were written; the lent output keeps its bytes behind them." The output after it.
 abbrev pub overwritten : Bytes → Bytes → Bytes
 overwritten written out = written ++ drop (length written) out
 
--- "1. The image breaks its layout or a limit. 2. The lent output has under 19,262 bytes."
+-- 01, Sixteen numbers: "1. The image breaks its layout or a limit. 2. The lent output has under 19,262 bytes"; then what follows.
 abbrev pub onImage : Bytes → Bool → (Store → Answer) → Answer
-onImage b room f = caseOption (decode b) (refusal 1) λ s. if_then_else_ room (f s) (refusal 2)
+onImage b room next = caseOption (decode b) (refusal 1) λ s. if room then next s else refusal 2
 
 -- An entry from image to image.
-abbrev pub entryOn : (Store → Outcome) → Bytes → ℕ → Answer
-entryOn f b out = onImage b (leb imageRoom out) (λ s. outcome (f s))
+abbrev pub imageEntry : (Store → Outcome) → Bytes → ℕ → Answer
+imageEntry f b out = onImage b (leb imageRoom out) (λ s. outcome (f s))
 
--- Begin: 1, 2, 3.
+-- `cda_storage_begin`: 1, 2, 3.
 unfoldable pub begin : Bytes → ℕ → Answer
-begin = entryOn Record.begin
+begin = imageEntry beginTransaction
 
--- Rollback (`discard`): 1, 2, 4.
-unfoldable pub rollback : Bytes → ℕ → Answer
-rollback = entryOn Record.rollback
-
--- Write to a collection under a key, with the caller's staging name and number: 1, 2, 4, 5, 6, 10.
+-- `cda_storage_write`, with the caller's staging name and number: 1, 2, 4, 5, 6, 10.
 unfoldable pub write : Name → Name → Name → ℕ → Bytes → ℕ → Answer
-write c k st x = entryOn (Record.recordWrite c k st x)
+write c k staged x = imageEntry (recordWrite c k staged x)
 
--- Delete a key: 1, 2, 4, 5, 6, 8.
+-- `cda_storage_delete`: 1, 2, 4, 5, 6, 8.
 unfoldable pub delete : Name → Name → Bytes → ℕ → Answer
-delete c k = entryOn (Record.recordDelete c k)
+delete c k = imageEntry (recordDelete c k)
 
--- Delete all keys of a collection: 1, 2, 4, 5, 6.
+-- `cda_storage_delete_all`: 1, 2, 4, 5, 6.
 unfoldable pub deleteAll : Name → Bytes → ℕ → Answer
-deleteAll c = entryOn (Record.recordDeleteAll c)
+deleteAll c = imageEntry (recordDeleteAll c)
 
--- Create a collection: 1, 2, 4, 5, 6, 9.
-unfoldable pub create : Name → Bytes → ℕ → Answer
-create c = entryOn (Record.recordCreate c)
+-- `cda_storage_create_collection`: 1, 2, 4, 5, 6, 9.
+unfoldable pub createCollection : Name → Bytes → ℕ → Answer
+createCollection c = imageEntry (recordCreate c)
 
--- Delete a collection: 1, 2, 4, 5, 6, 7.
+-- `cda_storage_delete_collection`: 1, 2, 4, 5, 6, 7.
 unfoldable pub deleteCollection : Name → Bytes → ℕ → Answer
-deleteCollection c = entryOn (Record.recordDeleteCollection c)
+deleteCollection c = imageEntry (recordDeleteCollection c)
 
--- Copy a collection: 1, 2, 4, 5, 6, 7, 6 for the destination.
-unfoldable pub copy : Name → Name → Bytes → ℕ → Answer
-copy a b = entryOn (Record.recordCopy a b)
+-- `cda_storage_copy_collection`: 1, 2, 4, 5, 6, 7, and 6 for the destination.
+unfoldable pub copyCollection : Name → Name → Bytes → ℕ → Answer
+copyCollection a b = imageEntry (recordCopy a b)
 
--- "14 and 15 also hand back the rolled-back image."
-abbrev pub numberOf : Option Fault → ℕ
-numberOf none = 0
-numberOf (some f) = faultNumber f
+-- `cda_storage_rollback`: 1, 2, 4.
+unfoldable pub rollback : Bytes → ℕ → Answer
+rollback = imageEntry discard
 
--- Commit: 1, 2, 4, and 14 or 15 with the rolled-back image.
+-- 01, Sixteen numbers: "14 and 15 also hand back the rolled-back image".
+abbrev pub commitNumber : Option Fault → ℕ
+commitNumber none = 0
+commitNumber (some e) = faultNumber e
+
 unfoldable pub commitStore : Store → Answer
-commitStore s = caseOption (transaction s) (refusal 4) λ o. answer (numberOf (commitFault s)) (committedAt (length (commitPlan s)) s)
+commitStore s = caseOption (transaction s) (refusal 4) λ ops. answer (commitNumber (commitFault s)) (committedAt (length (commitPlan s)) s)
 
+-- `cda_storage_commit`: 1, 2, 4, and 14 or 15 with the rolled-back image.
 unfoldable pub commit : Bytes → ℕ → Answer
 commit b out = onImage b (leb imageRoom out) commitStore
 
--- Recovery: 1, 2, 11, 12, 13.
 unfoldable pub recoverStore : Store → Answer
 recoverStore s = caseOption (recoverFault (journal (s .log)) (s .tree)) (answer 0 (recovered s)) refusal
 
+-- `cda_storage_recover`: 1, 2, 11, 12, 13.
 unfoldable pub recover : Bytes → ℕ → Answer
 recover b out = onImage b (leb imageRoom out) recoverStore
 
--- "The image after n steps and field n (none for n = 0)"; "16. The step number is past the plan's end."
+-- 01, Listings and file steps: "the step entries for commit and recovery hand back the image after n steps and field n (none for n = 0)".
 abbrev pub fieldAt : ℕ → List Step → Bytes
 fieldAt zero plan = []
 fieldAt (suc n) plan = caseOption (getElem? plan n) [] stepField
 
+-- 01, Sixteen numbers: "16. The step number is past the plan's end."
 abbrev pub stepAnswer : ℕ → List Step → Store → Answer
-stepAnswer n plan s = if_then_else_ (leb n (length plan)) (record { number = 0; image = encode s; step = fieldAt n plan }) (refusal 16)
+stepAnswer n plan s = if leb n (length plan) then record { number = 0; image = encode s; step = fieldAt n plan } else refusal 16
 
--- Commit's step entry: 1, 2, 4, 16; "step entries never give" 14 or 15.
+-- `cda_storage_commit_step`: 1, 2, 4, 16; 01, Sixteen numbers: "step entries never give" 14 and 15.
 unfoldable pub commitStep : ℕ → Bytes → ℕ → ℕ → Answer
 commitStep n b out stepOut =
     onImage b (leb imageRoom out && leb stepRoom stepOut) λ s.
-    caseOption (transaction s) (refusal 4) λ o. stepAnswer n (commitPlan s) (committedAt n s)
+    caseOption (transaction s) (refusal 4) λ ops. stepAnswer n (commitPlan s) (committedAt n s)
 
--- Recovery's step entry: 1, 2, 11, 12, 13, 16.
+-- `cda_storage_recover_step`: 1, 2, 11, 12, 13, 16.
 unfoldable pub recoverStep : ℕ → Bytes → ℕ → ℕ → Answer
 recoverStep n b out stepOut =
     onImage b (leb imageRoom out && leb stepRoom stepOut) λ s.
     caseOption (recoverFault (journal (s .log)) (s .tree)) (stepAnswer n (recoverPlan (withoutMark s)) (recoveredAt n s)) refusal
 
--- "`has_pending_work` (yes or no)": 1 is yes.
+-- `cda_storage_has_pending_work`: 1; else yes or no.
 pub record Pending : Type 0 where
   pub number : ℕ
   pub yes? : Bool
@@ -129,23 +127,22 @@ pub record Pending : Type 0 where
 unfoldable pub pending : Bytes → Pending
 pending b = caseOption (decode b) (record { number = 1; yes? = false }) λ s. record { number = 0; yes? = hasPendingWork s }
 
--- "Key list (0x03 fields)"; a missing collection reads as empty.
-unfoldable pub keyList : Name → Bytes → ℕ → Answer
-keyList c b out =
-    onImage b (leb keysRoom out) λ s.
-    if_then_else_ (validName c) (record { number = 0; image = keyFields c s; step = [] }) (refusal 6)
+-- `cda_storage_list_keys`: 1, 2, 6. A missing collection reads as empty (01, Modules in port order).
+unfoldable pub listKeys : Name → Bytes → ℕ → Answer
+listKeys c b out = onImage b (leb keysRoom out) λ s. if validName c then record { number = 0; image = keyList c s; step = [] } else refusal 6
 
--- "In decimal".
+-- A number of at most so many digits, in decimal.
 unfoldable pub decimal : ℕ → ℕ → Bytes
 decimal zero n = []
-decimal (suc k) n = if_then_else_ (leb n 9) ((0x30 + n) ∷ []) (decimal k (n / 10) ++ (0x30 + n % 10) ∷ [])
+decimal (suc k) n = if leb n 9 then (0x30 + n) ∷ [] else decimal k (n / 10) ++ (0x30 + n % 10) ∷ []
 
--- ""name/" for each directory and "name/file number" in decimal for each file, a line feed after each line."
-unfoldable pub line : Node → Bytes
-line n = n .0 .0 ++ 0x2F ∷ ifEmpty (n .0 .1) [] (n .0 .1 ++ 0x20 ∷ decimal 10 (n .1)) ++ 0x0A ∷ []
+-- 01, Listings and file steps: ""name/" for each directory and "name/file number" in decimal for each file, in image order, a line feed after
+-- each line".
+unfoldable pub listingLine : Node → Bytes
+listingLine n = n .0 .0 ++ 0x2F ∷ ifEmpty (n .0 .1) [] (n .0 .1 ++ 0x20 ∷ decimal 10 (n .1)) ++ 0x0A ∷ []
 
--- "The listing program recovers the image and writes "answer " and the number (0 is done)"; after 0 the lines, in image order.
+-- The listing program: "recovers it and writes "answer " and the number (0 is done); after 0 follow" the lines.
 unfoldable pub listing : Bytes → Bytes
 listing b =
-    0x61 ∷ 0x6E ∷ 0x73 ∷ 0x77 ∷ 0x65 ∷ 0x72 ∷ 0x20 ∷ decimal 2 (recover b imageRoom .number)
-    ++ 0x0A ∷ caseOption (decode b) [] (λ s. caseOption (recoverFault (journal (s .log)) (s .tree)) (flatMap line (recovered s .tree)) (λ n. []))
+    0x61 ∷ 0x6E ∷ 0x73 ∷ 0x77 ∷ 0x65 ∷ 0x72 ∷ 0x20 ∷ decimal 2 (recover b imageRoom .number) ++ 0x0A ∷
+    caseOption (decode b) [] (λ s. caseOption (recoverFault (journal (s .log)) (s .tree)) (flatMap listingLine (recovered s .tree)) (λ n. []))

@@ -32,7 +32,8 @@ pub data Op : Type 0 where
   deleteCollection : Name → Op
   copyCollection : Name → Name → Bool → Op
 
--- "The fields of each kind stand in one constant table of six rows."
+-- 01, How a store is handed over: "The fields of each kind stand in one constant table of six rows: 1 Write 1,2,3,4; 2 Delete 1,2,3;
+-- 3 DeleteAll, 4 CreateCollection and 5 DeleteCollection 1,2; 6 CopyCollection 1,2,5,6."
 unfoldable pub fieldTable : List (List ℕ)
 fieldTable =
     (1 ∷ 2 ∷ 3 ∷ 4 ∷ [])
@@ -43,11 +44,10 @@ fieldTable =
     ∷ (1 ∷ 2 ∷ 5 ∷ 6 ∷ [])
     ∷ []
 
--- The row of a kind, kinds counted from 1; no kind has an empty row.
+-- The row of a kind, counted from 1; what is no kind has an empty row.
 unfoldable pub fieldTags : ℕ → List ℕ
 fieldTags k = getD ([] ∷ fieldTable) k []
 
--- "1 Write; 2 Delete; 3 DeleteAll, 4 CreateCollection and 5 DeleteCollection; 6 CopyCollection".
 unfoldable pub kind : Op → ℕ
 kind (write w) = 1
 kind (delete c k) = 2
@@ -56,14 +56,14 @@ kind (createCollection c) = 4
 kind (deleteCollection c) = 5
 kind (copyCollection a b x) = 6
 
--- The values behind the kind, in the row's order.
+-- The values behind the kind, in the order of its row.
 unfoldable pub values : Op → List Bytes
 values (write w) = w .collection ∷ w .key ∷ w .staged ∷ []
 values (delete c k) = c ∷ k ∷ []
 values (deleteAll c) = c ∷ []
 values (createCollection c) = c ∷ []
 values (deleteCollection c) = c ∷ []
-values (copyCollection a b x) = a ∷ b ∷ (if_then_else_ x 1 0 ∷ []) ∷ []
+values (copyCollection a b x) = a ∷ b ∷ ((if x then 1 else 0) ∷ []) ∷ []
 
 -- Values under the tags of a row.
 unfoldable pub tagged : List ℕ → List Bytes → List Field
@@ -71,11 +71,12 @@ tagged [] vs = []
 tagged (t ∷ ts) [] = []
 tagged (t ∷ ts) (v ∷ vs) = record { tag = t; value = v } ∷ tagged ts vs
 
--- "CreateCollection of db is 01 01 00 04 02 02 00 64 62."
+-- 01, How a store is handed over: "Tags: 0x01 kind, one byte; 0x02 collection or source; 0x03 key; 0x04 staging name;
+-- 0x05 destination; 0x06 destination existed, one byte 0 or 1."
 unfoldable pub encodePayload : Op → Bytes
 encodePayload o = encodeFields (tagged (fieldTags (kind o)) ((kind o ∷ []) ∷ values o))
 
--- The operation of each kind from its values.
+-- The operation of each kind, from the values behind the kind.
 unfoldable pub makers : List (List Bytes → Op)
 makers =
     (λ v. write (record { collection = getD v 0 []; key = getD v 1 []; staged = getD v 2 [] }))
@@ -86,20 +87,22 @@ makers =
     ∷ (λ v. copyCollection (getD v 0 []) (getD v 1 []) (sameBytes (getD v 2 []) (1 ∷ [])))
     ∷ []
 
--- "0x01 kind, one byte"; "0x06 destination existed, one byte 0 or 1"; "all names valid".
+-- Each value by its tag: the kind has one byte, the mark 0x06 is 0 or 1, all else is a valid name.
 unfoldable pub validValue : Field → Bool
 validValue f =
-    if_then_else_ (eqb (f .tag) 1) (eqb (length (f .value)) 1)
-    (if_then_else_ (eqb (f .tag) 6) (sameBytes (f .value) (0 ∷ []) || sameBytes (f .value) (1 ∷ [])) (validName (f .value)))
+    if eqb (f .tag) 1 then eqb (length (f .value)) 1
+    else if eqb (f .tag) 6 then sameBytes (f .value) (0 ∷ []) || sameBytes (f .value) (1 ∷ [])
+    else validName (f .value)
 
--- "Ascending tags, exactly these, all names valid, nothing behind."
+-- 01, How a store is handed over: "Ascending tags, exactly these, all names valid, nothing behind."
 unfoldable pub opOfFields : List Field → Option Op
 opOfFields [] = none
 opOfFields (f ∷ fs) =
     let k : ℕ = getD (f .value) 0 0 in
-    if_then_else_ (sameBytes (f .tag ∷ map (λ g. g .tag) fs) (fieldTags k) && allOf validValue (f ∷ fs))
-    (caseOption (getElem? makers (k - 1)) none (λ m. some (m (map (λ g. g .value) fs)))) none
+    if sameBytes (f .tag ∷ map (λ g. g .tag) fs) (fieldTags k) && allOf validValue (f ∷ fs)
+    then caseOption (getElem? makers (k - 1)) none (λ make. some (make (map (λ g. g .value) fs)))
+    else none
 
--- The operation of a payload.
+-- The operation that a payload holds, if it decodes.
 unfoldable pub decodePayload : Bytes → Option Op
 decodePayload p = caseOption (decodeFields p) none opOfFields

@@ -1,10 +1,13 @@
 -- Extensions, backup names and their originals.
 use mathlib.Core.Path.{_≡_, refl, sym, _∙_, ap}
-use Prim.Native.Nat.{ℕ}
+use Prim.Native.Nat.{ℕ, zero, suc, _+_, _-_, _≤_, _<_}
+use native.Mathlib.Omega.{arith}
 use mathlib.Core.List.{List, [], _∷_, _++_}
 use mathlib.Core.Option.{Option, none, some}
-use mathlib.Core.Bool.{Bool, true, false}
-use lib.Dec.{eqb}
+use mathlib.Core.Bool.{Bool, true, false, _&&_}
+use lib.ListN.{length, take, drop, getD, length-append, length-drop, take-append-drop}
+use lib.Seq.{drop-cons, drop-length, getD-append-add, take-append-seam}
+use lib.Dec.{eqb, leb}
 use Rattle.model.specs.Order.{Name}
 use Rattle.model.specs.Base.{caseOption, if_then_else_, sameBytes}
 use Rattle.model.specs.Name.{lastDot, extension, stripExtension, backupExtension, backupName, originalName}
@@ -63,3 +66,9 @@ original-named n g p q = nil≢cons (sym q ∙ strip-shape backupExtension n g p
 pub original-nil : originalName [] ≡ none
 unfolding originalName stripExtension extension
 original-nil = refl
+
+-- A name has at least five bytes, and the last four are a dot and these three.
+unfoldable pub endsIn : ℕ → ℕ → ℕ → Name → Bool
+endsIn x y z n =
+    let k : ℕ = length n in
+    leb 5 k && (eqb (getD n (k - 4) 0) 0x2E && (eqb (getD n (k - 3) 0) x && (eqb (getD n (k - 2) 0) y && eqb (getD n (k - 1) 0) z)))

@@ -3,6 +3,7 @@ ghost use mathlib.Core.List.{List, []};
 ghost use Prim.Native.Nat.{ℕ, _≤_, _<_, _+_, _*_};
 ghost use lib.ListN.{length, getD, take, drop};
 ghost use Rattle.model.specs.Order.{cmpName};
+ghost use Rattle.model.specs.Base.{sameBytes};
 ghost use Rattle.model.specs.Name.{isBackup, isTmp};
 ghost use Rattle.laws.specs.NameLaws.{endsIn};
 ghost use Rattle.spans.specs.Spans.{nameOf, lengthOf, orderOf, Sound, Names, Backup, Original};
@@ -144,6 +145,19 @@ fn compare_from(src: &[u8], a: NameRef, b: NameRef, at: usize) -> Order
         i += 1;
     }
     if i < m { Order::Less } else { Order::Equal }
+}
+
+// Whether two names are the same.
+pub fn same(src: &[u8], a: NameRef, b: NameRef) -> bool
+    requires { ⌜ Sound (now src) a × Sound (now src) b ⌝ }
+    ensures { λ r. ⌜ r ≡ sameBytes (nameOf (now (src .entry)) a) (nameOf (now (src .entry)) b) ⌝ }
+{
+    let o = compare(src, a, b);
+    match o {
+        Order::Equal => true,
+        Order::Less => false,
+        Order::Greater => false,
+    }
 }
 
 // Whether a name ends in a dot and three given bytes, behind at least one byte.

@@ -202,18 +202,6 @@ pub fn del(src: &[u8], t: Table, dir: NameRef, file: NameRef) -> Table
     }
 }
 
-pub fn same_name(src: &[u8], a: NameRef, b: NameRef) -> bool
-    requires { ⌜ Sound (now src) a × Sound (now src) b ⌝ }
-    ensures { λ r. ⌜ r ≡ sameBytes (nameOf (now (src .entry)) a) (nameOf (now (src .entry)) b) ⌝ }
-{
-    let o = spans::compare(src, a, b);
-    match o {
-        Order::Equal => true,
-        Order::Less => false,
-        Order::Greater => false,
-    }
-}
-
 // The table without a directory and its files.
 pub fn remove_dir(src: &[u8], t: Table, dir: NameRef) -> Table
     requires { ⌜ SoundTable (now src) t × Sound (now src) dir ⌝ }
@@ -226,7 +214,7 @@ pub fn remove_dir(src: &[u8], t: Table, dir: NameRef) -> Table
     while i < n {
         let x = t.nodes[i];
         let xd = x.dir;
-        let of = same_name(src, dir, xd);
+        let of = spans::same(src, dir, xd);
         if of {} else {
             u.nodes[j] = x;
             j += 1;
@@ -249,7 +237,7 @@ pub fn rename_dir(src: &[u8], t: Table, from: NameRef, to: NameRef) -> Table
         let x = t.nodes[i];
         let xd = x.dir;
         let xf = x.file;
-        let of = same_name(src, from, xd);
+        let of = spans::same(src, from, xd);
         if of {
             u = put(
                 src,

@@ -59,14 +59,14 @@ module _ {src : Bytes} {r : NameRef} (s : Sound src r) where
   unfolding nameOf
   length-name = length-backups (r .baks) (take (r .len) (drop (r .start) src)) ∙ omega (arith, span)
 
-  pub in-span : (i : ℕ) → i < r .len → getD src (r .start + i) 0 ≡ getD (nameOf src r) i 0
+  pub in-span : (p i : ℕ) → p ≡ r .start → i < r .len → getD src (p + i) 0 ≡ getD (nameOf src r) i 0
   unfolding nameOf
-  in-span i h =
+  in-span p i e h =
       let l : length (take (r .len) (drop (r .start) src)) ≡ r .len = span in
-      sym (first-bytes (r .baks) (take (r .len) (drop (r .start) src)) i (omega arith) ∙ getD-take (r .len) (drop (r .start) src) i 0 h ∙ getD-drop (r .start) src i 0)
+      rw e (sym (first-bytes (r .baks) (take (r .len) (drop (r .start) src)) i (omega arith) ∙ getD-take (r .len) (drop (r .start) src) i 0 h ∙ getD-drop (r .start) src i 0))
 
-  pub past-span : (i : ℕ) → r .len ≤ i → i < lengthOf r → getD dotBak ((i - r .len) % 4) 0 ≡ getD (nameOf src r) i 0
+  pub past-span : (n i : ℕ) → n ≡ r .len → n ≤ i → i < lengthOf r → getD dotBak ((i - n) % 4) 0 ≡ getD (nameOf src r) i 0
   unfolding nameOf
-  past-span i h g =
-      let l : length (take (r .len) (drop (r .start) src)) ≡ r .len = span in
-      sym (last-bytes (r .baks) (take (r .len) (drop (r .start) src)) i (omega arith) (omega arith) ∙ ap (λ (n : ℕ). getD dotBak ((i - n) % 4) 0) l)
+  past-span n i e h g =
+      let l : n ≡ length (take (r .len) (drop (r .start) src)) = e ∙ sym span in
+      rw l (sym (last-bytes (r .baks) (take (r .len) (drop (r .start) src)) i (omega arith) (omega arith)))

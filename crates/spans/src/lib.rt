@@ -119,7 +119,7 @@ pub fn compare(src: &[u8], a: NameRef, b: NameRef) -> Order
         }
         i += 1;
     }
-    compare_from(src, a, b, m)
+    compare_from(src, a, b, i)
 }
 
 // The order of two names whose bytes before `at` are equal.

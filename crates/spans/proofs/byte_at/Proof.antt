@@ -1,10 +1,7 @@
 -- `byte_at` reads the span, or ".bak" over and over behind it.
 use borrow.Author.Needs.{needs}
 use native.Mathlib.Omega.{arith}
-use mathlib.Core.Path.{ap, _∙_}
-use Prim.Native.Nat.{ℕ, _+_, _-_, _%_}
-use lib.ListN.{getD}
-use Rattle.spans.proofs.Parts.{dotBak, in-span, past-span}
+use Rattle.spans.proofs.Parts.{in-span, past-span}
 use Rattle.spans.proofs.byte_at.Statement.{statement}
 use Rattle.spans.proofs.byte_at.Tie as tie
 
@@ -24,10 +21,10 @@ array-read-result : tie.Need-array-read-result
 array-read-result c = search needs
 
 returns : tie.Need-returns
-returns c = ap (λ (n : ℕ). getD (c .before .before .before .before .before .args .src .now) (n + c .before .before .before .before .before .args .i) 0) (c .before .wider .ensures .0) ∙ in-span (c .before .before .before .before .before .pre .0) (c .before .before .before .before .before .args .i) (omega arith)
+returns c = in-span (c .before .before .before .before .before .pre .0) _ _ (c .before .wider .ensures .0) (omega arith)
 
 returns-2 : tie.Need-returns-2
-returns-2 c = ap (λ (n : ℕ). getD dotBak ((c .before .before .before .args .i - n) % 4) 0) (c .before .wide .ensures .0) ∙ past-span (c .before .before .before .pre .0) (c .before .before .before .args .i) (omega arith) (omega arith)
+returns-2 c = past-span (c .before .before .before .pre .0) _ _ (c .before .wide .ensures .0) (omega arith) (omega arith)
 
 pub byte-at-spec : {M : Type 1} → statement M
 byte-at-spec =

@@ -1,0 +1,5 @@
+pub mod Lists
+pub mod Shift
+pub mod Places
+pub mod Live
+pub mod Search

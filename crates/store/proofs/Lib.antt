@@ -3,3 +3,4 @@ pub mod Shift
 pub mod Places
 pub mod Live
 pub mod Search
+pub mod Change

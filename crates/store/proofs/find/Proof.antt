@@ -4,7 +4,7 @@ use native.Mathlib.Omega.{arith}
 use mathlib.Core.Path.{refl}
 use Prim.Native.Nat.{_-_}
 use Rattle.store.proofs.Live.{sound-at}
-use Rattle.store.proofs.Search.{Search, start, up, down, hit, missing}
+use Rattle.store.proofs.Search.{Search, start, up, down, hit, none-left}
 use Rattle.store.proofs.find.Statement.{statement}
 use Rattle.store.proofs.find.Tie as tie
 
@@ -57,7 +57,7 @@ loop-again-2 : tie.Need-loop-again-2 Inv-loop μ-loop
 loop-again-2 c = up (c .before .before .before .before .before .before .before .before .loop .inv) (c .before .before .before .before .before .before .middle .result) _ (omega arith) (omega arith) (c .enum-told3 .given .1) (c .before .before .compare-keys .ensures) refl refl
 
 returns-2 : tie.Need-returns-2 Inv-loop μ-loop
-returns-2 c = missing (c .before .loop .inv) (omega arith)
+returns-2 c = none-left (c .before .loop .inv) (omega arith)
 
 pub find-spec : {M : Type 1} → statement M
 find-spec =

@@ -90,6 +90,13 @@ fn compare_keys(src: &[u8], d: NameRef, f: NameRef, e: NameRef, g: NameRef) -> O
     }
 }
 
+fn middle(lo: usize, hi: usize) -> usize
+    requires { ⌜ lo < hi ⌝ }
+    ensures { λ r. ⌜ (lo ≤ r) × (r < hi) ⌝ }
+{
+    lo + (hi - lo) / 2
+}
+
 // Where a key stands, or the place that it has among the others.
 pub fn find(src: &[u8], t: Table, dir: NameRef, file: NameRef) -> Found
     requires { ⌜ SoundTable (now src) t × (Sound (now src) dir × Sound (now src) file) ⌝ }
@@ -98,7 +105,7 @@ pub fn find(src: &[u8], t: Table, dir: NameRef, file: NameRef) -> Found
     let mut lo: usize = 0;
     let mut hi: usize = t.len;
     while lo < hi {
-        let mid = lo + (hi - lo) / 2;
+        let mid = middle(lo, hi);
         let x = t.nodes[mid];
         let xd = x.dir;
         let xf = x.file;

@@ -7,6 +7,7 @@ use Prim.Native.Nat.{ℕ, zero, suc, _+_, _-_, _≤_, _<_}
 use native.Mathlib.Omega.{arith}
 use native.Mathlib.Decide.{decLe}
 use lib.ListN.{length, take, drop, length-drop}
+use lib.Seq.{length-take-le}
 use types.Run.{OneOf}
 use denote.Enum.Declared.{tagOf}
 use Rattle.model.specs.Base.{Bytes, caseOption}
@@ -19,6 +20,20 @@ use Rattle.field.specs.declared.Read.the-variants.{Is, NoHeader, NoValue}
 use Rattle.field.proofs.Read.{the-type}
 use Rattle.field.specs.Reading.{fieldOf, Stands, Reads}
 use Rattle.decode.specs.Reading.{Ahead}
+
+-- The value of the field whose bounds an item holds.
+abbrev pub valueOf : Bytes → Item → Bytes
+valueOf src x = take (x .end - x .start) (drop (x .start) src)
+
+pub value-length : {src : Bytes} {at : ℕ} {x : Item} → Stands src at x → length (valueOf src x) ≡ x .end - x .start
+value-length {src} {at} {x} s =
+    let l : length (drop (x .start) src) ≡ length src - x .start = length-drop (x .start) src in
+    let w : x .end ≤ length src = s .within in
+    length-take-le (x .end - x .start) (drop (x .start) src) (omega arith)
+
+pub no-bytes : (l : Bytes) → length l ≡ 0 → l ≡ []
+no-bytes [] e = refl
+no-bytes (y ∷ l) e = absurd (omega arith)
 
 -- A field and what is left, if they are all fields.
 pub one-more : (o : Option (List Field)) (f : Field) {fs : List Field} → caseOption o none (λ l. some (f ∷ l)) ≡ some fs → (l : List Field) × ((fs ≡ f ∷ l) × (o ≡ some l))

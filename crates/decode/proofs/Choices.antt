@@ -29,18 +29,13 @@ use Rattle.decode.specs.declared.Spot.{Spot}
 use Rattle.decode.specs.Reading.{Ahead, starts}
 use Rattle.decode.specs.Listing.{own}
 use Rattle.decode.specs.Spots.{SoundSpot, Stops, Breaks, AtField, InDir}
-use Rattle.decode.proofs.Ahead.{first, nothing}
+use Rattle.decode.proofs.Ahead.{no-bytes, first, nothing}
 use Rattle.decode.proofs.Nodes.{tree-filed}
 use Rattle.decode.proofs.Steps.{broken}
 
 -- No field stands there.
 pub no-field : {staged : Bool} {src : Bytes} {p : Spot} (r : Read) → Reads src (p .next) r → OneOf (1 ∷ 2 ∷ []) (tagOf the-type r) → Stops staged src p
 no-field {staged} {src} {p} r h k = record { here = λ fs a. rw (nothing src (p .next) r h k a) }
-
--- A name of no bytes.
-no-bytes : (l : Name) → length l ≡ 0 → l ≡ []
-no-bytes [] e = refl
-no-bytes (y ∷ l) e = absurd (omega arith)
 
 module _ {staged : Bool} {src : Bytes} {p : Spot} {r : Read} {x : Item} (short : length src ≤ imageRoom) (s : SoundSpot staged src p) (h : Reads src (p .next) r) (e : r ≡ Is x) where
   pub at-field : {b : Bool} {t : ℕ} → staged ≡ b → x .tag ≡ t → AtField b src p x t

@@ -4,3 +4,6 @@ pub mod Nodes
 pub mod Tests
 pub mod Steps
 pub mod Choices
+pub mod Progress
+pub mod Single
+pub mod Whole

@@ -30,12 +30,9 @@ use Rattle.decode.specs.declared.Spot.{Spot}
 use Rattle.decode.specs.Reading.{Ahead, starts}
 use Rattle.decode.specs.Listing.{listed, fileTag, own, filesOf, Fits}
 use Rattle.decode.specs.Spots.{LastDir, SoundSpot, FitsAt, Follows, Breaks, AtField, InDir}
-use Rattle.decode.proofs.Ahead.{first}
+use Rattle.decode.proofs.Ahead.{valueOf, value-length, first}
 use Rattle.decode.proofs.Nodes.{numberOf, own-file}
 use Rattle.decode.proofs.Tests.{DirPasses, dir-passes, dir-fits, FilePasses, file-passes, file-fits, file-again, is-file}
-
-abbrev pub valueOf : Bytes → Item → Bytes
-valueOf src x = take (x .end - x .start) (drop (x .start) src)
 
 -- A valid name can be held.
 pub name-fits : (src : Bytes) (b e : ℕ) → length src ≤ imageRoom → b ≤ e → e ≤ length src → validName (take (e - b) (drop b src)) ≡ true → (b < 65536) × (e - b ≤ 64) × (b + (e - b) ≤ length src)
@@ -52,19 +49,13 @@ module _ {staged : Bool} {src : Bytes} {p : Spot} {x : Item} {t : ℕ} (a : AtFi
   is-field : fieldOf src x ≡ field t (valueOf src x)
   is-field = ap (λ (k : ℕ). field k (valueOf src x)) (a .tag)
 
-  pub value-length : length (valueOf src x) ≡ x .end - x .start
-  value-length =
-      let l : length (drop (x .start) src) ≡ length src - x .start = length-drop (x .start) src in
-      let w : x .end ≤ length src = a .stands .within in
-      length-take-le (x .end - x .start) (drop (x .start) src) (omega arith)
-
   -- No node that fits has this field.
   pub broken : own staged t ≡ true → ((n : model.Node) → FitsAt staged src p n → listed staged n ≡ field t (valueOf src x) → ⊥) → Breaks staged src p
   broken o h = record {
     here = λ fs e. let f = first (a .stands) e in rw (f .1 .0, a .tag) o;
     unfit = λ n fs g e. let f = first (a .stands) e in
-      let k : listed staged n ≡ fieldOf src x = let z : listed staged n ∷ fs ≡ fieldOf src x ∷ f .0 = f .1 .0 in cc in
-      h n g (k ∙ is-field);
+        let k : listed staged n ≡ fieldOf src x = let z : listed staged n ∷ fs ≡ fieldOf src x ∷ f .0 = f .1 .0 in cc in
+        h n g (k ∙ is-field);
   }
 
   -- The node q has it.
@@ -144,7 +135,7 @@ module _ {staged : Bool} {src : Bytes} {p : Spot} {x : Item} (a : AtField staged
 
   tests : Passes → FileTests staged src p x
   tests t =
-      let h : 4 ≤ x .end - x .start = rw (value-length a) at (t .long) in
+      let h : 4 ≤ x .end - x .start = rw (value-length (a .stands)) at (t .long) in
       let n : nameIn src x ≡ drop 4 (valueOf src x) = name-value h in
       let m : u32At src (x .start) ≡ numberOf (valueOf src x) = number-value h in
       record { room = t .room; long = h; number = rw m (t .number); small = rw m (t .small); valid = rw n (t .valid); above = rw n (t .above) }
@@ -153,7 +144,7 @@ module _ {staged : Bool} {src : Bytes} {p : Spot} {x : Item} (a : AtField staged
   passes t =
       let n : nameIn src x ≡ drop 4 (valueOf src x) = name-value (t .long) in
       let m : u32At src (x .start) ≡ numberOf (valueOf src x) = number-value (t .long) in
-      record { room = t .room; long = rw (value-length a) (t .long); number = rw m at (t .number); small = rw m at (t .small); valid = rw n at (t .valid); above = rw n at (t .above) }
+      record { room = t .room; long = rw (value-length (a .stands)) (t .long); number = rw m at (t .number); small = rw m at (t .small); valid = rw n at (t .valid); above = rw n at (t .above) }
 
   pub file-ordered : {name : NameRef} {o q : Order} → Names src name (nameIn src x) → orderOf o ≡ cmpName (nameOf src (p .node .file)) (nameOf src name) → o ≡ q → cmpName (nameOf src (p .node .file)) (nameIn src x) ≡ orderOf q
   file-ordered n c e = found (nameOf src (p .node .file)) (nameIn src x) n c e

@@ -18,9 +18,13 @@ use store::Table;
 
 // "At most 16 directories, 128 files, 32 staging files, 6,824 log bytes; so at most 19,262 bytes."
 const DIR_LIMIT: usize = 16;
+
 const FILE_LIMIT: usize = 128;
+
 const STAGING_LIMIT: usize = 32;
+
 const LOG_LIMIT: usize = 6_824;
+
 const IMAGE_LIMIT: usize = 19_262;
 
 const NO_LOG: LogRef = LogRef {
@@ -289,31 +293,24 @@ fn read_mark(src: &[u8], at: usize) -> MarkPart
             next: at,
         };
     }
-    let start = x.start;
-    let end = x.end;
+    if x.start < x.end {
+        return MarkPart {
+            ok: false,
+            mark: false,
+            next: at,
+        };
+    }
     MarkPart {
-        ok: start == end,
+        ok: true,
         mark: true,
-        next: end,
+        next: x.end,
     }
 }
 
-fn all(a: bool, b: bool, c: bool, d: bool, e: bool) -> bool
-    ensures { λ r. ⌜ r ≡ (a && (b && (c && (d && e)))) ⌝ }
+fn both(a: bool, b: bool) -> bool
+    ensures { λ r. ⌜ r ≡ (a && b) ⌝ }
 {
-    if !a {
-        return false;
-    }
-    if !b {
-        return false;
-    }
-    if !c {
-        return false;
-    }
-    if !d {
-        return false;
-    }
-    e
+    if a { b } else { false }
 }
 
 // "A store image is, in this order": each part behind the one before, and nothing behind the last.
@@ -325,7 +322,9 @@ fn read_image(src: &[u8]) -> Decoded
     let g = read_nodes(src, t.next, true);
     let l = read_log(src, g.next);
     let m = read_mark(src, l.next);
-    let ok = all(t.ok, g.ok, l.ok, m.ok, m.next == src.len());
+    let listings = both(t.ok, g.ok);
+    let tail = both(l.ok, both(m.ok, m.next == src.len()));
+    let ok = both(listings, tail);
     let tree = t.table;
     let staging = g.table;
     let log = l.log;

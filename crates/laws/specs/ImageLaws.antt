@@ -16,7 +16,7 @@ use Rattle.model.specs.Field.{littleEndian, fromLittleEndian, Field, encodeFiel
 use Rattle.model.specs.Store.{Store, dirs, fileCount, validNumber, validNode, validNodes, validStaged, ascending, wellFormed}
 use Rattle.model.specs.Image.{nodeField, stagedField, logField, markField, imageFields, encode, numbered, treeOf, stagingOf, logOf, storeOf, decode}
 use Rattle.laws.specs.Tests.{and-both, and-made, leb-le, le-leb, eqb-eq, same-eq, same-refl, All, all-append, all-of, of-all, all-map}
-use Rattle.laws.specs.FieldLaws.{le-four, Short, split-join}
+use Rattle.laws.specs.FieldLaws.{le-four, Short, split-join, encode-append}
 
 pub valid-length : (n : Name) → validName n ≡ true → (1 ≤ length n) × (length n ≤ 64)
 unfolding validName
@@ -184,6 +184,11 @@ tail-stood s = go (s .log) (s .openMark)
 pub regroup : (s : Store) → imageFields s ≡ map nodeField (s .tree) ++ (map stagedField (s .staging) ++ tail s)
 unfolding imageFields
 regroup s = simp append-assoc
+
+-- "A store image is, in this order": the bytes of its parts.
+pub encode-parts : (s : Store) → encode s ≡ encodeFields (map nodeField (s .tree)) ++ (encodeFields (map stagedField (s .staging)) ++ (encodeFields (logField (s .log)) ++ encodeFields (markField (s .openMark))))
+unfolding encode
+encode-parts s = ap encodeFields (regroup s) ∙ simp encode-append
 
 pub read-fields : (s : Store) → wellFormed s ≡ true → storeOf (imageFields s) ≡ s
 unfolding storeOf

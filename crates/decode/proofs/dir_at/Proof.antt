@@ -66,6 +66,7 @@ returns-4 c = dir-broken (c .before .before .before .before .before .before .bef
 
 returns-5 : tie.Need-returns-5
 returns-5 c = dir-broken (c .before .before .before .before .before .before .before .before .before .before .before .before .pre) (λ t. lt≢gt (sym (t .above) ∙ dir-ordered (c .before .before .before .before .before .before .before .before .before .before .before .before .pre) (c .before .before .before .before .before .before .span .ensures) (c .before .before .compare .ensures) (c .enum-told3 .given .1)))
+
 pub dir-at-spec : {M : Type 1} → statement M
 dir-at-spec =
     tie.close

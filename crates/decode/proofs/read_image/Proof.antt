@@ -1,36 +1,39 @@
+-- `decode::read_image` meets its contract: the four parts, one behind the other, and nothing behind them.
+use mathlib.Core.Path.{ap, ap₂, _∙_}
+use mathlib.Core.Bool.{_&&_}
 use borrow.Author.Needs.{needs}
+use Rattle.decode.proofs.Whole.{decided}
 use Rattle.decode.proofs.read_image.Statement.{statement}
 use Rattle.decode.proofs.read_image.Tie as tie
-use Rattle.decode.proofs.read_image.Reads as reads
-use Rattle.decode.proofs.read_image.Lts as lts
-use Rattle.decode.proofs.all.Reads as all-reads
-use Rattle.decode.proofs.read_log.Reads as read-log-reads
-use Rattle.decode.proofs.read_mark.Reads as read-mark-reads
-use Rattle.decode.proofs.read_nodes.Reads as read-nodes-reads
 
--- src/lib.rt:324:9
 read-nodes-requires : tie.Need-read-nodes-requires
 read-nodes-requires c κs = search needs
 
--- src/lib.rt:325:9
 read-nodes-requires-2 : tie.Need-read-nodes-requires-2
 read-nodes-requires-2 c κs = search needs
 
--- src/lib.rt:326:9
 read-log-requires : tie.Need-read-log-requires
 read-log-requires c κs = search needs
 
--- src/lib.rt:327:9
 read-mark-requires : tie.Need-read-mark-requires
 read-mark-requires c κs = search needs
 
--- src/lib.rt:328:9
-all-requires : tie.Need-all-requires
-all-requires c κs = search needs
+both-requires : tie.Need-both-requires
+both-requires c κs = search needs
 
--- src/lib.rt:320:1
+both-requires-2 : tie.Need-both-requires-2
+both-requires-2 c κs = search needs
+
+both-requires-3 : tie.Need-both-requires-3
+both-requires-3 c κs = search needs
+
+both-requires-4 : tie.Need-both-requires-4
+both-requires-4 c κs = search needs
+
 returns : tie.Need-returns
-returns c = ?
+returns c =
+    decided (c .before .before .before .before .before .before .before .before .before .before .before .read-nodes .ensures) (c .before .before .before .before .before .before .before .before .before .before .read-nodes2 .ensures) (c .before .before .before .before .before .before .before .before .before .read-log .ensures) (c .before .before .before .before .before .before .before .before .read-mark .ensures) _
+    (c .before .before .before .both4 .ensures ∙ ap₂ _&&_ (c .before .before .before .before .before .before .before .both .ensures) (c .before .before .before .before .both3 .ensures ∙ ap (c .before .before .before .before .before .before .before .before .before .read-log .result .ok &&_) (c .before .before .before .before .before .both2 .ensures)))
 
 pub read-image-spec : {M : Type 1} → statement M
 read-image-spec =
@@ -40,5 +43,8 @@ read-image-spec =
     read-nodes-requires-2
     read-log-requires
     read-mark-requires
-    all-requires
+    both-requires
+    both-requires-2
+    both-requires-3
+    both-requires-4
     returns)

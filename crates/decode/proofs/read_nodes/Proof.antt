@@ -1,65 +1,54 @@
+-- `decode::read_nodes` meets its contract. The invariant: what was read, and that the rest belongs to it (`Progress`). The measure is what is
+-- left of the bytes.
+use Prim.Native.Nat.{_-_}
+use native.Mathlib.Omega.{arith}
+use lib.ListN.{length}
+use borrow.Author.Needs.{needs}
+use Rattle.decode.proofs.Progress.{Progress, begin, appends, goes-on, stops, breaks, is-node, is-other, is-broken}
 use Rattle.decode.proofs.read_nodes.Statement.{statement}
 use Rattle.decode.proofs.read_nodes.Tie as tie
-use Rattle.decode.proofs.read_nodes.Reads as reads
-use Rattle.decode.proofs.read_nodes.Lts as lts
-use Rattle.decode.proofs.next_node.Reads as next-node-reads
-use Rattle.spans.proofs.empty.Reads as empty-reads
-use Rattle.store.proofs.append.Reads as append-reads
-use Rattle.store.proofs.empty.Reads as empty-reads′
 
 abbrev Inv-loop : tie.InvT-loop
-Inv-loop src at staged t₀ last₀ t last = ?
+Inv-loop src at staged t₀ last₀ t last = Progress staged src at t last
 
 abbrev μ-loop : tie.MeasureT-loop
-μ-loop src at staged t₀ last₀ t last = ?
+μ-loop src at staged t₀ last₀ t last = length src - last .next
 
--- src/lib.rt:192:9
 empty-requires : tie.Need-empty-requires Inv-loop μ-loop
-empty-requires c κs = ?
+empty-requires c κs = search needs
 
--- src/lib.rt:193:9
 empty-requires-2 : tie.Need-empty-requires-2 Inv-loop μ-loop
-empty-requires-2 c κs = ?
+empty-requires-2 c κs = search needs
 
--- src/lib.rt:204:5
 loop-holds : tie.Need-loop-holds Inv-loop μ-loop
-loop-holds c = ?
+loop-holds c = begin (c .before .empty .ensures _) (c .empty2 .ensures _) (c .before .before .before .pre .1)
 
--- src/lib.rt:205:13
 next-node-requires : tie.Need-next-node-requires Inv-loop μ-loop
-next-node-requires c κs = ?
+next-node-requires c κs = (c .before .before .before .before .pre .0, c .loop .inv .spot)
 
--- src/lib.rt:207:22
 enum-known-n : tie.Need-enum-known-n Inv-loop μ-loop
-enum-known-n c = ?
+enum-known-n c = search needs
 
--- src/lib.rt:209:17
 append-requires : tie.Need-append-requires Inv-loop μ-loop
-append-requires c κs = ?
+append-requires c κs = appends (c .before .before .before .before .before .loop .inv) (is-node _ (c .before .before .before .before .next-node .ensures) (c .before .before .n .given .1))
 
--- src/lib.rt:204:5
 loop-less : tie.Need-loop-less Inv-loop μ-loop
-loop-less c = ?
+loop-less c = let f = is-node _ (c .before .before .before .before .before .next-node .ensures) (c .before .before .before .n .given .1) in omega (arith, f .moved, f .spot .within)
 
--- src/lib.rt:204:5
 loop-again : tie.Need-loop-again Inv-loop μ-loop
-loop-again c = ?
+loop-again c = goes-on (c .before .before .before .before .before .before .loop .inv) (is-node _ (c .before .before .before .before .before .next-node .ensures) (c .before .before .before .n .given .1)) (c .append .ensures)
 
--- src/lib.rt:213:17
 enum-told : tie.Need-enum-told Inv-loop μ-loop
-enum-told c = ?
+enum-told c = search needs
 
--- src/lib.rt:213:17
 returns : tie.Need-returns Inv-loop μ-loop
-returns c = ?
+returns c = stops (c .before .before .before .loop .inv) (is-other _ (c .before .before .next-node .ensures) (c .enum-told .given .1))
 
--- src/lib.rt:220:17
 enum-told-2 : tie.Need-enum-told-2 Inv-loop μ-loop
-enum-told-2 c = ?
+enum-told-2 c = search needs
 
--- src/lib.rt:220:17
 returns-2 : tie.Need-returns-2 Inv-loop μ-loop
-returns-2 c = ?
+returns-2 c = breaks (c .before .before .before .loop .inv) (is-broken _ (c .before .before .next-node .ensures) (c .enum-told2 .given .1))
 
 pub read-nodes-spec : {M : Type 1} → statement M
 read-nodes-spec =

@@ -18,8 +18,9 @@ use Rattle.model.specs.Plan.{removeStandingLog, removeStagingFiles, inTurn, run
 use Rattle.cut_rule.specs.Words.{settled, Plain}
 use Rattle.laws.specs.StoreLaws.{Bare}
 use Rattle.laws.specs.NameLaws.{original-nil}
-use Rattle.cut_rule.specs.Names.{key-apart, dirs-in, dirs-has, files-has, any-map}
-use Rattle.cut_rule.specs.Walk.{runOver, applyAll-seqOver, applyAll-busy, applyAll-bare, staging-gone, withStaging, Clears, walk, Each, Runs, runs-over}
+use Rattle.laws.specs.Listings.{key-apart, dirs-in, dirs-has, files-has, any-map}
+use Rattle.laws.specs.Runs.{Runs, runs-over}
+use Rattle.cut_rule.specs.Walk.{runOver, applyAll-seqOver, applyAll-busy, applyAll-bare, staging-gone, withStaging, Clears, walk, Each}
 use Rattle.cut_rule.specs.Inv.{Inv, Nothing}
 use Rattle.cut_rule.specs.Recover.{restore-all}
 

@@ -19,11 +19,12 @@ use Rattle.model.specs.Log.{Journal, absent, recording, committing, journal, wh
 use Rattle.model.specs.Plan.{removeStagingFiles, inTurn, run, opSteps, undoSteps, removeBackups, syncExisting, firstNamings, collectionOf, firstFault, commitFault, operationSteps, commitParts, commitPlan, withoutMark, withoutMarkAtEnd, committedAt, recovered, recoverPlan, recoverFault}
 use Rattle.model.specs.Store.{Store, stagingNames}
 use Rattle.model.specs.Step.{Step, rewriteHeader, syncStaging, syncLog, removeLog, syncJournal, syncCollections, makeDirectory, renameFile, moveStaged, removeStaging, syncDirectory, apply, applyAll, Fault, fails, stepFault}
-use Rattle.cut_rule.specs.LogLaws.{mark-journal, recorded-stands, committed-stands}
+use Rattle.laws.specs.LogLaws.{mark-journal, recorded-stands, committed-stands}
 use Rattle.laws.specs.StoreLaws.{Bare}
 use Rattle.laws.specs.NameLaws.{original-backup, original-some, original-nil, original-named}
-use Rattle.cut_rule.specs.Names.{key-apart, any-map, any-append, any-reverse, any-unreverse, any-of-map, any-to-map, any-find}
-use Rattle.cut_rule.specs.Walk.{runOver, applyAll-append, applyAll-seqOver, applyAll-bare, Runs, runs-take, runs-end, runs-append, runs-over}
+use Rattle.laws.specs.Listings.{key-apart, any-map, any-append, any-reverse, any-unreverse, any-of-map, any-to-map, any-find}
+use Rattle.laws.specs.Runs.{applyAll-append, Runs, runs-take, runs-end, runs-append, runs-over, runs-map, fault-append}
+use Rattle.cut_rule.specs.Walk.{runOver, applyAll-seqOver, applyAll-bare}
 use Rattle.cut_rule.specs.Inv.{Kept, kept, new, backed, Inv, Nothing, inv-rename, inv-move, inv-dir}
 use Rattle.cut_rule.specs.Recover.{Hits, GoodOp, undo-all, rename-tree}
 use Rattle.cut_rule.specs.Clean.{End, clean-runs, recover-recording, recover-end, recover-committing}
@@ -44,19 +45,6 @@ isRename (Step.removeFile d f) = 0
 isRename (Step.removeDirectory d) = 0
 isRename (removeStaging k) = 0
 isRename (syncDirectory d) = 0
-
-runs-map : (P Q : List Step → Store → Type 0) → ((x : List Step) (u : Store) → P x u → Q x u) → (pre xs : List Step) (s : Store) → Runs P pre xs s → Runs Q pre xs s
-runs-map P Q f pre [] s h = f pre s h
-runs-map P Q f pre (x ∷ xs) s h = (f pre s (h .0), runs-map P Q f (pre ++ x ∷ []) xs (apply x s) (h .1))
-
--- A plan without a failing step.
-pub fault-append : (xs ys : List Step) (u : Store) → firstFault (xs ++ ys) u ≡ none → (firstFault xs u ≡ none) × (firstFault ys (applyAll xs u) ≡ none)
-fault-append [] ys u h = (refl, h)
-fault-append (x ∷ xs) ys u h = go (stepFault x u) (λ k. fault-append xs ys (apply x u) k) h
-  where
-    go : (q : Option Fault) → (firstFault (xs ++ ys) (apply x u) ≡ none → (firstFault xs (apply x u) ≡ none) × (firstFault ys (applyAll xs (apply x u)) ≡ none)) → caseOption q (firstFault (xs ++ ys) (apply x u)) some ≡ none → (caseOption q (firstFault xs (apply x u)) some ≡ none) × (firstFault ys (applyAll xs (apply x u)) ≡ none)
-    go none ih h = ih h
-    go (some n) ih h = none≢some (sym h)
 
 move-stands : (f d k : Name) (xs : List Step) (u : Store) → firstFault (moveStaged f d k ∷ xs) u ≡ none → Has ([], f) (u .staging)
 unfolding stepFault

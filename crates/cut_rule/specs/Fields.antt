@@ -24,12 +24,12 @@ use Rattle.model.specs.Plan.{inTurn, run, opSteps, removeBackupFile, removeBack
 use Rattle.model.specs.Answers.{Answer, answer, refusal, fieldAt, stepAnswer, commitStep, recover}
 use Rattle.laws.specs.Tests.{and-both, leb-le, All, nil≢cons}
 use Rattle.laws.specs.OperationLaws.{ValidOp, journal-valid}
-use Rattle.cut_rule.specs.Names.{any-append}
-use Rattle.cut_rule.specs.Walk.{Runs, runs-end, runs-append, runs-over}
+use Rattle.laws.specs.Listings.{any-append}
+use Rattle.laws.specs.Runs.{Runs, runs-end, runs-append, runs-over}
 use Rattle.cut_rule.specs.Words.{NoneWaits, expectedFiles, settled}
 use Rattle.cut_rule.specs.Demand.{Conditions, cutAt}
 use Rattle.cut_rule.specs.Commit.{isRename}
-use Rattle.cut_rule.specs.Keep.{valid-bytes}
+use Rattle.laws.specs.Keep.{valid-bytes}
 use Rattle.cut_rule.specs.Theorem.{Committed, committed, stepped, image-cut-rule}
 
 -- The rename of a written key to its backup name.

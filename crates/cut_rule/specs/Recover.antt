@@ -18,7 +18,7 @@ use Rattle.model.specs.Step.{Step, removeFile, renameFile, removeDirectory, ren
 use Rattle.model.specs.Plan.{inTurn, run, undoSteps, restoreFile, restoreDirectory, removeBackupFile, removeBackupsIn, restoreBackups, removeBackups, recoverParts, recoverPlan, recovered, withoutMark}
 use Rattle.cut_rule.specs.Words.{settled, Plain}
 use Rattle.laws.specs.NameLaws.{original-backup, original-some, original-nil, original-named}
-use Rattle.cut_rule.specs.Names.{key-apart, dirs-in, dirs-has, files-has, files-in, files-once, Once, any-map}
+use Rattle.laws.specs.Listings.{key-apart, dirs-in, dirs-has, files-has, files-in, files-once, Once, any-map}
 use Rattle.cut_rule.specs.Walk.{runOver, applyAll-seqOver, applyAll-busy, staging-gone, withStaging, Clears, walk, Each}
 use Rattle.cut_rule.specs.Inv.{Kept, kept, new, backed, Inv, Nothing, inv-undo, inv-leave, inv-restore, inv-dir, inv-final}
 

@@ -27,12 +27,12 @@ use Rattle.laws.specs.Tests.{leb-le, le-leb, All, nil≢cons}
 use Rattle.laws.specs.ImageLaws.{decode-encode, decode-only, log-stood}
 use Rattle.laws.specs.StoreLaws.{Good, good, well-formed, bare}
 use Rattle.laws.specs.OperationLaws.{ValidOp, journal-valid}
-use Rattle.cut_rule.specs.LogLaws.{found-whole}
+use Rattle.laws.specs.LogLaws.{found-whole}
 use Rattle.cut_rule.specs.Words.{Plain, Transaction, NoneWaits, expectedFiles, settled}
 use Rattle.cut_rule.specs.Demand.{EndsIn, NoExtension, Conditions, cutAt, CutRuleOverImages}
 use Rattle.laws.specs.NameLaws.{strip-some}
 use Rattle.cut_rule.specs.Commit.{cut-rule, cut-calm, close-log}
-use Rattle.cut_rule.specs.Keep.{valid-named, commit-keeps}
+use Rattle.laws.specs.Keep.{valid-named, commit-keeps}
 
 -- A name that ends in neither has neither extension.
 no-ext : (e n : Name) → (EndsIn e n → ⊥) → stripExtension e n ≡ none

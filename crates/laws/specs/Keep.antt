@@ -20,14 +20,14 @@ use Rattle.model.specs.Log.{journal, opsOf}
 use Rattle.model.specs.Store.{Store, dirs, files, fileCount, stagingKey, stagingNames, validNumber}
 use Rattle.model.specs.Step.{Step, rewriteHeader, syncStaging, syncLog, removeLog, syncJournal, syncCollections, makeDirectory, renameFile, moveStaged, renameDirectory, copyFile, removeFile, removeDirectory, removeStaging, syncDirectory, apply, applyAll, Fault, fails, full, nameTooLong, newFile, stepFault}
 use Rattle.model.specs.Plan.{inTurn, run, opSteps, removeBackupFile, removeBackupsIn, removeBackups, removeStagingFiles, collectionOf, firstNamings, syncExisting, firstFault, commitFault, operationSteps, commitParts, commitPlan}
 use Rattle.laws.specs.Tests.{and-both, and-made, leb-le, le-leb, All, nil≢cons}
 use Rattle.laws.specs.TreeLaws.{NodeGood, size, isFile, isDir, one, file-size, dir-size, size-put-le, size-put-has, size-del-has, invalid-nil}
 use Rattle.laws.specs.StoreLaws.{Tree, Staging, Good, tree-put, tree-del, tree-drop, tree-move, staging-del, log-marked}
 use Rattle.laws.specs.OperationLaws.{ValidOp, journal-valid}
 use Rattle.laws.specs.NameLaws.{original-backup, original-nil, original-named}
-use Rattle.cut_rule.specs.Names.{files-in}
-use Rattle.cut_rule.specs.Walk.{Runs, runs-take, runs-end, runs-append, runs-over}
-use Rattle.cut_rule.specs.Commit.{fault-append}
+use Rattle.laws.specs.Listings.{files-in}
+use Rattle.laws.specs.Runs.{Runs, runs-take, runs-end, runs-append, runs-over}
+use Rattle.laws.specs.Runs.{fault-append}
 
 -- A backup name that is not too long is valid.
 same-false : (a b : Name) → (a ≡ b → ⊥) → sameBytes a b ≡ false

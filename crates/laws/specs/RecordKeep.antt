@@ -19,13 +19,13 @@ use Rattle.model.specs.Log.{Journal, absent, recording, journal, whole, header,
 use Rattle.model.specs.Store.{Store, files, validNumber}
 use Rattle.model.specs.Step.{renameFile, apply}
 use Rattle.model.specs.Record.{Outcome, refuse, give, transaction, beginTransaction, discard, recordInto, appended, require, hasDir, recordWrite, otherCase, caseRenamed, recordDelete, recordDeleteAll, recordCreate, recordDeleteCollection, recordCopy}
 use Rattle.laws.specs.Tests.{and-both, leb-le}
 use Rattle.laws.specs.TreeLaws.{size, one, length-size, size-put-le}
 use Rattle.laws.specs.StoreLaws.{Tree, Staging, StagedGood, Good}
 use Rattle.laws.specs.OperationLaws.{ValidOp}
 use Rattle.laws.specs.LengthLaws.{appended-length}
-use Rattle.cut_rule.specs.LogLaws.{found-whole}
-use Rattle.cut_rule.specs.Keep.{valid-named, keep-rename, files-named}
+use Rattle.laws.specs.LogLaws.{found-whole}
+use Rattle.laws.specs.Keep.{valid-named, keep-rename, files-named}
 
 -- What is given is well-formed.
 abbrev pub Gives : Outcome → Type 0

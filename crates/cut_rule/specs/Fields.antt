@@ -29,7 +29,7 @@ use Rattle.laws.specs.Runs.{Runs, runs-end, runs-append, runs-over}
 use Rattle.cut_rule.specs.Words.{NoneWaits, expectedFiles, settled}
 use Rattle.cut_rule.specs.Demand.{Conditions, cutAt}
 use Rattle.cut_rule.specs.Commit.{isRename}
-use Rattle.laws.specs.Keep.{valid-bytes}
+use Rattle.laws.specs.ValidNames.{valid-bytes}
 use Rattle.cut_rule.specs.Theorem.{Committed, committed, stepped, image-cut-rule}
 
 -- The rename of a written key to its backup name.

@@ -32,7 +32,8 @@ use Rattle.cut_rule.specs.Words.{Plain, Transaction, NoneWaits, expected
 use Rattle.cut_rule.specs.Demand.{EndsIn, NoExtension, Conditions, cutAt, CutRuleOverImages}
 use Rattle.laws.specs.NameLaws.{strip-some}
 use Rattle.cut_rule.specs.Commit.{cut-rule, cut-calm, close-log}
-use Rattle.laws.specs.Keep.{valid-named, commit-keeps}
+use Rattle.laws.specs.ValidNames.{Valid, valid-named}
+use Rattle.laws.specs.WellFormed.{commit-keeps}
 
 -- A name that ends in neither has neither extension.
 no-ext : (e n : Name) → (EndsIn e n → ⊥) → stripExtension e n ≡ none
@@ -75,13 +76,8 @@ named-writes (v ∷ ws) h w (inl e) = rw e (valid-named (v .key) (h .0 .1))
 named-writes (v ∷ ws) h w (inr i) = named-writes ws (h .1) w i
 
 -- The store at a cut of a commit without a failing step is well-formed.
-good-closed : (m : ℕ) (u : Store) → Good u → Good (withoutMarkAtEnd m u)
-good-closed zero u g = record { tree = g .tree; staging = g .staging; log = g .log }
-good-closed (suc m) u g = g
-
-cut-good : (s : Store) (n : ℕ) → Good s → commitFault s ≡ none → wellFormed (committedAt n s) ≡ true
-unfolding committedAt
-cut-good s n g f = well-formed _ (good-closed (length (commitPlan s) - n) (applyAll (take n (commitPlan s)) s) (commit-keeps s g f n))
+cut-good : (s : Store) (n : ℕ) → Good Valid s → commitFault s ≡ none → wellFormed (committedAt n s) ≡ true
+cut-good s n g f = well-formed _ (commit-keeps s g f n)
 
 -- What commit's step entry hands back.
 pub stepped : (b : Bytes) (s : Store) (n : ℕ) → decode b ≡ some s → Committed s → commitStep n b imageRoom stepRoom ≡ stepAnswer n (commitPlan s) (committedAt n s)
@@ -113,7 +109,7 @@ commit-steps b s n d c e =
     record { planned = p .1; image = i; reads = ap decode i ∙ decode-encode (committedAt n s) w; wellMade = w }
 
 module _ (b : Bytes) (s : Store) (ws : List Write) (C : Conditions b s ws) where
-  start : Good s
+  start : Good Valid s
   start = good s (decode-only b s (C .holds) .1)
 
   at-commit : Committed s

@@ -10,10 +10,11 @@ use Rattle.model.specs.Order.{Cmp, lt, eq, gt, Name, Key, cmpNat, cmpName}
 use Rattle.laws.specs.OrderLaws.{natLaws, nameLaws, lt≢eq, gt≢eq}
 use Rattle.model.specs.Order.{caseCmp}
 use Rattle.model.specs.Map.{Map, Node, look, del, Has}
-use Rattle.laws.specs.MapLaws.{key-dec, none≢some, some-inj, look-head, look-tail, look-nil, look-del-same, look-del-other, Sorted, above-none}
+use Rattle.laws.specs.MapLaws.{key-dec, none≢some, some-inj, look-head, look-tail, look-nil, look-del-same, look-del-other, Sorted, above-none, look-all}
 use Rattle.model.specs.Base.{caseOption, Any, In, ifEmpty}
-use Rattle.laws.specs.Tests.{nil≢cons}
-use Rattle.laws.specs.StoreLaws.{Bare}
+use Rattle.laws.specs.Tests.{nil≢cons, all-in, all-map}
+use Rattle.laws.specs.ValidNames.{Valid}
+use Rattle.laws.specs.StoreLaws.{Tree, Staging, StagedGood, Bare}
 use Rattle.model.specs.Name.{lastDot, extension, stripExtension, backupName, originalName, backupExtension}
 use Rattle.model.specs.Store.{dirs, files, stagingKey, stagingNames}
 
@@ -136,6 +137,27 @@ files-in d f (n ∷ r) p = go (λ q. files-in d f r q) (cmpName d (n .0 .0)) ref
     go ih eq e (y ∷ ys) e′ (inr q) = has-cons (d, f) n r (ih q)
     go ih gt e l e′ q = has-cons (d, f) n r (ih q)
 
+-- A listed file has a name; what is listed has the property of the tree's names.
+pub files-named : (d : Name) (t : Map) (f : Name) → In f (files d t) → f ≡ [] → ⊥
+unfolding files
+files-named d (n ∷ r) f i e = go (λ j. files-named d r f j e) (cmpName d (n .0 .0)) (n .0 .1) i
+  where
+    go : (In f (files d r) → ⊥) → (c : Cmp) (l : Name) → In f (caseCmp c (files d r) (ifEmpty l (files d r) (l ∷ files d r)) (files d r)) → ⊥
+    go ih lt l j = ih j
+    go ih eq [] j = ih j
+    go ih eq (y ∷ ys) (inl p) = nil≢cons (sym e ∙ p)
+    go ih eq (y ∷ ys) (inr j) = ih j
+    go ih gt l j = ih j
+
+pub listed-dir : {N : Name → Type 0} (t : Map) → Tree N t → (d : Name) → In d (dirs t) → N d
+listed-dir t g d i = let h = dirs-in d t i in g .node d [] (h .0) (h .1) .dir
+
+pub listed-file : {N : Name → Type 0} (t : Map) → Tree N t → (d f : Name) → In f (files d t) → N f
+listed-file t g d f i = let h = files-in d f t i in g .node d f (h .0) (h .1) .name (files-named d t f i)
+
+pub listed-staging : (m : Map) → Staging m → (f : Name) → In f (stagingNames m) → Valid f
+listed-staging m g = all-in Valid (stagingNames m) (all-map (λ n. StagedGood (n .0) (n .1)) Valid (λ n. n .0 .1) (λ n h. h .name) m (look-all StagedGood m (g .sorted) (g .node)))
+
 -- No element twice.
 abbrev pub Once : {A : Type 0} → List A → Type 0
 Once [] = Unit {0}
@@ -157,6 +179,21 @@ files-once d (n ∷ r) s = go (files-once d r (s .1)) (cmpName d (n .0 .0)) refl
             let k : n .0 ≡ (d, y ∷ ys) = λ i. (sym (nameLaws .equal d (n .0 .0) e) i, e′ i) in
             none≢some (sym (above-none (n .0) r (s .0)) ∙ ap (λ (j : Key). look j r) k ∙ h .1)
     go ih gt e l e′ = ih
+
+pub dirs-once : (t : Map) → Sorted t → Once (dirs t)
+unfolding dirs
+dirs-once [] s = tt
+dirs-once (n ∷ r) s = go (dirs-once r (s .1)) (n .0 .1) refl
+  where
+    go : Once (dirs r) → (l : Name) → n .0 .1 ≡ l → Once (ifEmpty l (n .0 .0 ∷ dirs r) (dirs r))
+    go ih [] e = (twice, ih)
+      where
+        twice : In (n .0 .0) (dirs r) → ⊥
+        twice q =
+            let h = dirs-in (n .0 .0) r q in
+            let k : n .0 ≡ (n .0 .0, []) = λ i. (n .0 .0, e i) in
+            none≢some (sym (above-none (n .0) r (s .0)) ∙ ap (λ (j : Key). look j r) k ∙ h .1)
+    go ih (y ∷ ys) e = ih
 
 staging-listed : (k : Key) (m : Map) → Bare m → Has k m → In k (map stagingKey (stagingNames m))
 unfolding look

@@ -7,6 +7,7 @@ use mathlib.Core.Option.{Option, none, some}
 use mathlib.Core.Logic.{_⊎_, inl, inr}
 use Rattle.model.specs.Order.{Cmp, lt, eq, gt, Key, cmpKey, caseCmp}
 use Rattle.model.specs.Map.{Node, Map, look, put, del, Has}
+use Rattle.laws.specs.Tests.{All}
 use Rattle.laws.specs.OrderLaws.{flip, keyLaws, lt≢gt, lt≢eq, gt≢eq}
 
 -- All keys of the map are above k.
@@ -165,3 +166,18 @@ del-absent k m s h = ext (del k m) m (sorted-del k m s) s λ j. go j (key-dec j 
     go : (j : Key) → Dec (j ≡ k) → look j (del k m) ≡ look j m
     go j (yes p) = rw p (look-del-same k m ∙ sym h)
     go j (no p) = look-del-other k j m p
+
+-- What holds of every look, and of every node of a list.
+pub all-look : (P : Key → ℕ → Type 0) (m : Map) → All (λ n. P (n .0) (n .1)) m → (k : Key) (x : ℕ) → look k m ≡ some x → P k x
+all-look P [] h k x e = unfold look in (none≢some e)
+all-look P (n ∷ r) h k x e = go (λ e. all-look P r (h .1) k x e) (key-dec k (n .0))
+  where
+    go : (look k r ≡ some x → P k x) → Dec (k ≡ n .0) → P k x
+    go ih (yes z) =
+        let c : x ≡ n .1 = some-inj (sym e ∙ rw z (look-head n r)) in
+        rw (z, c) (h .0)
+    go ih (no z) = ih (sym (look-tail k n r z) ∙ e)
+
+pub look-all : (P : Key → ℕ → Type 0) (m : Map) → Sorted m → ((k : Key) (x : ℕ) → look k m ≡ some x → P k x) → All (λ n. P (n .0) (n .1)) m
+look-all P [] s h = tt
+look-all P (n ∷ r) s h = (h (n .0) (n .1) (look-head n r), look-all P r (s .1) (λ k x e. h k x (look-tail k n r (λ z. lt≢eq (sym (s .0 k x e) ∙ rw z (keyLaws .reflexive (n .0)))) ∙ e)))

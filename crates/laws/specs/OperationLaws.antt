@@ -9,22 +9,26 @@ use lib.ListN.{length, take, drop, getD, getElem?}
 use lib.Dec.{leb, eqb}
 use Rattle.laws.specs.MapLaws.{none≢some, some-inj}
 use Rattle.model.specs.Base.{Bytes, caseOption, if_then_else_, sameBytes, allOf}
+use Rattle.model.specs.Order.{Name}
 use Rattle.model.specs.Name.{validName}
 use Rattle.model.specs.Field.{Field, encodeField, encodeFields, fieldsFrom, decodeFields}
 use Rattle.model.specs.Operation.{Op, Write, write, delete, deleteAll, createCollection, deleteCollection, copyCollection, fieldTable, fieldTags, kind, values, tagged, encodePayload, makers, validValue, opOfFields, decodePayload}
 use Rattle.model.specs.Log.{Entries, Ending, walk, entries, firstPayload, Journal, absent, recording, committing, byStatus, readJournal, journal, stop, after, truncated, undecodable, validHeader, opsOf}
 use Rattle.laws.specs.Tests.{and-both, and-made, eqb-eq, same-eq, same-refl, All, all-of, of-all}
 use Rattle.laws.specs.FieldLaws.{Short, split-join, Byte, split-only}
-use Rattle.laws.specs.ImageLaws.{valid-length}
+use Rattle.laws.specs.ValidNames.{Valid, valid-length}
 
--- All names of an operation are valid.
+-- All names of an operation have a property; the name of a staging file is valid in any case.
+abbrev pub OpNames : (Name → Type 0) → Op → Type 0
+OpNames N (write w) = N (w .collection) × N (w .key) × Valid (w .staged)
+OpNames N (delete c k) = N c × N k
+OpNames N (deleteAll c) = N c
+OpNames N (createCollection c) = N c
+OpNames N (deleteCollection c) = N c
+OpNames N (copyCollection a b x) = N a × N b
+
 abbrev pub ValidOp : Op → Type 0
-ValidOp (write w) = (validName (w .collection) ≡ true) × (validName (w .key) ≡ true) × (validName (w .staged) ≡ true)
-ValidOp (delete c k) = (validName c ≡ true) × (validName k ≡ true)
-ValidOp (deleteAll c) = validName c ≡ true
-ValidOp (createCollection c) = validName c ≡ true
-ValidOp (deleteCollection c) = validName c ≡ true
-ValidOp (copyCollection a b x) = (validName a ≡ true) × (validName b ≡ true)
+ValidOp o = OpNames Valid o
 
 tags-cons : (f : Field) (fs : List Field) (t : ℕ) (ts : List ℕ) → map (λ g. g .tag) (f ∷ fs) ≡ t ∷ ts → (f .tag ≡ t) × (map (λ g. g .tag) fs ≡ ts)
 tags-cons f fs t ts e = ((let z : f .tag ≡ t = cc in z), (let z : map (λ g. g .tag) fs ≡ ts = cc in z))

@@ -101,3 +101,8 @@ module _ (P : List Step → Store → Type 0) where
 pub runs-map : (P Q : List Step → Store → Type 0) → ((x : List Step) (u : Store) → P x u → Q x u) → (pre xs : List Step) (s : Store) → Runs P pre xs s → Runs Q pre xs s
 runs-map P Q f pre [] s h = f pre s h
 runs-map P Q f pre (x ∷ xs) s h = (f pre s (h .0), runs-map P Q f (pre ++ x ∷ []) xs (apply x s) (h .1))
+
+-- Two plans, the second with another promise, which the first one's implies.
+pub runs-then : (P Q : List Step → Store → Type 0) → ((x : List Step) (u : Store) → P x u → Q x u) → (pre xs ys : List Step) (s : Store) →
+    Runs P pre xs s → (P (pre ++ xs) (applyAll xs s) → Runs Q (pre ++ xs) ys (applyAll xs s)) → Runs Q pre (xs ++ ys) s
+runs-then P Q f pre xs ys s h k = runs-append Q pre xs ys s (runs-map P Q f pre xs s h) (k (runs-end P pre xs s h))

@@ -17,7 +17,8 @@ use Rattle.model.specs.Base.{ifEmpty, sameBytes, allOf}
 use Rattle.model.specs.Name.{validName}
 use Rattle.model.specs.Store.{dirs, fileCount, validNumber, validNode, validNodes, validStaged, belowFirst, ascending}
 use Rattle.laws.specs.Tests.{and-both, and-made, leb-le, le-leb, eqb-eq, same-eq, same-refl, All, all-of, of-all}
-use Rattle.laws.specs.ImageLaws.{valid-length, node-parts, file-parts, staged-parts}
+use Rattle.laws.specs.ValidNames.{Valid, valid-named}
+use Rattle.laws.specs.ImageLaws.{node-parts, file-parts}
 
 -- Ascending neighbours, and every key above those before it.
 below-lt : (c : Cmp) → caseCmp c true false false ≡ true → c ≡ lt
@@ -53,11 +54,11 @@ sorted-ascending (n ∷ r) s = and-made (belowFirst (n .0) r) (ascending r) (go 
     go [] a = refl
     go (m ∷ q) a = rw (a (m .0) (m .1) (look-head m q))
 
--- What is said of a node.
-pub record NodeGood (t : Map) (d f : Name) (x : ℕ) : Type 0 where
-  pub dir : validName d ≡ true
+-- What is said of a node, with the property N of names.
+pub record NodeGood (N : Name → Type 0) (t : Map) (d f : Name) (x : ℕ) : Type 0 where
+  pub dir : N d
   pub zeroed : f ≡ [] → x ≡ 0
-  pub name : (f ≡ [] → ⊥) → validName f ≡ true
+  pub name : (f ≡ [] → ⊥) → N f
   pub number : (f ≡ [] → ⊥) → validNumber x ≡ true
   pub inside : (f ≡ [] → ⊥) → Has (d, []) t
 
@@ -67,10 +68,6 @@ record NodeSaid (e : Name) (t : Map) (d f : Name) (x : ℕ) : Type 0 where
   name : (f ≡ [] → ⊥) → validName f ≡ true
   number : (f ≡ [] → ⊥) → validNumber x ≡ true
   inside : (f ≡ [] → ⊥) → (d ≡ e) ⊎ Has (d, []) t
-
-pub invalid-nil : {A : Type 0} → validName [] ≡ true → A
-unfolding validName
-invalid-nil e = absurd (false≢true e)
 
 cons≢nil : {A : Type 0} {x : A} {l : List A} → x ∷ l ≡ [] → ⊥
 cons≢nil {A} {x} {l} p = let z : _≡_ {A = ℕ} 0 1 = cc in omega arith
@@ -114,13 +111,13 @@ nodes-said e (n ∷ r) p d f x h =
         at (inl y) = old (n .0 .1) refl (q .1) y
         at (inr y) = inr (has (key-dec (d, []) (n .0)) y)
 
-pub nodes-good : (t : Map) → validNodes [] t ≡ true → (d f : Name) (x : ℕ) → look (d, f) t ≡ some x → NodeGood t d f x
+pub nodes-good : (t : Map) → validNodes [] t ≡ true → (d f : Name) (x : ℕ) → look (d, f) t ≡ some x → NodeGood Valid t d f x
 nodes-good t p d f x h =
     let s = nodes-said [] t p d f x h in
     record { dir = s .dir; zeroed = s .zeroed; name = s .name; number = s .number; inside = λ z. go (s .dir) (s .inside z) }
   where
     go : validName d ≡ true → (d ≡ []) ⊎ Has (d, []) t → Has (d, []) t
-    go v (inl z) = invalid-nil (rw z at v)
+    go v (inl z) = absurd (valid-named d v z)
     go v (inr z) = z
 
 -- Back: in a sorted tree every file stands behind its directory.
@@ -202,7 +199,7 @@ nodes-back e (n ∷ r) s b h =
             squeeze e (n .0 .0) g (n .0 .1) f (a (n .0) (n .1) (look-head n r)) q
 
         at : Edge e (n ∷ r) → n .0 .0 ≡ e
-        at (inl y) = invalid-nil (rw (z ∙ y) at (h .dir d f x l))
+        at (inl y) = absurd (valid-named d (h .dir d f x l) (z ∙ y))
         at (inr y) = on (y .0) (y .1) (key-dec (d, f) (n .0))
 
     own : (n .0 .1 ≡ [] → ⊥) → (n .0 .0 ≡ e) ⊎ Has (n .0 .0, []) (n ∷ r) → n .0 .0 ≡ e
@@ -227,7 +224,7 @@ nodes-back e (n ∷ r) s b h =
         let m = h .name (n .0 .0) (n .0 .1) (n .1) (look-head n r) z in
         (m .0, m .1, own z (h .inside (n .0 .0) (n .0 .1) (n .1) (look-head n r) z))
 
-pub good-nodes : (t : Map) → Sorted t → ((d f : Name) (x : ℕ) → look (d, f) t ≡ some x → NodeGood t d f x) → validNodes [] t ≡ true
+pub good-nodes : (t : Map) → Sorted t → ((d f : Name) (x : ℕ) → look (d, f) t ≡ some x → NodeGood Valid t d f x) → validNodes [] t ≡ true
 good-nodes t s h = nodes-back [] t s (inl refl) record {
   dir = λ d f x l. h d f x l .dir;
   zeroed = λ d x l. h d [] x l .zeroed refl;

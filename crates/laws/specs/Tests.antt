@@ -98,6 +98,10 @@ pub of-all : {A : Type 0} (p : A → Bool) (l : List A) → All (λ a. p a ≡ t
 of-all p [] h = refl
 of-all p (a ∷ l) h = and-made (p a) (allOf p l) (h .0) (of-all p l (h .1))
 
+pub all-every : {A : Type 0} {P : A → Type 0} → ((a : A) → P a) → (l : List A) → All P l
+all-every h [] = tt
+all-every h (a ∷ l) = (h a, all-every h l)
+
 pub all-imp : {A : Type 0} {P Q : A → Type 0} → ((a : A) → P a → Q a) → (l : List A) → All P l → All Q l
 all-imp h [] p = tt
 all-imp h (a ∷ l) p = (h a (p .0), all-imp h l (p .1))

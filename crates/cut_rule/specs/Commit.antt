@@ -21,8 +21,8 @@ use Rattle.model.specs.Store.{Store, stagingNames}
 use Rattle.model.specs.Step.{Step, rewriteHeader, syncStaging, syncLog, removeLog, syncJournal, syncCollections, makeDirectory, renameFile, moveStaged, removeStaging, syncDirectory, apply, applyAll, Fault, fails, stepFault}
 use Rattle.laws.specs.LogLaws.{mark-journal, recorded-stands, committed-stands}
 use Rattle.laws.specs.StoreLaws.{Bare}
-use Rattle.laws.specs.NameLaws.{original-backup, original-some, original-nil, original-named}
-use Rattle.laws.specs.Listings.{key-apart, any-map, any-append, any-reverse, any-unreverse, any-of-map, any-to-map, any-find}
+use Rattle.laws.specs.NameLaws.{original-backup, original-some, original-nil, original-named, key-apart}
+use Rattle.laws.specs.Listings.{any-map, any-append, any-reverse, any-unreverse, any-of-map, any-to-map, any-find}
 use Rattle.laws.specs.Runs.{applyAll-append, Runs, runs-take, runs-end, runs-append, runs-over, runs-map, fault-append}
 use Rattle.cut_rule.specs.Walk.{runOver, applyAll-seqOver, applyAll-bare}
 use Rattle.cut_rule.specs.Inv.{Kept, kept, new, backed, Inv, Nothing, inv-rename, inv-move, inv-dir}

@@ -1,15 +1,11 @@
 -- Walks over a list, by what they leave: the open mark, the staging files, the backups.
-use mathlib.Core.Path.{_≡_, refl, sym, _∙_, ap, ap₂, subst}
-use Prim.Native.Nat.{ℕ, zero, suc}
-use mathlib.Core.List.{List, [], _∷_, _++_, map, append-nil, append-assoc}
-use mathlib.Core.Option.{Option, none, some}
-use mathlib.Core.Bool.{Bool}
+use mathlib.Core.Path.{_≡_, refl, _∙_, ap}
+use mathlib.Core.List.{List, [], _∷_, map}
+use mathlib.Core.Option.{none, some}
 use mathlib.Core.Logic.{_⊎_, inl, inr}
-use lib.ListN.{take}
-use lib.Seq.{append-snoc}
 use Rattle.model.specs.Step
 use Rattle.model.specs.Order.{Name, Key}
-use Rattle.model.specs.Map.{Map, look, del}
+use Rattle.model.specs.Map.{Map, look}
 use Rattle.model.specs.Store.{Store, stagingKey, stagingNames}
 use Rattle.model.specs.Step.{Step, apply, applyAll, removeStaging}
 use Rattle.model.specs.Plan.{inTurn, removeStagingFiles}

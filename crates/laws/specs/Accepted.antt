@@ -3,7 +3,7 @@
 use mathlib.Core.Path.{_≡_, refl, sym, _∙_, ap}
 use Prim.Native.Nat.{ℕ}
 use native.Mathlib.Omega.{arith}
-use mathlib.Core.List.{List, [], _∷_}
+use mathlib.Core.List.{List}
 use mathlib.Core.Option.{Option, none, some}
 use mathlib.Core.Logic.{_⊎_, inl, inr}
 use lib.ListN.{length}
@@ -16,14 +16,14 @@ use Rattle.model.specs.Image.{encode, decode}
 use Rattle.model.specs.Step.{Fault, fails, full}
 use Rattle.model.specs.Plan.{commitFault, commitPlan, committedAt, recoveredAt, recovered}
 use Rattle.model.specs.Record.{Outcome, give, beginTransaction, discard, recordWrite, recordDelete, recordDeleteAll, recordCreate, recordDeleteCollection, recordCopy}
-use Rattle.model.specs.Answers.{Answer, refusal, answer, imageEntry, begin, write, delete, deleteAll, createCollection, deleteCollection, copyCollection, rollback, commitNumber, commit, recover, commitStep, recoverStep}
+use Rattle.model.specs.Answers.{Answer, refusal, imageEntry, begin, write, delete, deleteAll, createCollection, deleteCollection, copyCollection, rollback, commitNumber, commit, recover, commitStep, recoverStep}
 use Rattle.laws.specs.MapLaws.{some-inj}
 use Rattle.laws.specs.Tests.{All, all-imp}
 use Rattle.laws.specs.ImageLaws.{decode-encode}
 use Rattle.laws.specs.ValidNames.{Valid, DotBakBak}
 use Rattle.laws.specs.StoreLaws.{Good, well-formed}
 use Rattle.laws.specs.RecordLaws.{Gives, begin-keeps, rollback-keeps, write-keeps, delete-keeps, delete-all-keeps, create-keeps, delete-collection-keeps, copy-keeps}
-use Rattle.laws.specs.WellFormed.{NoneNamed, NoneNames, recover-keeps-valid, recover-keeps-named, recovered-at, commit-keeps, commit-keeps-named}
+use Rattle.laws.specs.WellFormed.{NoneNamed, NoneNames, recover-keeps-valid, recover-keeps-named, recovered-keeps, commit-keeps, commit-keeps-named}
 use Rattle.laws.specs.EntryLaws.{commitRefusals, recoverRefusals, commitStepRefusals, recoverStepRefusals, lent-good, on-entry, on-commit, on-recover, on-commit-step, on-recover-step}
 
 -- The image b was lent and the answer a given: b holds a store, a's image holds a store, and the second follows from the first.
@@ -144,7 +144,7 @@ commit-step-failed-accepted n b out stepOut h k = of-commit-step n b out stepOut
 -- Recovery and its steps: where nothing is restored, and unless one of the two names is there to be restored.
 pub recover-accepted : (b : Bytes) (out : ℕ) → NotCommitting b ⊎ NoDotBakBak b → recover b out .number ≡ 0 → Accepted (Is recovered) b (recover b out)
 recover-accepted b out h = on-recover (WithNumber 0 (Accepted (Is recovered) b)) b out (refused 0 (Accepted (Is recovered) b) recoverRefusals (omega arith)) λ s d z.
-    read-back b (Is recovered) s (recovered s) _ d refl (rw (← (recovered-at s)) (recovers b h s d _)) refl
+    read-back b (Is recovered) s (recovered s) _ d refl (recovered-keeps s (recovers b h s d)) refl
 
 pub recover-step-accepted : (n : ℕ) (b : Bytes) (out stepOut : ℕ) → NotCommitting b ⊎ NoDotBakBak b → recoverStep n b out stepOut .number ≡ 0 → Accepted (Is (recoveredAt n)) b (recoverStep n b out stepOut)
 recover-step-accepted n b out stepOut h = on-recover-step (WithNumber 0 (Accepted (Is (recoveredAt n)) b)) n b out stepOut (refused 0 (Accepted (Is (recoveredAt n)) b) recoverStepRefusals (omega arith)) λ s d z.

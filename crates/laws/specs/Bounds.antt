@@ -1,35 +1,32 @@
 -- How long the answers are: no image is longer than 19,262 bytes, no key list longer than 8,576 and no step field longer than 197,
 -- whatever is lent.
-use mathlib.Core.Path.{_≡_, refl, sym, _∙_, ap}
+use mathlib.Core.Path.{_≡_}
 use Prim.Native.Nat.{ℕ, zero, suc, _+_, _*_, _-_, _≤_}
 use native.Mathlib.Omega.{arith}
-use mathlib.Core.List.{List, [], _∷_, _++_, map}
-use mathlib.Core.Option.{Option, none, some}
-use mathlib.Core.Bool.{Bool, true, false, _&&_, _||_}
+use mathlib.Core.List.{List, [], _∷_, _++_}
+use mathlib.Core.Bool.{Bool, true, false, _||_}
 use lib.ListN.{length, getElem?, length-append, length-map}
-use lib.Dec.{leb}
 use Rattle.model.specs.Limits.{imageRoom, keysRoom, stepRoom}
 use Rattle.model.specs.Order.{Name, Cmp, lt, eq, gt, cmpName, caseCmp}
 use Rattle.model.specs.Map.{Map}
 use Rattle.model.specs.Base.{Bytes, caseOption, if_then_else_, ifEmpty, flatMap}
 use Rattle.model.specs.Name.{lowerByte, lower, isBackup, isTmp}
-use Rattle.model.specs.Field.{Field, littleEndian, encodeField}
-use Rattle.model.specs.Log.{journal}
+use Rattle.model.specs.Field.{littleEndian, encodeField}
 use Rattle.model.specs.Store.{Store, files, fileCount}
 use Rattle.model.specs.Step.{Step, zeroSeparated, tagAndNames, stepField}
 use Rattle.model.specs.Step
-use Rattle.model.specs.Plan.{commitFault, commitPlan, committedAt, recoverFault, recoverPlan, recoveredAt, recovered, withoutMark}
-use Rattle.model.specs.Record.{Outcome, refuse, give, transaction, beginTransaction, discard, recordWrite, recordDelete, recordDeleteAll, recordCreate, recordDeleteCollection, recordCopy, keyList}
-use Rattle.model.specs.Answers.{Answer, refusal, answer, imageEntry, begin, write, delete, deleteAll, createCollection, deleteCollection, copyCollection, rollback, commitNumber, commitStore, commit, recoverStore, recover, fieldAt, stepAnswer, commitStep, recoverStep, listKeys}
+use Rattle.model.specs.Plan.{commitFault, commitPlan, recoverPlan, recovered, withoutMark}
+use Rattle.model.specs.Record.{Outcome, beginTransaction, discard, recordWrite, recordDelete, recordDeleteAll, recordCreate, recordDeleteCollection, recordCopy, keyList}
+use Rattle.model.specs.Answers.{Answer, refusal, answer, imageEntry, begin, write, delete, deleteAll, createCollection, deleteCollection, copyCollection, rollback, commitNumber, commit, recover, fieldAt, commitStep, recoverStep, listKeys}
 use Rattle.laws.specs.Tests.{All, in-all, all-every}
-use Rattle.laws.specs.ValidNames.{Sized, Valid, Restored, Naming, valid-length, validNaming, restoredNaming}
+use Rattle.laws.specs.ValidNames.{Sized, Valid, Naming, valid-length, validNaming, restoredNaming}
 use Rattle.laws.specs.TreeLaws.{file-size}
 use Rattle.laws.specs.StoreLaws.{Good}
 use Rattle.laws.specs.LengthLaws.{encode-length}
 use Rattle.laws.specs.Listings.{listed-file}
 use Rattle.laws.specs.StepLaws.{Fits}
 use Rattle.laws.specs.RecordLaws.{Gives, begin-keeps, rollback-keeps, write-keeps, delete-keeps, delete-all-keeps, create-keeps, delete-collection-keeps, copy-keeps}
-use Rattle.laws.specs.WellFormed.{recover-keeps, recovered-at, commit-keeps-failed, commit-fits, recover-fits}
+use Rattle.laws.specs.WellFormed.{recover-keeps, recovered-keeps, commit-keeps-failed, commit-fits, recover-fits}
 use Rattle.laws.specs.EntryLaws.{commitRefusals, recoverRefusals, commitStepRefusals, recoverStepRefusals, lent-good, on-entry, on-commit, on-recover, on-commit-step, on-recover-step, on-list-keys}
 
 -- What an answer writes fits the outputs that it asks for.
@@ -125,7 +122,7 @@ pub commit-bounded : (b : Bytes) (out : ℕ) → Bounded (commit b out)
 commit-bounded b out = on-commit Bounded b out (refused commitRefusals) λ s d. given restoredNaming (commitNumber (commitFault s)) _ (commit-keeps-failed s (lent-good b s d) (length (commitPlan s)))
 
 pub recover-bounded : (b : Bytes) (out : ℕ) → Bounded (recover b out)
-recover-bounded b out = on-recover Bounded b out (refused recoverRefusals) λ s d. given restoredNaming 0 (recovered s) (rw (← (recovered-at s)) (recover-keeps s (lent-good b s d) _))
+recover-bounded b out = on-recover Bounded b out (refused recoverRefusals) λ s d. given restoredNaming 0 (recovered s) (recovered-keeps s (recover-keeps s (lent-good b s d)))
 
 pub commit-step-bounded : (n : ℕ) (b : Bytes) (out stepOut : ℕ) → Bounded (commitStep n b out stepOut)
 commit-step-bounded n b out stepOut = on-commit-step Bounded n b out stepOut (refused commitStepRefusals) λ s d.

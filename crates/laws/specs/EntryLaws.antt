@@ -1,11 +1,11 @@
 -- What holds of an entry's answer, by the ways in which it can answer: a refusal, with one of its numbers, or what it hands back.
-use mathlib.Core.Path.{_≡_, refl, sym, _∙_}
+use mathlib.Core.Path.{_≡_, refl, sym}
 use Prim.Native.Nat.{ℕ}
 use native.Mathlib.Omega.{arith}
 use mathlib.Core.List.{List, [], _∷_}
 use mathlib.Core.Option.{Option, none, some}
 use mathlib.Core.Bool.{Bool, true, false, _&&_, _||_}
-use mathlib.Core.Logic.{_⊎_, inl, inr}
+use mathlib.Core.Logic.{inl, inr}
 use lib.ListN.{length}
 use lib.Dec.{leb}
 use Rattle.model.specs.Limits.{imageRoom, keysRoom, stepRoom}
@@ -13,7 +13,7 @@ use Rattle.model.specs.Order.{Name}
 use Rattle.model.specs.Map.{Map}
 use Rattle.model.specs.Base.{Bytes, caseOption, if_then_else_, anyOf, In}
 use Rattle.model.specs.Name.{validName}
-use Rattle.model.specs.Log.{Journal, absent, recording, committing, journal, Ending, whole, truncated, undecodable, tooMany}
+use Rattle.model.specs.Log.{Journal, absent, recording, committing, journal, whole, truncated, undecodable, tooMany}
 use Rattle.model.specs.Store.{Store, hasBackupFiles}
 use Rattle.model.specs.Image.{encode, decode}
 use Rattle.model.specs.Step.{Step}

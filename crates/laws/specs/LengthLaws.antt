@@ -1,22 +1,20 @@
 -- "So at most 19,262 bytes", and how long a log of so many operations is.
-use mathlib.Core.Path.{_≡_, refl, sym, _∙_, ap, ap₂, subst}
-use Prim.Native.Nat.{ℕ, zero, suc, _+_, _*_, _-_, _≤_, _<_}
+use mathlib.Core.Path.{_≡_, refl, sym, ap}
+use Prim.Native.Nat.{ℕ, zero, suc, _+_, _*_, _≤_, _<_}
 use native.Mathlib.Omega.{arith}
 use mathlib.Core.List.{List, [], _∷_, _++_, map}
 use mathlib.Core.Option.{Option, none, some}
-use mathlib.Core.Bool.{Bool, true, false, _&&_, false≢true}
-use lib.ListN.{length, take, drop, getD, length-append, length-drop}
+use mathlib.Core.Bool.{Bool, true, false}
+use lib.ListN.{length, take, drop, length-append, length-drop}
 use lib.Seq.{length-take-le}
-use lib.Dec.{leb, eqb}
 use Rattle.model.specs.Order.{Name}
-use Rattle.model.specs.Map.{Map, Node}
+use Rattle.model.specs.Map.{Map}
 use Rattle.laws.specs.MapLaws.{none≢some, some-inj, look-all}
-use Rattle.model.specs.Base.{Bytes, caseOption, if_then_else_, ifEmpty, sameBytes, atLeast, flatMap}
-use Rattle.model.specs.Name.{validName}
+use Rattle.model.specs.Base.{Bytes, caseOption, ifEmpty, flatMap}
 use Rattle.model.specs.Field.{littleEndian, fromLittleEndian, Field, encodeField, encodeFields, fieldsFrom, decodeFields}
-use Rattle.model.specs.Operation.{Op, fieldTable, fieldTags, kind, values, tagged, encodePayload, opOfFields, decodePayload}
-use Rattle.model.specs.Log.{Entries, Ending, whole, truncated, undecodable, tooMany, entry, walk, entries, firstPayload, stop, after, Journal, recording, validHeader, readJournal, appendOperation}
-use Rattle.model.specs.Store.{Store, validNumber, validNode, validNodes, validStaged, wellFormed}
+use Rattle.model.specs.Operation.{Op, fieldTags, kind, values, tagged, encodePayload, opOfFields, decodePayload}
+use Rattle.model.specs.Log.{whole, truncated, undecodable, tooMany, entry, walk, entries, firstPayload, stop, after, recording, readJournal, appendOperation}
+use Rattle.model.specs.Store.{Store}
 use Rattle.model.specs.Image.{nodeField, stagedField, logField, markField, imageFields, encode}
 use Rattle.laws.specs.Tests.{All, nil≢cons}
 use Rattle.laws.specs.ValidNames.{valid-length, Naming}
@@ -25,7 +23,7 @@ use Rattle.laws.specs.TreeLaws.{NodeGood, size, isFile, isDir, one}
 use Rattle.laws.specs.StoreLaws.{Good, StagedGood, LogFits}
 use Rattle.laws.specs.OperationLaws.{ValidOp, decoded-valid, op-forth}
 use Rattle.laws.specs.AppendLaws.{payload-length, not-whole, journal-parts, entry-length}
-use mathlib.Core.Logic.{_⊎_, inl, inr}
+use mathlib.Core.Logic.{inl, inr}
 
 -- How long fields are when joined.
 abbrev pub bulk : List Field → ℕ

@@ -5,7 +5,7 @@ use mathlib.Core.List.{List, [], _∷_, _++_}
 use mathlib.Core.Option.{Option, none, some}
 use mathlib.Core.Bool.{Bool, true, false}
 use lib.Dec.{eqb}
-use Rattle.model.specs.Order.{Name}
+use Rattle.model.specs.Order.{Name, Key}
 use Rattle.model.specs.Base.{caseOption, if_then_else_, sameBytes}
 use Rattle.model.specs.Name.{lastDot, extension, stripExtension, backupExtension, backupName, originalName}
 use Rattle.laws.specs.MapLaws.{none≢some, some-inj}
@@ -63,3 +63,7 @@ original-named n g p q = nil≢cons (sym q ∙ strip-shape backupExtension n g p
 pub original-nil : originalName [] ≡ none
 unfolding originalName stripExtension extension
 original-nil = refl
+
+-- A backup's key is no plain key.
+pub key-apart : (d c f n g : Name) → originalName f ≡ none → originalName n ≡ some g → _≡_ {A = Key} (d, f) (c, n) → ⊥
+key-apart d c f n g p q e = none≢some (sym p ∙ ap (λ (k : Key). originalName (k .1)) e ∙ q)

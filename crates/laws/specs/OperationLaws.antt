@@ -1,20 +1,20 @@
 -- What a payload decodes to, and that every operation of a log has valid names.
-use mathlib.Core.Path.{_≡_, refl, sym, _∙_, ap, ap₂, subst}
-use Prim.Native.Nat.{ℕ, zero, suc, _+_, _-_, _≤_, _<_}
+use mathlib.Core.Path.{_≡_, refl, sym, _∙_, ap, ap₂}
+use Prim.Native.Nat.{ℕ, zero, suc, _+_, _-_}
 use native.Mathlib.Omega.{arith}
-use mathlib.Core.List.{List, [], _∷_, _++_, map}
+use mathlib.Core.List.{List, [], _∷_, map}
 use mathlib.Core.Option.{Option, none, some}
-use mathlib.Core.Bool.{Bool, true, false, not, _&&_, _||_, false≢true}
-use lib.ListN.{length, take, drop, getD, getElem?}
-use lib.Dec.{leb, eqb}
+use mathlib.Core.Bool.{Bool, true, false, _&&_, _||_, false≢true}
+use lib.ListN.{length, drop, getD, getElem?}
+use lib.Dec.{eqb}
 use Rattle.laws.specs.MapLaws.{none≢some, some-inj}
 use Rattle.model.specs.Base.{Bytes, caseOption, if_then_else_, sameBytes, allOf}
 use Rattle.model.specs.Order.{Name}
 use Rattle.model.specs.Name.{validName}
-use Rattle.model.specs.Field.{Field, encodeField, encodeFields, fieldsFrom, decodeFields}
-use Rattle.model.specs.Operation.{Op, Write, write, delete, deleteAll, createCollection, deleteCollection, copyCollection, fieldTable, fieldTags, kind, values, tagged, encodePayload, makers, validValue, opOfFields, decodePayload}
-use Rattle.model.specs.Log.{Entries, Ending, walk, entries, firstPayload, Journal, absent, recording, committing, byStatus, readJournal, journal, stop, after, truncated, undecodable, validHeader, opsOf}
-use Rattle.laws.specs.Tests.{and-both, and-made, eqb-eq, same-eq, same-refl, All, all-of, of-all}
+use Rattle.model.specs.Field.{Field, encodeFields, fieldsFrom, decodeFields}
+use Rattle.model.specs.Operation.{Op, write, delete, deleteAll, createCollection, deleteCollection, copyCollection, fieldTable, fieldTags, kind, values, tagged, encodePayload, makers, validValue, opOfFields, decodePayload}
+use Rattle.model.specs.Log.{walk, entries, firstPayload, absent, byStatus, readJournal, journal, stop, after, truncated, undecodable, validHeader, opsOf}
+use Rattle.laws.specs.Tests.{and-both, eqb-eq, same-eq, All, all-of}
 use Rattle.laws.specs.FieldLaws.{Short, split-join, Byte, split-only}
 use Rattle.laws.specs.ValidNames.{Valid, valid-length}
 

@@ -1,25 +1,25 @@
 -- Begin, discard and every recorded operation hand back a well-formed store.
-use mathlib.Core.Path.{_≡_, refl, sym, _∙_, ap, ap₂, subst}
-use Prim.Native.Nat.{ℕ, zero, suc, _+_, _≤_, _<_}
+use mathlib.Core.Path.{_≡_, refl, sym, _∙_, subst}
+use Prim.Native.Nat.{ℕ, _<_}
 use native.Mathlib.Omega.{arith}
-use mathlib.Core.List.{List, [], _∷_, _++_, map}
+use mathlib.Core.List.{List, [], _∷_}
 use mathlib.Core.Option.{Option, none, some}
 use mathlib.Core.Bool.{Bool, true, false, not, _&&_, false≢true}
-use mathlib.Core.Logic.{_⊎_, inl, inr}
+use mathlib.Core.Logic.{inl, inr}
 use lib.ListN.{length}
-use lib.Dec.{T, leb, nltb→le}
+use lib.Dec.{leb, nltb→le}
 use Rattle.model.specs.Order.{Name, Key}
-use Rattle.model.specs.Map.{Map, look, put, Has}
-use Rattle.laws.specs.MapLaws.{Sorted, key-dec, none≢some, some-inj, look-put-same, look-put-other, sorted-put}
+use Rattle.model.specs.Map.{Map, look, put}
+use Rattle.laws.specs.MapLaws.{key-dec, none≢some, some-inj, look-put-same, look-put-other, sorted-put}
 use Rattle.model.specs.Base.{Bytes, caseOption, if_then_else_, isSome, sameBytes, In}
 use Rattle.model.specs.Name.{validName, lower, originalName, stripTmp}
 use Rattle.model.specs.Field.{littleEndian}
-use Rattle.model.specs.Operation.{Op, Write, write, delete, deleteAll, createCollection, deleteCollection, copyCollection}
+use Rattle.model.specs.Operation.{Op, write, delete, deleteAll, createCollection, deleteCollection, copyCollection}
 use Rattle.model.specs.Log.{recording, journal, whole, header, appendOperation}
 use Rattle.model.specs.Store.{Store, files, validNumber}
 use Rattle.model.specs.Step.{renameFile, apply}
 use Rattle.model.specs.Record.{Outcome, refuse, give, transaction, beginTransaction, discard, recordInto, appended, require, hasDir, recordWrite, otherCase, caseRenamed, recordDelete, recordDeleteAll, recordCreate, recordDeleteCollection, recordCopy}
-use Rattle.laws.specs.Tests.{and-both, leb-le}
+use Rattle.laws.specs.Tests.{and-both}
 use Rattle.laws.specs.TreeLaws.{size, one, length-size, size-put-le}
 use Rattle.laws.specs.StoreLaws.{Staging, StagedGood, LogFits, Good}
 use Rattle.laws.specs.OperationLaws.{ValidOp}

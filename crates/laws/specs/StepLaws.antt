@@ -1,6 +1,6 @@
 -- Each step keeps a store well-formed, and has names that fit its field.
 use mathlib.Core.Path.{_≡_, refl, sym, _∙_, ap}
-use Prim.Native.Nat.{ℕ, zero, suc, _+_, _≤_, _<_}
+use Prim.Native.Nat.{ℕ, suc, _≤_, _<_}
 use native.Mathlib.Omega.{arith}
 use mathlib.Core.List.{List, [], _∷_, _++_}
 use mathlib.Core.Option.{Option, none, some}
@@ -9,14 +9,14 @@ use lib.ListN.{length}
 use lib.Dec.{ltb, nltb→le}
 use Rattle.model.specs.Limits.{nameLimit, dirLimit, fileLimit}
 use Rattle.model.specs.Order.{Name, Key}
-use Rattle.model.specs.Map.{Map, look, put, del, Has}
+use Rattle.model.specs.Map.{look, put, del, Has}
 use Rattle.model.specs.Base.{caseOption, if_then_else_, ifEmpty}
 use Rattle.model.specs.Name.{backupName}
 use Rattle.model.specs.Store.{Store, stagingKey, dirs, files, fileCount, validNumber}
 use Rattle.model.specs.Step.{Step, rewriteHeader, removeLog, makeDirectory, renameFile, moveStaged, renameDirectory, copyFile, removeFile, removeDirectory, removeStaging, apply, tagAndNames, Fault, fails, full, nameTooLong, newFile, stepFault}
 use Rattle.laws.specs.MapLaws.{none≢some, look-put-same, look-put-other, look-del-other}
 use Rattle.laws.specs.Tests.{leb-le, All, all-append}
-use Rattle.laws.specs.ValidNames.{Sized, Valid, Naming, named, valid-length, backup-apart}
+use Rattle.laws.specs.ValidNames.{Sized, Naming, named, backup-apart}
 use Rattle.laws.specs.TreeLaws.{size, isFile, isDir, file-size, dir-size, size-put-le, size-put-has, size-del-has}
 use Rattle.laws.specs.StoreLaws.{Tree, Good, tree-put, tree-del, tree-drop, tree-move, staging-del, log-marked}
 

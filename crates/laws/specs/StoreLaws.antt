@@ -1,28 +1,28 @@
 -- Well-formed stores by their looks; which changes keep a store well-formed.
-use mathlib.Core.Path.{_≡_, refl, sym, _∙_, ap, ap₂, subst}
-use Prim.Native.Nat.{ℕ, zero, suc, _+_, _-_, _≤_, _<_}
+use mathlib.Core.Path.{_≡_, refl, sym, _∙_, ap}
+use Prim.Native.Nat.{ℕ, _+_, _≤_}
 use native.Mathlib.Omega.{arith}
-use mathlib.Core.List.{List, [], _∷_, _++_, map}
+use mathlib.Core.List.{[], _∷_}
 use mathlib.Core.Option.{Option, none, some}
-use mathlib.Core.Bool.{Bool, true, false, not, _&&_, false≢true}
+use mathlib.Core.Bool.{true}
 use mathlib.Core.Logic.{_⊎_, inl, inr}
-use lib.ListN.{length, drop, length-append, length-drop}
-use lib.Dec.{leb, eqb}
+use lib.ListN.{length, length-drop}
+use lib.Dec.{leb}
 use Rattle.model.specs.Order.{Cmp, lt, eq, gt, Name, Key, cmpName, cmpKey}
-use Rattle.laws.specs.OrderLaws.{nameLaws, keyLaws, lt≢gt, lt≢eq, gt≢eq}
+use Rattle.laws.specs.OrderLaws.{nameLaws, keyLaws, lt≢eq, gt≢eq}
 use Rattle.model.specs.Order.{caseCmp}
 use Rattle.model.specs.Map.{Map, Node, look, put, del, Has}
-use Rattle.laws.specs.MapLaws.{Above, Sorted, key-dec, none≢some, some-inj, look-head, look-tail, look-put-same, look-put-other, look-del-same, look-del-other, look-del-some, sorted-put, sorted-del, above-none, all-look, look-all}
-use Rattle.model.specs.Base.{Bytes, caseOption, ifEmpty, sameBytes, allOf}
+use Rattle.laws.specs.MapLaws.{Sorted, key-dec, none≢some, some-inj, look-head, look-tail, look-put-same, look-put-other, look-del-same, look-del-other, look-del-some, sorted-put, sorted-del, above-none, all-look, look-all}
+use Rattle.model.specs.Base.{Bytes, caseOption, sameBytes}
 use Rattle.model.specs.Name.{validName}
 use Rattle.model.specs.Field.{littleEndian}
 use Rattle.model.specs.Log.{header, markCommitting}
 use Rattle.model.specs.Store.{Store, dirs, fileCount, validNumber, validStaged, wellFormed}
 use Rattle.model.specs.Step.{removeDir, renameDir, marked}
-use Rattle.laws.specs.Tests.{and-both, and-made, leb-le, le-leb, same-eq, same-refl, All, all-of, of-all, all-imp}
+use Rattle.laws.specs.Tests.{and-made, leb-le, le-leb, All, all-of, of-all, all-imp}
 use Rattle.laws.specs.ValidNames.{Valid}
-use Rattle.laws.specs.ImageLaws.{Parts, parts, of-parts, staged-parts}
-use Rattle.laws.specs.TreeLaws.{NodeGood, nodes-good, good-nodes, ascending-sorted, sorted-ascending, size, isFile, isDir, one, file-size, dir-size, length-size, size-put-le, size-put-has, size-del-le, size-del-has}
+use Rattle.laws.specs.ImageLaws.{parts, of-parts, staged-parts}
+use Rattle.laws.specs.TreeLaws.{NodeGood, nodes-good, good-nodes, ascending-sorted, sorted-ascending, size, isFile, isDir, one, file-size, dir-size, length-size, size-put-le, size-del-le, size-del-has}
 
 -- A tree whose names have the property N; the names of staging files are valid.
 pub record Tree (N : Name → Type 0) (t : Map) : Type 0 where

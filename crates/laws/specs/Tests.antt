@@ -1,12 +1,12 @@
 -- What a test that passed says, and back.
-use mathlib.Core.Path.{_≡_, refl, sym, _∙_, ap, ap₂, subst}
-use Prim.Native.Nat.{ℕ, zero, suc, _+_, _≤_, _<_}
+use mathlib.Core.Path.{_≡_, refl, sym, subst}
+use Prim.Native.Nat.{ℕ, _≤_}
 use native.Mathlib.Omega.{arith}
 use mathlib.Core.List.{List, [], _∷_, _++_, map}
 use mathlib.Core.Bool.{Bool, true, false, not, _&&_, _||_, false≢true}
 use lib.Dec.{T, leb, eqb, leb→le, le→leb, eqb→eq}
-use mathlib.Core.Logic.{_⊎_, inl, inr}
-use Rattle.model.specs.Base.{Bytes, if_then_else_, sameBytes, allOf, isIn, In}
+use mathlib.Core.Logic.{inl, inr}
+use Rattle.model.specs.Base.{Bytes, sameBytes, allOf, isIn, In}
 use Rattle.model.specs.Order.{Cmp, lt, eq, gt, cmpName}
 use Rattle.laws.specs.OrderLaws.{nameLaws}
 use Rattle.model.specs.Order.{caseCmp}

@@ -1,22 +1,22 @@
 -- A well-formed tree by its looks, and what changes of it keep it so.
-use mathlib.Core.Path.{_≡_, refl, sym, _∙_, ap, ap₂, subst}
-use Prim.Native.Nat.{ℕ, zero, suc, _+_, _≤_, _<_}
+use mathlib.Core.Path.{_≡_, refl, sym, _∙_, ap}
+use Prim.Native.Nat.{ℕ, suc, _+_, _≤_}
 use native.Mathlib.Omega.{arith}
-use mathlib.Core.List.{List, [], _∷_, _++_, map}
-use mathlib.Core.Option.{Option, none, some}
-use mathlib.Core.Bool.{Bool, true, false, not, _&&_, false≢true}
+use mathlib.Core.List.{List, [], _∷_}
+use mathlib.Core.Option.{some}
+use mathlib.Core.Bool.{true, false, _&&_, false≢true}
 use mathlib.Core.Logic.{_⊎_, inl, inr}
 use lib.ListN.{length}
-use lib.Dec.{leb, eqb}
+use lib.Dec.{eqb}
 use Rattle.model.specs.Order.{Cmp, lt, eq, gt, thenCmp, Name, Key, cmpName, cmpKey}
 use Rattle.laws.specs.OrderLaws.{flip, nameLaws, keyLaws, lt≢gt, lt≢eq, gt≢eq}
 use Rattle.model.specs.Order.{caseCmp}
 use Rattle.model.specs.Map.{Map, Node, look, put, del, Has}
-use Rattle.laws.specs.MapLaws.{Above, Sorted, key-dec, none≢some, some-inj, look-head, look-tail, look-put-same, look-put-other, look-del-same, look-del-other, look-del-some, sorted-put, sorted-del, above-none}
-use Rattle.model.specs.Base.{ifEmpty, sameBytes, allOf}
+use Rattle.laws.specs.MapLaws.{Above, Sorted, key-dec, none≢some, some-inj, look-head, look-tail}
+use Rattle.model.specs.Base.{ifEmpty, sameBytes}
 use Rattle.model.specs.Name.{validName}
-use Rattle.model.specs.Store.{dirs, fileCount, validNumber, validNode, validNodes, validStaged, belowFirst, ascending}
-use Rattle.laws.specs.Tests.{and-both, and-made, leb-le, le-leb, eqb-eq, same-eq, same-refl, All, all-of, of-all}
+use Rattle.model.specs.Store.{dirs, fileCount, validNumber, validNode, validNodes, belowFirst, ascending}
+use Rattle.laws.specs.Tests.{and-both, and-made, eqb-eq, same-refl}
 use Rattle.laws.specs.ValidNames.{Valid, valid-named}
 use Rattle.laws.specs.ImageLaws.{node-parts, file-parts}
 

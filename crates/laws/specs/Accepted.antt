@@ -23,7 +23,7 @@ use Rattle.laws.specs.ImageLaws.{decode-encode}
 use Rattle.laws.specs.ValidNames.{Valid, DotBakBak}
 use Rattle.laws.specs.StoreLaws.{Good, well-formed}
 use Rattle.laws.specs.RecordLaws.{Gives, begin-keeps, rollback-keeps, write-keeps, delete-keeps, delete-all-keeps, create-keeps, delete-collection-keeps, copy-keeps}
-use Rattle.laws.specs.WellFormed.{NoneNamed, NoneNames, recover-keeps-valid, recover-keeps-named, recovered-keeps, commit-keeps, commit-keeps-named}
+use Rattle.laws.specs.WellFormed.{NoneNamed, NoneMade, recover-keeps-valid, recover-keeps-named, recovered-keeps, commit-keeps, commit-keeps-named}
 use Rattle.laws.specs.EntryLaws.{commitRefusals, recoverRefusals, commitStepRefusals, recoverStepRefusals, lent-good, on-entry, on-commit, on-recover, on-commit-step, on-recover-step}
 
 -- The image b was lent and the answer a given: b holds a store, a's image holds a store, and the second follows from the first.
@@ -44,12 +44,12 @@ Is f s u = u ≡ f s
 abbrev pub committedStore : Store → Store
 committedStore s = committedAt (length (commitPlan s)) s
 
--- No directory or file of the lent image is named "..bak.bak" or "...bak.bak"; no operation of its log names one so.
+-- No directory or file of the lent image is named "..bak.bak" or "...bak.bak"; no operation of its log makes one.
 abbrev pub NoDotBakBak : Bytes → Type 0
 NoDotBakBak b = (s : Store) → decode b ≡ some s → NoneNamed DotBakBak (s .tree)
 
-abbrev pub NoDotBakBakLogged : Bytes → Type 0
-NoDotBakBakLogged b = (s : Store) → decode b ≡ some s → NoneNames DotBakBak (opsOf (journal (s .log)))
+abbrev pub NoDotBakBakMade : Bytes → Type 0
+NoDotBakBakMade b = (s : Store) → decode b ≡ some s → NoneMade DotBakBak (opsOf (journal (s .log)))
 
 -- The lent image's log is no whole Committing one, so recovery restores nothing.
 abbrev pub NotCommitting : Bytes → Type 0
@@ -127,18 +127,15 @@ rollback-accepted = entry discard rollback-keeps
 pub commit-accepted : (b : Bytes) (out : ℕ) → commit b out .number ≡ 0 → Accepted (Is committedStore) b (commit b out)
 commit-accepted b out = of-commit b out 0 (omega arith) λ s d z. commit-keeps s (lent-good b s d) (no-fault (commitFault s) z) (length (commitPlan s))
 
-pub commit-failed-accepted : (b : Bytes) (out n : ℕ) → (n ≡ 14) ⊎ (n ≡ 15) → NoDotBakBak b → NoDotBakBakLogged b → commit b out .number ≡ n → Accepted (Is committedStore) b (commit b out)
-commit-failed-accepted b out n c h k = of-commit b out n (others c) λ s d z. commit-keeps-named s (lent-good b s d) (h s d) (k s d) (length (commitPlan s))
-  where
-    others : (n ≡ 14) ⊎ (n ≡ 15) → All (λ m. m ≡ n → ⊥) commitRefusals
-    others (inl e) = omega arith
-    others (inr e) = omega arith
+pub commit-failed-accepted : (b : Bytes) (out : ℕ) → (commit b out .number ≡ 14) ⊎ (commit b out .number ≡ 15) → NoDotBakBak b → NoDotBakBakMade b → Accepted (Is committedStore) b (commit b out)
+commit-failed-accepted b out (inl e) h k = of-commit b out 14 (omega arith) (λ s d z. commit-keeps-named s (lent-good b s d) (h s d) (k s d) (length (commitPlan s))) e
+commit-failed-accepted b out (inr e) h k = of-commit b out 15 (omega arith) (λ s d z. commit-keeps-named s (lent-good b s d) (h s d) (k s d) (length (commitPlan s))) e
 
 -- The steps of a commit with number 0: always. Those of any commit: unless one of the two names is there to be restored.
 pub commit-step-accepted : (n : ℕ) (b : Bytes) (out stepOut room : ℕ) → commit b room .number ≡ 0 → commitStep n b out stepOut .number ≡ 0 → Accepted (Is (committedAt n)) b (commitStep n b out stepOut)
 commit-step-accepted n b out stepOut room c = of-commit-step n b out stepOut λ s d. commit-keeps s (lent-good b s d) (commit-clear b room s d c) n
 
-pub commit-step-failed-accepted : (n : ℕ) (b : Bytes) (out stepOut : ℕ) → NoDotBakBak b → NoDotBakBakLogged b → commitStep n b out stepOut .number ≡ 0 → Accepted (Is (committedAt n)) b (commitStep n b out stepOut)
+pub commit-step-failed-accepted : (n : ℕ) (b : Bytes) (out stepOut : ℕ) → NoDotBakBak b → NoDotBakBakMade b → commitStep n b out stepOut .number ≡ 0 → Accepted (Is (committedAt n)) b (commitStep n b out stepOut)
 commit-step-failed-accepted n b out stepOut h k = of-commit-step n b out stepOut λ s d. commit-keeps-named s (lent-good b s d) (h s d) (k s d) n
 
 -- Recovery and its steps: where nothing is restored, and unless one of the two names is there to be restored.

@@ -59,6 +59,10 @@ recover-numbers l (committing o truncated) t n e = go (hasBackupFiles t || anyOf
 recover-numbers l (committing o undecodable) t n e = inl (sym (some-inj e))
 recover-numbers l (committing o tooMany) t n e = inr (inl (sym (some-inj e)))
 
+-- What a step entry hands back where the step number is within the plan.
+abbrev pub atStep : ℕ → List Step → Store → Answer
+atStep n plan s = record { number = 0; image = encode s; step = fieldAt n plan }
+
 module _ (P : Answer → Type 0) where
   -- P holds of these refusals.
   abbrev pub Refusals : List ℕ → Type 0
@@ -100,23 +104,21 @@ module _ (P : Answer → Type 0) where
   on-recover b out r h = on-image b (leb imageRoom out) recoverStore (r .0, (r .1 .0, tt)) λ s d.
       on-option (recoverFault (journal (s .log)) (s .tree)) (answer 0 (recovered s)) refusal (λ e. h s d) (λ n e. all-in (λ n. P (refusal n)) (11 ∷ 12 ∷ 13 ∷ []) (r .1 .1) n (recover-numbers [] (journal (s .log)) (s .tree) n e))
 
-  -- Of the step entries, where the step number is within the plan.
-  abbrev StepAnswer : ℕ → List Step → Store → Answer
-  StepAnswer n plan s = record { number = 0; image = encode s; step = fieldAt n plan }
-
-  pub on-commit-step : (n : ℕ) (b : Bytes) (out stepOut : ℕ) → Refusals commitStepRefusals → ((s : Store) → decode b ≡ some s → P (StepAnswer n (commitPlan s) (committedAt n s))) → P (commitStep n b out stepOut)
+  -- The step entries.
+  pub on-commit-step : (n : ℕ) (b : Bytes) (out stepOut : ℕ) → Refusals commitStepRefusals → ((s : Store) → decode b ≡ some s → P (atStep n (commitPlan s) (committedAt n s))) → P (commitStep n b out stepOut)
   unfolding commitStep
   on-commit-step n b out stepOut r h = on-image b (leb imageRoom out && leb stepRoom stepOut) (λ s. caseOption (transaction s) (refusal 4) (λ ops. stepAnswer n (commitPlan s) (committedAt n s))) (r .0, (r .1 .0, tt)) λ s d.
       on-option (transaction s) (refusal 4) (λ ops. stepAnswer n (commitPlan s) (committedAt n s)) (λ e. r .1 .1 .0) λ ops e.
-      on-test (leb n (length (commitPlan s))) (StepAnswer n (commitPlan s) (committedAt n s)) (refusal 16) (h s d) (r .1 .1 .1 .0)
+      on-test (leb n (length (commitPlan s))) (atStep n (commitPlan s) (committedAt n s)) (refusal 16) (h s d) (r .1 .1 .1 .0)
 
-  pub on-recover-step : (n : ℕ) (b : Bytes) (out stepOut : ℕ) → Refusals recoverStepRefusals → ((s : Store) → decode b ≡ some s → P (StepAnswer n (recoverPlan (withoutMark s)) (recoveredAt n s))) → P (recoverStep n b out stepOut)
+  pub on-recover-step : (n : ℕ) (b : Bytes) (out stepOut : ℕ) → Refusals recoverStepRefusals → ((s : Store) → decode b ≡ some s → P (atStep n (recoverPlan (withoutMark s)) (recoveredAt n s))) → P (recoverStep n b out stepOut)
   unfolding recoverStep
   on-recover-step n b out stepOut r h = on-image b (leb imageRoom out && leb stepRoom stepOut) (λ s. caseOption (recoverFault (journal (s .log)) (s .tree)) (stepAnswer n (recoverPlan (withoutMark s)) (recoveredAt n s)) refusal) (r .0, (r .1 .0, tt)) λ s d.
       on-option (recoverFault (journal (s .log)) (s .tree)) (stepAnswer n (recoverPlan (withoutMark s)) (recoveredAt n s)) refusal
-      (λ e. on-test (leb n (length (recoverPlan (withoutMark s)))) (StepAnswer n (recoverPlan (withoutMark s)) (recoveredAt n s)) (refusal 16) (h s d) (r .1 .1 .1 .1 .1 .0))
+      (λ e. on-test (leb n (length (recoverPlan (withoutMark s)))) (atStep n (recoverPlan (withoutMark s)) (recoveredAt n s)) (refusal 16) (h s d) (r .1 .1 .1 .1 .1 .0))
       (λ m e. all-in (λ m. P (refusal m)) (11 ∷ 12 ∷ 13 ∷ 16 ∷ []) (r .1 .1) m (recover-numbers (16 ∷ []) (journal (s .log)) (s .tree) m e))
 
+  -- The key list.
   pub on-list-keys : (c : Name) (b : Bytes) (out : ℕ) → Refusals listKeysRefusals → ((s : Store) → decode b ≡ some s → P (record { number = 0; image = keyList c s; step = [] })) → P (listKeys c b out)
   unfolding listKeys
   on-list-keys c b out r h = on-image b (leb keysRoom out) (λ s. if validName c then record { number = 0; image = keyList c s; step = [] } else refusal 6) (r .0, (r .1 .0, tt)) λ s d.

@@ -18,17 +18,35 @@ use Rattle.laws.specs.Tests.{and-both, eqb-eq, same-eq, All, all-of}
 use Rattle.laws.specs.FieldLaws.{Short, split-join, Byte, split-only}
 use Rattle.laws.specs.ValidNames.{Valid, valid-length}
 
--- All names of an operation have a property; the name of a staging file is valid in any case.
-abbrev pub OpNames : (Name → Type 0) → Op → Type 0
-OpNames N (write w) = N (w .collection) × N (w .key) × Valid (w .staged)
-OpNames N (delete c k) = N c × N k
-OpNames N (deleteAll c) = N c
-OpNames N (createCollection c) = N c
-OpNames N (deleteCollection c) = N c
-OpNames N (copyCollection a b x) = N a × N b
-
+-- All names of an operation are valid.
 abbrev pub ValidOp : Op → Type 0
-ValidOp o = OpNames Valid o
+ValidOp (write w) = Valid (w .collection) × Valid (w .key) × Valid (w .staged)
+ValidOp (delete c k) = Valid c × Valid k
+ValidOp (deleteAll c) = Valid c
+ValidOp (createCollection c) = Valid c
+ValidOp (deleteCollection c) = Valid c
+ValidOp (copyCollection a b x) = Valid a × Valid b
+
+-- The names that an operation gives to what it makes, backups apart.
+abbrev pub madeNames : Op → List Name
+madeNames (write w) = w .collection ∷ w .key ∷ []
+madeNames (delete c k) = []
+madeNames (deleteAll c) = []
+madeNames (createCollection c) = c ∷ []
+madeNames (deleteCollection c) = []
+madeNames (copyCollection a b x) = b ∷ []
+
+-- All of them have a property.
+abbrev pub Makes : (Name → Type 0) → Op → Type 0
+Makes N o = All N (madeNames o)
+
+pub made-valid : (o : Op) → ValidOp o → Makes Valid o
+made-valid (write w) v = (v .0, (v .1, tt))
+made-valid (delete c k) v = tt
+made-valid (deleteAll c) v = tt
+made-valid (createCollection c) v = (v, tt)
+made-valid (deleteCollection c) v = tt
+made-valid (copyCollection a b x) v = (v .1, tt)
 
 tags-cons : (f : Field) (fs : List Field) (t : ℕ) (ts : List ℕ) → map (λ g. g .tag) (f ∷ fs) ≡ t ∷ ts → (f .tag ≡ t) × (map (λ g. g .tag) fs ≡ ts)
 tags-cons f fs t ts e = ((let z : f .tag ≡ t = cc in z), (let z : map (λ g. g .tag) fs ≡ ts = cc in z))

@@ -14,8 +14,8 @@ use Rattle.model.specs.Step.{Step, syncStaging, syncLog, removeLog, syncJournal
 use Rattle.model.specs.Plan.{inTurn, opSteps, undoSteps, removeBackupFile, removeBackupsIn, removeBackups, removeStagingFiles, syncExisting, stepsBeforeFault, operationSteps, removeStandingLog}
 use Rattle.laws.specs.MapLaws.{none≢some}
 use Rattle.laws.specs.Tests.{All, all-in, in-all}
-use Rattle.laws.specs.ValidNames.{Sized, Valid, Naming, named, valid-length, backup-named}
-use Rattle.laws.specs.OperationLaws.{OpNames, ValidOp}
+use Rattle.laws.specs.ValidNames.{Sized, Valid, Naming, named, valid-length, valid-named, backup-named}
+use Rattle.laws.specs.OperationLaws.{ValidOp, Makes}
 use Rattle.laws.specs.StoreLaws.{good-names}
 use Rattle.laws.specs.Listings.{any-unreverse, listed-dir, listed-file, listed-staging}
 use Rattle.laws.specs.Runs.{Runs, Careful, runs-over, careful-before, careful-append, careful-over}
@@ -34,9 +34,9 @@ sound-names h done s k = record { good = good-names s (λ d f i. (h d, h f)) (k 
 
 -- The operations of a commit, each up to its first failing step.
 module _ {N : Name → Type 0} (nm : Naming N) where
-  write-keeps : (w : Write) → OpNames N (write w) → CarefullyKeeps N (opSteps (write w))
+  write-op-keeps : (w : Write) → ValidOp (write w) → Makes N (write w) → CarefullyKeeps N (opSteps (write w))
   unfolding opSteps
-  write-keeps w v done s k = go (look (w .collection, []) (s .tree)) refl (look (target w) (s .tree)) refl
+  write-op-keeps w v h done s k = go (look (w .collection, []) (s .tree)) refl (look (target w) (s .tree)) refl
     where
       c : Name
       c = w .collection
@@ -51,26 +51,26 @@ module _ {N : Name → Type 0} (nm : Naming N) where
       move = moveStaged (w .staged) c (w .key)
 
       hk : w .key ≡ [] → ⊥
-      hk = named (w .key) (nm .sized (w .key) (v .1))
+      hk = valid-named (w .key) (v .1)
 
       last : (done : List Step) (u : Store) → Sound N done u → Has (c, []) (u .tree) → Careful (Sound N) done (move ∷ []) u
-      last done u k i = (k, λ e. keep-move nm done u k (w .staged) c (w .key) (valid-length (w .staged) (v .2)) (v .1) i e)
+      last done u k i = (k, λ e. keep-move nm done u k (w .staged) c (w .key) (valid-length (w .staged) (v .2)) (h .1 .0) i e)
 
       go : (a : Option ℕ) → look (c, []) (s .tree) ≡ a → (b : Option ℕ) → look (target w) (s .tree) ≡ b → Careful (Sound N) done (ifMissing a (make ∷ []) ++ ifPresent b (aside ∷ []) ++ move ∷ []) s
-      go none p none q = (k, λ e. last (done ++ make ∷ []) (apply make s) (keep-make nm done s k c (v .0) e) (make-stands c s))
+      go none p none q = (k, λ e. last (done ++ make ∷ []) (apply make s) (keep-make nm done s k c (h .0) e) (make-stands c s))
       go none p (some x) q = let i = k .good .tree .node c (w .key) x q .inside hk in none≢some (sym p ∙ i .1)
       go (some y) p none q = last done s k (y, p)
       go (some y) p (some x) q = (
         k,
         λ e.
-            let k₁ = back-up-file nm done s k c (w .key) (nm .sized c (v .0)) (v .1) e in
+            let k₁ = back-up-file nm done s k c (w .key) (valid-length c (v .0)) (h .1 .0) e in
             last (done ++ aside ∷ []) (apply aside s) k₁ (rename-stands c (w .key) (backupName (w .key)) s x q (backup-named (w .key)) (k₁ .good)),
       )
 
   -- Every file of a listing backed up, or copied.
-  delete-all-keeps : (c : Name) (l : List Name) → Sized c → All N l → CarefullyKeeps N (λ s. map (λ f. renameFile c f (backupName f)) l)
-  delete-all-keeps c [] v h done s k = k
-  delete-all-keeps c (f ∷ l) v h done s k = (k, λ e. delete-all-keeps c l v (h .1) _ _ (back-up-file nm done s k c f v (h .0) e))
+  back-up-all-keeps : (c : Name) (l : List Name) → Sized c → All N l → CarefullyKeeps N (λ s. map (λ f. renameFile c f (backupName f)) l)
+  back-up-all-keeps c [] v h done s k = k
+  back-up-all-keeps c (f ∷ l) v h done s k = (k, λ e. back-up-all-keeps c l v (h .1) _ _ (back-up-file nm done s k c f v (h .0) e))
 
   copies-keep : (a b : Name) (l : List Name) → All N l → (done : List Step) (s : Store) → Sound N done s → Has (b, []) (s .tree) → Careful (Sound N) done (map (copyFile a b) l) s
   copies-keep a b [] h done s k i = k
@@ -88,27 +88,27 @@ module _ {N : Name → Type 0} (nm : Naming N) where
   unfolding stepFault
   no-source a b s e = rw e
 
-  op-keeps : (o : Op) → OpNames N o → CarefullyKeeps N (opSteps o)
+  op-keeps : (o : Op) → ValidOp o → Makes N o → CarefullyKeeps N (opSteps o)
   unfolding opSteps
-  op-keeps (write w) v done s k = write-keeps w v done s k
-  op-keeps (delete c f) v done s k = go (look (c, f) (s .tree))
+  op-keeps (write w) v h done s k = write-op-keeps w v h done s k
+  op-keeps (delete c f) v h done s k = go (look (c, f) (s .tree)) refl
     where
-      go : (q : Option ℕ) → Careful (Sound N) done (ifPresent q (renameFile c f (backupName f) ∷ [])) s
-      go none = k
-      go (some x) = (k, λ e. back-up-file nm done s k c f (nm .sized c (v .0)) (v .1) e)
-  op-keeps (deleteAll c) v done s k = delete-all-keeps c (files c (s .tree)) (nm .sized c v) (in-all N (files c (s .tree)) (listed-file (s .tree) (k .good .tree) c)) done s k
-  op-keeps (createCollection c) v done s k = go (look (c, []) (s .tree))
+      go : (q : Option ℕ) → look (c, f) (s .tree) ≡ q → Careful (Sound N) done (ifPresent q (renameFile c f (backupName f) ∷ [])) s
+      go none e = k
+      go (some x) e = (k, back-up-file nm done s k c f (valid-length c (v .0)) (k .good .tree .node c f x e .name (valid-named f (v .1))))
+  op-keeps (deleteAll c) v h done s k = back-up-all-keeps c (files c (s .tree)) (valid-length c v) (in-all N (files c (s .tree)) (listed-file (s .tree) (k .good .tree) c)) done s k
+  op-keeps (createCollection c) v h done s k = go (look (c, []) (s .tree))
     where
       go : (q : Option ℕ) → Careful (Sound N) done (ifMissing q (makeDirectory c ∷ [])) s
-      go none = (k, λ e. keep-make nm done s k c v e)
+      go none = (k, keep-make nm done s k c (h .0))
       go (some x) = k
-  op-keeps (deleteCollection c) v done s k = go (look (c, []) (s .tree))
+  op-keeps (deleteCollection c) v h done s k = go (look (c, []) (s .tree)) refl
     where
-      go : (q : Option ℕ) → Careful (Sound N) done (ifPresent q (renameDirectory c (backupName c) ∷ [])) s
-      go none = k
-      go (some x) = (k, λ e. back-up-directory nm done s k c v e)
-  op-keeps (copyCollection a b x) v done s k =
-      careful-append (Sound N) done xs (ys (look (a, []) (u .tree)) ++ []) s (copy-first b (v .1) (look (b, []) (s .tree)) done s k) (λ k₁. rw append-nil (copies k₁ (look (a, []) (u .tree)) refl))
+      go : (q : Option ℕ) → look (c, []) (s .tree) ≡ q → Careful (Sound N) done (ifPresent q (renameDirectory c (backupName c) ∷ [])) s
+      go none e = k
+      go (some x) e = (k, back-up-directory nm done s k c (k .good .tree .node c [] x e .dir))
+  op-keeps (copyCollection a b x) v h done s k =
+      careful-append (Sound N) done xs (ys (look (a, []) (u .tree)) ++ []) s (copy-first b (h .0) (look (b, []) (s .tree)) done s k) (λ k₁. rw append-nil (copies k₁ (look (a, []) (u .tree)) refl))
     where
       xs : List Step
       xs = ifPresent (look (b, []) (s .tree)) (renameDirectory b (backupName b) ∷ []) ++ makeDirectory b ∷ []
@@ -123,12 +123,12 @@ module _ {N : Name → Type 0} (nm : Naming N) where
       copies k₁ none p = (k₁, λ e. none≢some (sym e ∙ no-source a b u p))
       copies k₁ (some n) p = copies-keep a b (files a (u .tree)) (in-all N (files a (u .tree)) (listed-file (u .tree) (k₁ .good .tree) a)) (done ++ xs) u k₁ (copy-made b (look (b, []) (s .tree)) s)
 
-  pub operations-keep : (ops : List Op) → All (OpNames N) ops → CarefullyKeeps N (operationSteps ops)
-  operations-keep ops v done s k = careful-over (Sound N) opSteps (OpNames N) (λ o done s h k. op-keeps o h done s k) ops done s (all-in (OpNames N) ops v) k
+  pub operations-keep : (ops : List Op) → All ValidOp ops → All (Makes N) ops → CarefullyKeeps N (operationSteps ops)
+  operations-keep ops v h done s k = careful-over (Sound N) opSteps (λ o. ValidOp o × Makes N o) (λ o done s h k. op-keeps o (h .0) (h .1) done s k) ops done s (λ o i. (all-in ValidOp ops v o i, all-in (Makes N) ops h o i)) k
 
   -- The steps before the first failing one do not fail.
-  pub before-fault-keeps : (ops : List Op) → All (OpNames N) ops → Keeps N (λ s. stepsBeforeFault (operationSteps ops s) s)
-  before-fault-keeps ops v done s k = careful-before (Sound N) done (operationSteps ops s) s (operations-keep ops v done s k)
+  pub before-fault-keeps : (ops : List Op) → All ValidOp ops → All (Makes N) ops → Keeps N (λ s. stepsBeforeFault (operationSteps ops s) s)
+  before-fault-keeps ops v h done s k = careful-before (Sound N) done (operationSteps ops s) s (operations-keep ops v h done s k)
 
   -- The other parts of a commit's plan.
   pub syncs-keep : (l : List Name) → Keeps N (inTurn syncExisting l)

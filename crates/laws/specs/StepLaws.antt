@@ -57,7 +57,7 @@ file-weight : (d f : Name) → (f ≡ [] → ⊥) → (isFile (d, f) ≡ 1) × (
 file-weight d [] h = absurd (h refl)
 file-weight d (y ∷ ys) h = (refl, refl)
 
--- A directory that was made stands; one stays where a file is put.
+-- A directory that was made stands.
 pub make-stands : (d : Name) (s : Store) → Has (d, []) (apply (makeDirectory d) s .tree)
 unfolding apply
 make-stands d s = (0, look-put-same (d, []) 0 (s .tree))

@@ -102,6 +102,10 @@ pub all-every : {A : Type 0} {P : A → Type 0} → ((a : A) → P a) → (l : L
 all-every h [] = tt
 all-every h (a ∷ l) = (h a, all-every h l)
 
+pub all-both : {A : Type 0} (P Q : A → Type 0) (l : List A) → All P l → All Q l → All (λ a. P a × Q a) l
+all-both P Q [] p q = tt
+all-both P Q (a ∷ l) p q = ((p .0, q .0), all-both P Q l (p .1) (q .1))
+
 pub all-imp : {A : Type 0} {P Q : A → Type 0} → ((a : A) → P a → Q a) → (l : List A) → All P l → All Q l
 all-imp h [] p = tt
 all-imp h (a ∷ l) p = (h a (p .0), all-imp h l (p .1))

@@ -26,7 +26,7 @@ use Rattle.laws.specs.RecordLaws.{Gives, begin-keeps, rollback-keeps, wr
 use Rattle.laws.specs.WellFormed.{NoneNamed, NoneMade, recover-keeps-valid, recover-keeps-named, recovered-keeps, commit-keeps, commit-keeps-named}
 use Rattle.laws.specs.EntryLaws.{commitRefusals, recoverRefusals, commitStepRefusals, recoverStepRefusals, lent-good, on-entry, on-commit, on-recover, on-commit-step, on-recover-step}
 
--- The image b was lent and the answer a given: b holds a store, a's image holds a store, and the second follows from the first.
+-- The image b was lent and the answer a given: b holds a store, a's image is read as a store, and this one follows from the first.
 pub record Accepted (Follows : Store → Store → Type 0) (b : Bytes) (a : Answer) : Type 0 where
   pub lent : Store
   pub given : Store
@@ -34,7 +34,7 @@ pub record Accepted (Follows : Store → Store → Type 0) (b : Bytes) (a : Answ
   pub follows : Follows lent given
   pub accepted : decode (a .image) ≡ some given
 
--- It is what a function of the store gives; it is this function of the store.
+-- It follows as what a function gives for the lent store; as the value of a function at the lent store.
 abbrev pub GivenBy : (Store → Outcome) → Store → Store → Type 0
 GivenBy f s u = f s ≡ give u
 
@@ -51,9 +51,9 @@ NoDotBakBak b = (s : Store) → decode b ≡ some s → NoneNamed DotBakBak (s .
 abbrev pub NoDotBakBakMade : Bytes → Type 0
 NoDotBakBakMade b = (s : Store) → decode b ≡ some s → NoneMade DotBakBak (opsOf (journal (s .log)))
 
--- The lent image's log is no whole Committing one, so recovery restores nothing.
-abbrev pub NotCommitting : Bytes → Type 0
-NotCommitting b = (s : Store) → decode b ≡ some s → (ops : List Op) → journal (s .log) ≡ committing ops whole → ⊥
+-- The lent image's log is no whole Committing one: recovery restores nothing.
+abbrev pub NotWholeCommitting : Bytes → Type 0
+NotWholeCommitting b = (s : Store) → decode b ≡ some s → (ops : List Op) → journal (s .log) ≡ committing ops whole → ⊥
 
 -- Why: what an answer hands back is the image of a well-formed store, and a refusal has another number.
 read-back : (b : Bytes) (Follows : Store → Store → Type 0) (s u : Store) (a : Answer) → decode b ≡ some s → Follows s u → Good Valid u → a .image ≡ encode u → Accepted Follows b a
@@ -86,7 +86,7 @@ commit-clear : (b : Bytes) (out : ℕ) (s : Store) → decode b ≡ some s → c
 commit-clear b out s d = on-commit (WithNumber 0 (λ a. commitFault s ≡ none)) b out (refused 0 (λ a. commitFault s ≡ none) commitRefusals (omega arith)) λ u e z. ap commitFault (some-inj (sym d ∙ e)) ∙ no-fault (commitFault u) z
 
 -- Recovery where it keeps the store well-formed.
-recovers : (b : Bytes) → NotCommitting b ⊎ NoDotBakBak b → (s : Store) → decode b ≡ some s → (n : ℕ) → Good Valid (recoveredAt n s)
+recovers : (b : Bytes) → NotWholeCommitting b ⊎ NoDotBakBak b → (s : Store) → decode b ≡ some s → (n : ℕ) → Good Valid (recoveredAt n s)
 recovers b (inl h) s d = recover-keeps-valid s (lent-good b s d) (h s d)
 recovers b (inr h) s d = recover-keeps-named s (lent-good b s d) (h s d)
 
@@ -128,8 +128,14 @@ pub commit-accepted : (b : Bytes) (out : ℕ) → commit b out .number ≡ 0 →
 commit-accepted b out = of-commit b out 0 (omega arith) λ s d z. commit-keeps s (lent-good b s d) (no-fault (commitFault s) z) (length (commitPlan s))
 
 pub commit-failed-accepted : (b : Bytes) (out : ℕ) → (commit b out .number ≡ 14) ⊎ (commit b out .number ≡ 15) → NoDotBakBak b → NoDotBakBakMade b → Accepted (Is committedStore) b (commit b out)
-commit-failed-accepted b out (inl e) h k = of-commit b out 14 (omega arith) (λ s d z. commit-keeps-named s (lent-good b s d) (h s d) (k s d) (length (commitPlan s))) e
-commit-failed-accepted b out (inr e) h k = of-commit b out 15 (omega arith) (λ s d z. commit-keeps-named s (lent-good b s d) (h s d) (k s d) (length (commitPlan s))) e
+commit-failed-accepted b out c h k = go c
+  where
+    keeps : (s : Store) → decode b ≡ some s → Good Valid (committedStore s)
+    keeps s d = commit-keeps-named s (lent-good b s d) (h s d) (k s d) (length (commitPlan s))
+
+    go : (commit b out .number ≡ 14) ⊎ (commit b out .number ≡ 15) → Accepted (Is committedStore) b (commit b out)
+    go (inl e) = of-commit b out 14 (omega arith) (λ s d z. keeps s d) e
+    go (inr e) = of-commit b out 15 (omega arith) (λ s d z. keeps s d) e
 
 -- The steps of a commit with number 0: always. Those of any commit: unless one of the two names is there to be restored.
 pub commit-step-accepted : (n : ℕ) (b : Bytes) (out stepOut room : ℕ) → commit b room .number ≡ 0 → commitStep n b out stepOut .number ≡ 0 → Accepted (Is (committedAt n)) b (commitStep n b out stepOut)
@@ -139,10 +145,10 @@ pub commit-step-failed-accepted : (n : ℕ) (b : Bytes) (out stepOut : ℕ) → 
 commit-step-failed-accepted n b out stepOut h k = of-commit-step n b out stepOut λ s d. commit-keeps-named s (lent-good b s d) (h s d) (k s d) n
 
 -- Recovery and its steps: where nothing is restored, and unless one of the two names is there to be restored.
-pub recover-accepted : (b : Bytes) (out : ℕ) → NotCommitting b ⊎ NoDotBakBak b → recover b out .number ≡ 0 → Accepted (Is recovered) b (recover b out)
+pub recover-accepted : (b : Bytes) (out : ℕ) → NotWholeCommitting b ⊎ NoDotBakBak b → recover b out .number ≡ 0 → Accepted (Is recovered) b (recover b out)
 recover-accepted b out h = on-recover (WithNumber 0 (Accepted (Is recovered) b)) b out (refused 0 (Accepted (Is recovered) b) recoverRefusals (omega arith)) λ s d z.
     read-back b (Is recovered) s (recovered s) _ d refl (recovered-keeps s (recovers b h s d)) refl
 
-pub recover-step-accepted : (n : ℕ) (b : Bytes) (out stepOut : ℕ) → NotCommitting b ⊎ NoDotBakBak b → recoverStep n b out stepOut .number ≡ 0 → Accepted (Is (recoveredAt n)) b (recoverStep n b out stepOut)
+pub recover-step-accepted : (n : ℕ) (b : Bytes) (out stepOut : ℕ) → NotWholeCommitting b ⊎ NoDotBakBak b → recoverStep n b out stepOut .number ≡ 0 → Accepted (Is (recoveredAt n)) b (recoverStep n b out stepOut)
 recover-step-accepted n b out stepOut h = on-recover-step (WithNumber 0 (Accepted (Is (recoveredAt n)) b)) n b out stepOut (refused 0 (Accepted (Is (recoveredAt n)) b) recoverStepRefusals (omega arith)) λ s d z.
     read-back b (Is (recoveredAt n)) s (recoveredAt n s) _ d refl (recovers b h s d n) refl

@@ -114,6 +114,20 @@ deletedCopied : Bytes
 unfolding text beginOn db7
 deletedCopied = copyCollection (text "db") (text "d") (deleteCollection (text "db") (beginOn db7) imageRoom .image) imageRoom .image
 
+-- db/a=1, staging file s=2, and Writes of s to a and of s to b.
+toFile : String → Op
+unfolding text
+toFile key = operation.write (record { collection = text "db"; key = text key; staged = text "s" })
+
+failingWrite : Bytes
+unfolding text toFile
+failingWrite = encode record {
+  tree = ((text "db", []), 0) ∷ ((text "db", text "a"), 1) ∷ [];
+  staging = (([], text "s"), 2) ∷ [];
+  log = some (appendOperation (toFile "b") (appendOperation (toFile "a") (header 0)));
+  openMark = true;
+}
+
 upperK : Bytes
 unfolding hex
 upperK = hex "10 02 00 64 62 11 05 00 07 00 00 00 4B"
@@ -139,7 +153,7 @@ row : String → Bytes → Bytes → Row
 row w c s = record { what = w; computed = c; stated = s }
 
 table : List Row
-unfolding text hex row bit flat readLog times db7 tenSteps twoWrites writeAndDelete copyToItself deletedCopied upperK kDeleted bakBak dotBak
+unfolding text hex row bit flat readLog times failingWrite db7 tenSteps twoWrites writeAndDelete copyToItself deletedCopied upperK kDeleted bakBak dotBak
 table =
     row "an empty name is refused [P]" (bit (validName [])) (hex "00")
     ∷ row "a.bak is a backup [P]" (bit (isBackup (text "a.bak"))) (hex "01")
@@ -200,6 +214,7 @@ table =
     ∷ row "recovery after 8 steps: a=9 [P]" (flat (recover (stepOn tenSteps 8 .image) imageRoom)) (hex "00 10 02 00 64 62 11 05 00 09 00 00 00 61")
     ∷ row "recovery after 10 steps: a=9" (flat (recover (stepOn tenSteps 10 .image) imageRoom)) (hex "00 10 02 00 64 62 11 05 00 09 00 00 00 61")
     ∷ row "the listing of the ten-step case cut after 4" (listAt tenSteps 4) (text "answer 0\ndb/\ndb/a 7\n")
+    ∷ row "a commit that fails at its second Write (14) and is cut after 7 steps: a is gone, so demand 3 leaves failing commits out" (listAt failingWrite 7) (text "answer 0\ndb/\n")
     ∷ row "a restore of ..bak.bak gives the refused name ..bak" (flat (recover bakBak imageRoom)) (hex "00" ++ dotBak)
     ∷ row "so that image is refused with 1" (flat (recover dotBak imageRoom)) (hex "01")
     ∷ []
@@ -230,7 +245,7 @@ agree (r ∷ l) e = let h = both (equal (r .computed) (r .stated)) _ e in ap₂ 
 
 -- Every row computes to what is stated.
 worked : map (λ r. r .computed) table ≡ map (λ r. r .stated) table
-unfolding table equal text hex pairs digit bit flat readLog readAs ending times beginOn writeOn stepOn listAt row db7 tenSteps twoWrites writeAndDelete copyToItself deletedCopied upperK kDeleted bakBak dotBak
+unfolding table equal text hex pairs digit bit flat readLog readAs ending times beginOn writeOn stepOn listAt row toFile failingWrite db7 tenSteps twoWrites writeAndDelete copyToItself deletedCopied upperK kDeleted bakBak dotBak
     polynomial generator addFront divide remainder bitsOf ofBits messageBits complementFirst zeros dividend ieeeCrc32 xor crc32 register feedByte shifts shift addPolynomial
     littleEndian fromLittleEndian encodeField encodeFields fieldsFrom decodeFields hasTag
     lastDot extension stripExtension backupExtension stagingExtension backupName originalName stripTmp isNameByte refusedNames validName lowerByte lower

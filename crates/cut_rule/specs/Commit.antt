@@ -13,7 +13,8 @@ use Rattle.model.specs.Map.{Map, look, put, del, Has}
 use Rattle.laws.specs.MapLaws.{Sorted, key-dec, none≢some, some-inj, look-put-same, look-put-other, look-del-same, look-del-other, look-del-some, sorted-put, sorted-del}
 use Rattle.model.specs.Name.{backupName, originalName}
 use Rattle.model.specs.Base.{Bytes, Any, In, caseOption, isSome, ifPresent, ifMissing}
-use Rattle.cut_rule.specs.Words.{Distinct, allWritesDone, settled, expectedFiles, Plain, Transaction, NoneWaits, CutRule}
+use Rattle.cut_rule.specs.Demand.{Distinct, allWritesDone, settled, expectedFiles}
+use Rattle.cut_rule.specs.StoreRule.{Plain, Transaction, AllRenamed, StoreCutRule}
 use Rattle.model.specs.Operation.{Write, target, backup, Op, write}
 use Rattle.model.specs.Log.{Journal, absent, recording, committing, journal, whole, opsOf}
 use Rattle.model.specs.Plan.{removeStagingFiles, inTurn, run, opSteps, undoSteps, removeBackups, syncExisting, firstNamings, collectionOf, firstFault, commitFault, operationSteps, commitParts, commitPlan, withoutMark, withoutMarkAtEnd, committedAt, recovered, recoverPlan, recoverFault}
@@ -459,8 +460,8 @@ module _ (s : Store) (ws : List Write) (T : Transaction s ws) where
           let i : In w ws = rw (write-inj w (f .0) (f .2)) (f .1) in
           m .marks (w .collection) (w .key) (backupName (w .key)) (w .key) (original-backup (w .key) (T .named w i)) (h w i z)
 
-  recover-at : (n : ℕ) → (n ≡ 0) ⊎ NoneWaits n s ws → recovered (applyAll (take n (commitPlan s)) s) ≡ settled (expectedFiles (isSome (applyAll (take n (commitPlan s)) s .log)) s ws)
-  unfolding NoneWaits
+  recover-at : (n : ℕ) → (n ≡ 0) ⊎ AllRenamed n s ws → recovered (applyAll (take n (commitPlan s)) s) ≡ settled (expectedFiles (isSome (applyAll (take n (commitPlan s)) s .log)) s ws)
+  unfolding AllRenamed
   recover-at zero z = recover-recording s (map write ws) (T .bare) (T .logged) ∙ ap settled (sym (ap (λ (l : Bool). expectedFiles l s ws) (recorded-stands (s .log) (map write ws) whole (T .logged))))
   recover-at (suc n) z = go (at-suc n)
     where
@@ -496,9 +497,9 @@ pub close-log : (m : ℕ) (u : Store) → withoutMarkAtEnd m u .log ≡ u .log
 close-log zero u = refl
 close-log (suc m) u = refl
 
-pub cut-rule : CutRule
+pub store-cut-rule : StoreCutRule
 unfolding committedAt
-cut-rule s ws n T le h =
+store-cut-rule s ws n T le h =
     let u : Store = applyAll (take n (commitPlan s)) s in
     let m : ℕ = length (commitPlan s) - n in
     close-recover m u ∙ recover-at s ws T n h ∙ ap settled (sym (ap (λ (l : Option Bytes). expectedFiles (isSome l) s ws) (close-log m u)))

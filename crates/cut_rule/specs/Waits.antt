@@ -1,4 +1,4 @@
--- The cut rule with "waits" said by the fields that commit's step entry hands back.
+-- "Waits", from the fields that commit's step entry hands back to the steps of the plan.
 use mathlib.Core.Path.{_≡_, refl, sym, _∙_, ap, ap₂, subst}
 use Prim.Native.Nat.{ℕ, zero, suc, _+_, _≤_, _<_}
 use native.Mathlib.Omega.{arith}
@@ -26,27 +26,11 @@ use Rattle.laws.specs.Tests.{and-both, leb-le, All, nil≢cons}
 use Rattle.laws.specs.OperationLaws.{ValidOp, journal-valid}
 use Rattle.laws.specs.Listings.{any-append}
 use Rattle.laws.specs.Runs.{Runs, runs-end, runs-append, runs-over}
-use Rattle.cut_rule.specs.Words.{NoneWaits, expectedFiles, settled}
-use Rattle.cut_rule.specs.Demand.{Conditions, cutAt}
+use Rattle.cut_rule.specs.Demand.{Conditions, backupRename, NoneWaits}
+use Rattle.cut_rule.specs.StoreRule.{AllRenamed}
 use Rattle.cut_rule.specs.Commit.{isRename}
 use Rattle.laws.specs.ValidNames.{valid-bytes}
-use Rattle.cut_rule.specs.Theorem.{Committed, committed, stepped, image-cut-rule}
-
--- The rename of a written key to its backup name.
-abbrev pub renameOf : Write → Step
-renameOf w = renameFile (w .collection) (w .key) (backupName (w .key))
-
--- Its field is among the first n that commit's step entry hands back.
-pub record Renamed (n : ℕ) (b : Bytes) (w : Write) : Type 0 where
-  pub place : ℕ
-  pub early : place ≤ n
-  pub given : commitStep place b imageRoom stepRoom .step ≡ stepField (renameOf w)
-
-abbrev pub FieldCutRule : Type 0
-FieldCutRule =
-    (b : Bytes) (s : Store) (ws : List Write) (n out : ℕ) → Conditions b s ws → commitStep n b imageRoom stepRoom .number ≡ 0 →
-    (n ≡ 0) ⊎ ((w : Write) → In w ws → Has (target w) (s .tree) → Renamed n b w) → (recover (cutAt n b) out .number ≡ 2 → ⊥) →
-    recover (cutAt n b) out ≡ answer 0 (settled (expectedFiles (hasTag 0x13 (cutAt n b)) s ws))
+use Rattle.cut_rule.specs.OverImages.{Committed, committed, stepped}
 
 -- A valid name has no zero byte.
 Full : Name → Type 0
@@ -91,22 +75,22 @@ parts-of x y e = field-parts _ _ e
 -- Every rename of a file in the plan is that of a Write.
 module _ (ws : List Write) where
   Known : List Step → Store → Type 0
-  Known pre u = (d a c : Name) → In (renameFile d a c) pre → (w : Write) × In w ws × (renameFile d a c ≡ renameOf w)
+  Known pre u = (d a c : Name) → In (renameFile d a c) pre → (w : Write) × In w ws × (renameFile d a c ≡ backupRename w)
 
   known-snoc : (pre : List Step) (x : Step) (u v : Store) → isRename x ≡ 0 → Known pre u → Known (pre ++ x ∷ []) v
   unfolding Known
   known-snoc pre x u v z k d a c i = go (any-append (λ b. renameFile d a c ≡ b) pre (x ∷ []) i)
     where
-      go : In (renameFile d a c) pre ⊎ In (renameFile d a c) (x ∷ []) → (w : Write) × In w ws × (renameFile d a c ≡ renameOf w)
+      go : In (renameFile d a c) pre ⊎ In (renameFile d a c) (x ∷ []) → (w : Write) × In w ws × (renameFile d a c ≡ backupRename w)
       go (inl r) = k d a c r
       go (inr (inl r)) = let y : _≡_ {A = ℕ} 1 0 = ap isRename r ∙ z in absurd (omega arith)
       go (inr (inr r)) = absurd r
 
-  known-rename : (pre : List Step) (w : Write) (u v : Store) → In w ws → Known pre u → Known (pre ++ renameOf w ∷ []) v
+  known-rename : (pre : List Step) (w : Write) (u v : Store) → In w ws → Known pre u → Known (pre ++ backupRename w ∷ []) v
   unfolding Known
-  known-rename pre w u v j k d a c i = go (any-append (λ b. renameFile d a c ≡ b) pre (renameOf w ∷ []) i)
+  known-rename pre w u v j k d a c i = go (any-append (λ b. renameFile d a c ≡ b) pre (backupRename w ∷ []) i)
     where
-      go : In (renameFile d a c) pre ⊎ In (renameFile d a c) (renameOf w ∷ []) → (w : Write) × In w ws × (renameFile d a c ≡ renameOf w)
+      go : In (renameFile d a c) pre ⊎ In (renameFile d a c) (backupRename w ∷ []) → (w : Write) × In w ws × (renameFile d a c ≡ backupRename w)
       go (inl r) = k d a c r
       go (inr (inl r)) = (w, j, r)
       go (inr (inr r)) = absurd r
@@ -124,11 +108,11 @@ module _ (ws : List Write) where
       last : (pre : List Step) (u : Store) → Known pre u → Runs Known pre (move ∷ []) u
       last pre u k = (k, known-snoc pre move u (apply move u) refl k)
 
-      next : (b : Option ℕ) (pre : List Step) (u : Store) → Known pre u → Runs Known pre (ifPresent b (renameOf w ∷ []) ++ move ∷ []) u
+      next : (b : Option ℕ) (pre : List Step) (u : Store) → Known pre u → Runs Known pre (ifPresent b (backupRename w ∷ []) ++ move ∷ []) u
       next none pre u k = last pre u k
-      next (some x) pre u k = (k, last (pre ++ renameOf w ∷ []) (apply (renameOf w) u) (known-rename pre w u (apply (renameOf w) u) j k))
+      next (some x) pre u k = (k, last (pre ++ backupRename w ∷ []) (apply (backupRename w) u) (known-rename pre w u (apply (backupRename w) u) j k))
 
-      go : (a b : Option ℕ) → Runs Known pre (ifMissing a (make ∷ []) ++ ifPresent b (renameOf w ∷ []) ++ move ∷ []) u
+      go : (a b : Option ℕ) → Runs Known pre (ifMissing a (make ∷ []) ++ ifPresent b (backupRename w ∷ []) ++ move ∷ []) u
       go none none = (k, next none (pre ++ make ∷ []) (apply make u) (known-snoc pre make u (apply make u) refl k))
       go none (some x) = (k, next (some x) (pre ++ make ∷ []) (apply make u) (known-snoc pre make u (apply make u) refl k))
       go (some y) none = next none pre u k
@@ -236,13 +220,13 @@ module _ (ws : List Write) where
       )
 
 -- A step whose field is that of a Write's rename is that rename.
-rename-injective : (d a c : Name) (v w : Write) → renameFile d a c ≡ renameOf v → ValidOp (write v) → ValidOp (write w) → stepField (renameFile d a c) ≡ stepField (renameOf w) → renameFile d a c ≡ renameOf w
+rename-injective : (d a c : Name) (v w : Write) → renameFile d a c ≡ backupRename v → ValidOp (write v) → ValidOp (write w) → stepField (renameFile d a c) ≡ stepField (backupRename w) → renameFile d a c ≡ backupRename w
 unfolding zeroSeparated tagAndNames
 rename-injective d a c v w p x y e =
-    let h : stepField (renameOf v) ≡ stepField (renameOf w) = ap stepField (sym p) ∙ e in
-    p ∙ same-name v w x y (parts-of (renameOf v) (renameOf w) h .1)
+    let h : stepField (backupRename v) ≡ stepField (backupRename w) = ap stepField (sym p) ∙ e in
+    p ∙ same-name v w x y (parts-of (backupRename v) (backupRename w) h .1)
   where
-    same-name : (v w : Write) → ValidOp (write v) → ValidOp (write w) → zeroSeparated (tagAndNames (renameOf v) .1) ≡ zeroSeparated (tagAndNames (renameOf w) .1) → renameOf v ≡ renameOf w
+    same-name : (v w : Write) → ValidOp (write v) → ValidOp (write w) → zeroSeparated (tagAndNames (backupRename v) .1) ≡ zeroSeparated (tagAndNames (backupRename w) .1) → backupRename v ≡ backupRename w
     same-name v w x y e =
         let h = unzero (v .collection) (w .collection) (v .key ++ 0 ∷ backupName (v .key)) (w .key ++ 0 ∷ backupName (w .key)) (full (v .collection) (x .0)) (full (w .collection) (y .0)) e in
         let k = unzero (v .key) (w .key) (backupName (v .key)) (backupName (w .key)) (full (v .key) (x .1)) (full (w .key) (y .1)) (h .1) in
@@ -260,11 +244,11 @@ in-list zero (y ∷ l) x e = inl (sym (some-inj e))
 in-list (suc i) (y ∷ l) x e = inr (in-list i l x e)
 
 module _ (ws : List Write) (s : Store) (k : Known ws (commitPlan s) s) (v : (w : Write) → In w ws → ValidOp (write w)) (w : Write) (j : In w ws) where
-  other : (x : Step) → ((tagAndNames x .0 ≡ 0x24) → ⊥) → stepField x ≡ stepField (renameOf w) → x ≡ renameOf w
+  other : (x : Step) → ((tagAndNames x .0 ≡ 0x24) → ⊥) → stepField x ≡ stepField (backupRename w) → x ≡ backupRename w
   unfolding tagAndNames
-  other x h e = absurd (h (parts-of x (renameOf w) e .0))
+  other x h e = absurd (h (parts-of x (backupRename w) e .0))
 
-  step-is : (x : Step) → In x (commitPlan s) → stepField x ≡ stepField (renameOf w) → x ≡ renameOf w
+  step-is : (x : Step) → In x (commitPlan s) → stepField x ≡ stepField (backupRename w) → x ≡ backupRename w
   unfolding tagAndNames Known
   step-is rewriteHeader i e = other rewriteHeader (omega arith) e
   step-is syncStaging i e = other syncStaging (omega arith) e
@@ -282,22 +266,22 @@ module _ (ws : List Write) (s : Store) (k : Known ws (commitPlan s) s) (v : (w :
   step-is (removeStaging c) i e = other (removeStaging c) (omega arith) e
   step-is (syncDirectory d) i e = other (syncDirectory d) (omega arith) e
 
-  not-empty : {A : Type 0} → [] ≡ stepField (renameOf w) → A
+  not-empty : {A : Type 0} → [] ≡ stepField (backupRename w) → A
   unfolding stepField encodeField
   not-empty e = nil≢cons e
 
-  field-is : (n m : ℕ) → m ≤ n → fieldAt m (commitPlan s) ≡ stepField (renameOf w) → In (renameOf w) (take n (commitPlan s))
+  field-is : (n m : ℕ) → m ≤ n → fieldAt m (commitPlan s) ≡ stepField (backupRename w) → In (backupRename w) (take n (commitPlan s))
   field-is n zero h e = not-empty e
   field-is n (suc m) h e = go (getElem? (commitPlan s) m) refl e
     where
-      go : (q : Option Step) → getElem? (commitPlan s) m ≡ q → caseOption q [] stepField ≡ stepField (renameOf w) → In (renameOf w) (take n (commitPlan s))
+      go : (q : Option Step) → getElem? (commitPlan s) m ≡ q → caseOption q [] stepField ≡ stepField (backupRename w) → In (backupRename w) (take n (commitPlan s))
       go none z e = not-empty e
       go (some x) z e = rw (step-is x (in-list m (commitPlan s) x z) e) at (in-take n m (commitPlan s) x h z)
 
-  answer-is : (n m : ℕ) → m ≤ n → stepAnswer m (commitPlan s) (committedAt m s) .step ≡ stepField (renameOf w) → In (renameOf w) (take n (commitPlan s))
+  answer-is : (n m : ℕ) → m ≤ n → stepAnswer m (commitPlan s) (committedAt m s) .step ≡ stepField (backupRename w) → In (backupRename w) (take n (commitPlan s))
   answer-is n m h e = go (leb m (length (commitPlan s))) e
     where
-      go : (t : Bool) → if_then_else_ t (record { number = 0; image = Rattle.model.specs.Image.encode (committedAt m s); step = fieldAt m (commitPlan s) }) (refusal 16) .step ≡ stepField (renameOf w) → In (renameOf w) (take n (commitPlan s))
+      go : (t : Bool) → if_then_else_ t (record { number = 0; image = Rattle.model.specs.Image.encode (committedAt m s); step = fieldAt m (commitPlan s) }) (refusal 16) .step ≡ stepField (backupRename w) → In (backupRename w) (take n (commitPlan s))
       go true e = field-is n m h e
       go false e = not-empty e
 
@@ -305,16 +289,12 @@ valid-writes : (ws : List Write) → All ValidOp (map write ws) → (w : Write) 
 valid-writes (v ∷ ws) h w (inl e) = rw e (h .0)
 valid-writes (v ∷ ws) h w (inr i) = valid-writes ws (h .1) w i
 
-pub field-cut-rule : FieldCutRule
-unfolding NoneWaits
-field-cut-rule b s ws n out C e z l = image-cut-rule b s ws n out C e (waits z) l
-  where
-    c : Committed s
-    c = committed b s (C .holds) (C .committed)
-
-    waits : (n ≡ 0) ⊎ ((w : Write) → In w ws → Has (target w) (s .tree) → Renamed n b w) → (n ≡ 0) ⊎ NoneWaits n s ws
-    waits (inl p) = inl p
-    waits (inr h) = inr λ w i x.
-        let r = h w i x in
-        answer-is ws s (plan-known ws s (C .writesAlone) (c .clear)) (valid-writes ws (subst (λ (q : List Op). All ValidOp q) (C .writesAlone) (journal-valid (s .log)))) w i n (r .place) (r .early)
-        (ap (λ (a : Answer). a .step) (sym (stepped b s (r .place) (C .holds) c)) ∙ r .given)
+-- A key whose rename's field was handed back up to n has its rename among the first n steps.
+pub none-waits : (b : Bytes) (s : Store) (ws : List Write) (n : ℕ) → Conditions b s ws → NoneWaits n b s ws → AllRenamed n s ws
+unfolding AllRenamed
+none-waits b s ws n C h w i x =
+    let r = h w i x in
+    let c : Committed s = committed b s (C .holds) (C .committed) in
+    let v = valid-writes ws (subst (λ (q : List Op). All ValidOp q) (C .writesAlone) (journal-valid (s .log))) in
+    answer-is ws s (plan-known ws s (C .writesAlone) (c .clear)) v w i n (r .place) (r .early)
+    (ap (λ (a : Answer). a .step) (sym (stepped b s (r .place) (C .holds) c)) ∙ r .given)

@@ -34,6 +34,7 @@ use Rattle.laws.specs.NameLaws.{strip-some}
 use Rattle.cut_rule.specs.Commit.{store-cut-rule, cut-calm, close-log}
 use Rattle.laws.specs.ValidNames.{Valid, valid-named}
 use Rattle.laws.specs.WellFormed.{commit-keeps}
+use Rattle.laws.specs.EntryLaws.{no-fault}
 
 -- A name that ends in neither has neither extension.
 no-ext : (e n : Name) → (EndsIn e n → ⊥) → stripExtension e n ≡ none
@@ -48,11 +49,6 @@ unfolding originalName stripTmp
 plain n h = record { noBak = no-ext backupExtension n (h .noBak); noTmp = no-ext stagingExtension n (h .noTmp) }
 
 -- What commit's answer 0 says of the store.
-no-fault : (q : Option Fault) → commitNumber q ≡ 0 → q ≡ none
-no-fault none e = refl
-no-fault (some fails) e = absurd (omega arith)
-no-fault (some full) e = absurd (omega arith)
-
 pub record Committed (s : Store) : Type 0 where
   pub ops : List Op
   pub found : transaction s ≡ some ops

@@ -11,7 +11,8 @@ use Rattle.model.specs.Name.{lastDot, extension, stripExtension, backupExtensio
 use Rattle.laws.specs.MapLaws.{none≢some, some-inj}
 use Rattle.laws.specs.Tests.{eqb-eq, same-eq, nil≢cons}
 
-lastDot-append : (a b : Name) → lastDot b ≡ none → lastDot (a ++ 46 ∷ b) ≡ some (a, b)
+-- The last dot of a name that ends in a dot and bytes without one.
+pub lastDot-append : (a b : Name) → lastDot b ≡ none → lastDot (a ++ 46 ∷ b) ≡ some (a, b)
 unfolding lastDot
 lastDot-append [] b h = rw h
 lastDot-append (x ∷ xs) b h = rw (lastDot-append xs b h)

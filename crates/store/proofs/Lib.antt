@@ -4,3 +4,7 @@ pub mod Places
 pub mod Live
 pub mod Search
 pub mod Change
+pub mod Sweep
+pub mod Tally
+pub mod End
+pub mod Rename

@@ -15,14 +15,14 @@ use Rattle.laws.specs.Tests.{All}
 use Rattle.store.specs.Places.{Under, Over, Hit, Gap}
 use Rattle.store.proofs.Lists.{all-getD, drop-zero, all-zero}
 
-flipped : (a b : Key) → cmpKey a b ≡ lt → cmpKey b a ≡ gt
+pub flipped : (a b : Key) → cmpKey a b ≡ lt → cmpKey b a ≡ gt
 flipped a b h = keyLaws .turn a b ∙ ap flip h
 
 flipped-back : (a b : Key) → cmpKey a b ≡ gt → cmpKey b a ≡ lt
 flipped-back a b h = keyLaws .turn a b ∙ ap flip h
 
 -- What stands in the rest of a sorted map is above its first key.
-above-all : (k : Key) (r : Map) → Sorted r → Above k r → All (Over k) r
+pub above-all : (k : Key) (r : Map) → Sorted r → Above k r → All (Over k) r
 above-all k [] s a = tt
 above-all k (n ∷ r) s a =
     let h : cmpKey k (n .0) ≡ lt = a (n .0) (n .1) (look-head n r) in
@@ -96,7 +96,7 @@ module _ (k : Key) where
   put-over v [] h = refl
   put-over v (n ∷ b) h = rw (h .0)
 
-  del-over : (b : Map) → All (Over k) b → del k b ≡ b
+  pub del-over : (b : Map) → All (Over k) b → del k b ≡ b
   unfolding del
   del-over [] h = refl
   del-over (n ∷ b) h = rw (h .0) (ap (n ∷_) (del-over b (h .1)))

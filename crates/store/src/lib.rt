@@ -221,8 +221,7 @@ pub fn remove_dir(src: &[u8], t: Table, dir: NameRef) -> Table
     while i < n {
         let x = t.nodes[i];
         let xd = x.dir;
-        let of = spans::same(src, dir, xd);
-        if of {} else {
+        if !spans::same(src, dir, xd) {
             u.nodes[j] = x;
             j += 1;
         }
@@ -244,8 +243,7 @@ pub fn rename_dir(src: &[u8], t: Table, from: NameRef, to: NameRef) -> Table
         let x = t.nodes[i];
         let xd = x.dir;
         let xf = x.file;
-        let of = spans::same(src, from, xd);
-        if of {
+        if spans::same(src, from, xd) {
             u = put(
                 src,
                 u,

@@ -8,7 +8,7 @@ use lib.ListN.{length, drop, getD}
 use Rattle.model.specs.Order.{Cmp, lt, eq, gt, Name, Key, cmpName, cmpKey, caseCmp}
 use Rattle.model.specs.Map as model
 use Rattle.model.specs.Map.{Map, put, del, look}
-use Rattle.model.specs.Base.{Bytes, sameBytes}
+use Rattle.model.specs.Base.{Bytes, if_then_else_, sameBytes}
 use Rattle.model.specs.Step.{removeDir, renameDir}
 use Rattle.laws.specs.OrderLaws.{nameLaws, keyLaws, lt≢eq}
 use Rattle.laws.specs.MapLaws.{Sorted, key-dec, ext, look-put-same, look-put-other, look-del-same, look-del-other, sorted-put, sorted-del}
@@ -20,6 +20,7 @@ use Rattle.store.specs.declared.Node.{Node}
 use Rattle.store.specs.declared.Table.{Table}
 use Rattle.store.specs.Places.{Over, putIn}
 use Rattle.store.specs.Tables.{keyOf, nodeOf, mapOf, SoundTable, Holds}
+use Rattle.store.proofs.Lists.{drop-zero}
 use Rattle.store.proofs.Live.{length-table, rest, finished}
 use Rattle.store.proofs.Places.{above-all, flipped, del-over}
 use Rattle.store.proofs.Change.{room-put}
@@ -112,3 +113,79 @@ module _ (a b : Name) where
 
   pub renamed : (m : Map) → Sorted m → renameDir a b m m ≡ putAll m (removeDir a m)
   renamed m s = split m m s s ∙ ap (putAll m) (removed a m s)
+
+-- `rename_dir`: what is left of the listing is put into u; the places that the removed nodes left are enough.
+pub record Renaming (src : Bytes) (t u : Table) (from to : NameRef) (i : ℕ) : Type 0 where
+  pub sound : SoundTable src t
+  pub sound-from : Sound src from
+  pub sound-to : Sound src to
+  pub sound-now : SoundTable src u
+  pub within : i ≤ t .len
+  pub room : u .len + nodesIn (nameOf src from) (drop i (mapOf src t)) ≤ t .len
+  pub same : putAll (nameOf src from) (nameOf src to) (drop i (mapOf src t)) (mapOf src u) ≡ renameDir (nameOf src from) (nameOf src to) (mapOf src t) (mapOf src t)
+
+pub start : {src : Bytes} {t u : Table} {from to : NameRef} → SoundTable src t → Sound src from → Sound src to → Holds src u (removeDir (nameOf src from) (mapOf src t)) → Renaming src t u from to 0
+start {src} {t} {u} {from} {to} s f g h =
+    let a : Name = nameOf src from in
+    let l = length-removed a (mapOf src t) in
+    let p : u .len ≡ length (removeDir a (mapOf src t)) = sym (length-table src (h .sound .sized)) ∙ ap length (h .same) in
+    record {
+      sound = s;
+      sound-from = f;
+      sound-to = g;
+      sound-now = h .sound;
+      within = omega arith;
+      room = rw (drop-zero (mapOf src t)) (omega (arith, length-table src (s .sized)));
+      same = rw (drop-zero (mapOf src t), h .same) (sym (renamed a (nameOf src to) (mapOf src t) (s .sorted)));
+    }
+
+-- The node at i.
+module _ {src : Bytes} {t u : Table} {from to : NameRef} {i : ℕ} (w : Renaming src t u from to i) (d : Node) (h : i < t .len) where
+  abbrev x : Node
+  x = getD (t .nodes) i d
+
+  abbrev Of : Bool → Type 0
+  Of b = sameBytes (nameOf src from) (nameOf src (x .dir)) ≡ b
+
+  listed : drop i (mapOf src t) ≡ nodeOf src x ∷ drop (i + 1) (mapOf src t)
+  listed = rest src (w .sound .sized) i d h
+
+  counted : {b : Bool} → Of b → nodesIn (nameOf src from) (drop i (mapOf src t)) ≡ (if b then suc (nodesIn (nameOf src from) (drop (i + 1) (mapOf src t))) else nodesIn (nameOf src from) (drop (i + 1) (mapOf src t)))
+  unfolding nodesIn
+  counted e = rw listed (by-same (nameOf src from) (nameOf src (x .dir)) _ _ e)
+
+  next : {b : Bool} → Of b → putAll (nameOf src from) (nameOf src to) (drop i (mapOf src t)) (mapOf src u) ≡ putAll (nameOf src from) (nameOf src to) (drop (i + 1) (mapOf src t)) (if b then put (keyOf src to (x .file)) (x .number) (mapOf src u) else mapOf src u)
+  unfolding putAll
+  next e = rw listed (ap (putAll (nameOf src from) (nameOf src to) (drop (i + 1) (mapOf src t))) (by-same (nameOf src from) (nameOf src (x .dir)) _ _ e))
+
+  pub other : {v : Table} → Of false → v ≡ u → Renaming src t v from to (i + 1)
+  other e p = record {
+    sound = w .sound;
+    sound-from = w .sound-from;
+    sound-to = w .sound-to;
+    sound-now = rw p (w .sound-now);
+    within = omega arith;
+    room = rw (p, ← counted e) (w .room);
+    same = rw p (sym (next e) ∙ w .same);
+  }
+
+  pub moved : {v r : Table} → Of true → v ≡ r → Holds src r (putIn (keyOf src to (x .file)) (x .number) (mapOf src u)) → Renaming src t v from to (i + 1)
+  moved {v} {r} e p q =
+      let k : Key = keyOf src to (x .file) in
+      let c = counted e in
+      let l : length (mapOf src u) < 145 = omega (arith, length-table src (w .sound-now .sized), w .room, w .sound .sized .room) in
+      let z : mapOf src r ≡ put k (x .number) (mapOf src u) = q .same ∙ room-put k (x .number) (mapOf src u) l in
+      let m : length (mapOf src r) ≤ 1 + length (mapOf src u) = rw (z, length-size, length-size) (size-put-le one k (x .number) (mapOf src u)) in
+      record {
+        sound = w .sound;
+        sound-from = w .sound-from;
+        sound-to = w .sound-to;
+        sound-now = rw p (q .sound);
+        within = omega arith;
+        room = rw p (omega (arith, length-table src (w .sound-now .sized), length-table src (q .sound .sized), w .room));
+        same = rw (p, z) (sym (next e) ∙ w .same);
+      }
+
+pub end : {src : Bytes} {t u : Table} {from to : NameRef} {i : ℕ} → Renaming src t u from to i → t .len ≤ i → Holds src u (renameDir (nameOf src from) (nameOf src to) (mapOf src t) (mapOf src t))
+unfolding putAll
+end {src} {t} {u} {from} {to} {i} w h = record { sound = w .sound-now; same = rw (finished src i (w .sound .sized) h) at (w .same) }

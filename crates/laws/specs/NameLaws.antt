@@ -2,11 +2,11 @@
 use mathlib.Core.Path.{_≡_, refl, sym, _∙_, ap}
 use Prim.Native.Nat.{ℕ, suc, _+_, _-_, _≤_, _<_}
 use native.Mathlib.Omega.{arith}
-use mathlib.Core.List.{List, [], _∷_, _++_, cons≢nil}
+use mathlib.Core.List.{[], _∷_, _++_, cons≢nil}
 use mathlib.Core.Option.{Option, none, some}
 use mathlib.Core.Bool.{Bool, true, false, _&&_, false≢true}
 use lib.ListN.{length, take, drop, getD, length-append, take-append-drop, drop-of-length-le}
-use lib.Seq.{drop-cons, getD-append-add, length-take-le, take-append-seam}
+use lib.Seq.{drop-cons, getD-append-add, length-take-le}
 use lib.Dec.{leb, eqb, eqb-refl}
 use Rattle.model.specs.Order.{Name}
 use Rattle.model.specs.Base.{caseOption, if_then_else_, sameBytes}

@@ -1,6 +1,6 @@
 -- Two names compared byte by byte.
 use mathlib.Core.Path.{_≡_, sym, ap₂, _∙_}
-use mathlib.Core.List.{List, [], _∷_}
+use mathlib.Core.List.{[], _∷_}
 use Prim.Native.Nat.{ℕ, zero, suc, _+_, _≤_, _<_, compare·zero-suc, compare·suc-zero, compare·suc-suc}
 use native.Mathlib.Numerals.{add-one}
 use native.Mathlib.Omega.{arith}

@@ -53,14 +53,16 @@ fn fewer(a: usize, b: usize) -> usize
 }
 
 // The empty name: a directory's own file name, and the directory name of a staging file.
+pub const EMPTY: NameRef = NameRef {
+    start: 0,
+    len: 0,
+    baks: 0,
+};
+
 pub fn empty() -> NameRef
     ensures { λ r. ⌜ ((s : List ℕ) → Names s r []) ⌝ }
 {
-    NameRef {
-        start: 0,
-        len: 0,
-        baks: 0,
-    }
+    EMPTY
 }
 
 // A part of the bytes as a name.

@@ -1,16 +1,14 @@
 -- A table after a node is put in, put over another or taken out.
-use mathlib.Core.Path.{_≡_, refl, sym, ap, subst, _∙_}
+use mathlib.Core.Path.{_≡_, sym, ap, _∙_}
 use mathlib.Core.List.{List, [], _∷_, _++_, map, map-append}
-use mathlib.Core.Bool.{Bool, true, false}
-use Prim.Native.Nat.{ℕ, zero, suc, _+_, _-_, _≤_, _<_}
+use Prim.Native.Nat.{ℕ, suc, _+_, _-_, _≤_, _<_}
 use native.Mathlib.Numerals.{add-one}
 use native.Mathlib.Omega.{arith}
 use lib.ListN.{length, take, drop, getD, set, length-set}
 use lib.Seq.{take-set-lt, set-split}
-use borrow.Author.Tests.{lt-ltb, le-ltb}
 use Rattle.model.specs.Order.{Key}
 use Rattle.model.specs.Map as model
-use Rattle.model.specs.Map.{put, del}
+use Rattle.model.specs.Map.{del}
 use Rattle.model.specs.Base.{Bytes}
 use Rattle.laws.specs.MapLaws.{Sorted, sorted-put, sorted-del}
 use Rattle.laws.specs.Tests.{All, all-append}
@@ -21,6 +19,7 @@ use Rattle.store.specs.Tables.{keyOf, nodeOf, live, mapOf, SoundNode, Si
 use Rattle.store.proofs.Lists.{map-take, map-drop, all-take, all-drop}
 use Rattle.store.proofs.Live.{blank, length-live, length-table}
 use Rattle.store.proofs.Places.{put-gap, put-hit, del-gap, del-hit}
+use Rattle.store.proofs.Room.{room-put, full-put}
 use Rattle.store.proofs.Shift.{Up, up-start, up-step, up-end, Down, down-start, down-step, down-end}
 
 -- `insert_at`, after the moves from the end down to i.
@@ -82,14 +81,6 @@ module _ {t u : Table} {p i : ℕ} (r : Lowered t u p i) where
 -- A table whose nodes are those of a sorted map.
 pub holds : {src : Bytes} {r : Table} {m : model.Map} → Sized r → All (SoundNode src) (live r) → mapOf src r ≡ m → Sorted m → Holds src r m
 holds z a e s = record { sound = record { sized = z; each = a; sorted = rw e s }; same = e }
-
-pub room-put : (k : Key) (v : ℕ) (m : model.Map) → length m < 145 → putIn k v m ≡ put k v m
-unfolding putIn
-room-put k v m h = rw (lt-ltb (length m) 145 h)
-
-full-put : (k : Key) (v : ℕ) (m : model.Map) → 145 ≤ length m → putIn k v m ≡ m
-unfolding putIn
-full-put k v m h = rw (le-ltb (length m) 145 h)
 
 module _ {src : Bytes} {t : Table} (s : SoundTable src t) where
   pub put-full : (k : Key) (v : ℕ) → 145 ≤ t .len → Holds src t (putIn k v (mapOf src t))

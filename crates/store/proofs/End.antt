@@ -1,11 +1,11 @@
 -- The last key of a map, and a node behind it.
-use mathlib.Core.Path.{_≡_, refl, sym, ap, subst, _∙_}
-use mathlib.Core.List.{List, [], _∷_, _++_, map, map-append}
-use mathlib.Core.Bool.{Bool, true, false, false≢true, _&&_}
-use Prim.Native.Nat.{ℕ, zero, suc, _+_, _-_, _≤_, _<_}
+use mathlib.Core.Path.{_≡_, refl, sym, ap, _∙_}
+use mathlib.Core.List.{[], _∷_, _++_, map, map-append}
+use mathlib.Core.Bool.{true, false, false≢true}
+use Prim.Native.Nat.{ℕ, zero, suc, _+_, _-_, _<_}
 use native.Mathlib.Numerals.{add-one}
 use native.Mathlib.Omega.{arith}
-use lib.ListN.{length, take, drop, getD, set, length-set}
+use lib.ListN.{length, take, getD, set, length-set}
 use lib.Seq.{take-length, drop-length, take-suc-set}
 use Rattle.model.specs.Order.{Cmp, lt, eq, gt, Key, cmpKey, caseCmp}
 use Rattle.model.specs.Map as model

@@ -1,16 +1,15 @@
 -- A key's place in a sorted map, and what look, put and del make of it there.
-use mathlib.Core.Path.{_≡_, refl, sym, ap, subst, _∙_}
-use mathlib.Core.List.{List, [], _∷_, _++_}
-use mathlib.Core.Option.{Option, none, some}
-use Prim.Native.Nat.{ℕ, zero, suc, _+_, _≤_, _<_}
+use mathlib.Core.Path.{_≡_, refl, sym, ap, _∙_}
+use mathlib.Core.List.{[], _∷_, _++_}
+use mathlib.Core.Option.{none, some}
+use Prim.Native.Nat.{ℕ, zero, suc, _+_, _<_}
 use native.Mathlib.Nat.{le-of-suc-le-suc, not-suc-le-zero}
-use native.Mathlib.Omega.{arith}
 use lib.ListN.{length, take, drop, getD, take-append-drop}
 use lib.Seq.{drop-cons}
-use Rattle.model.specs.Order.{Cmp, lt, eq, gt, Key, cmpKey}
+use Rattle.model.specs.Order.{lt, eq, gt, Key, cmpKey}
 use Rattle.model.specs.Map.{Node, Map, look, put, del}
 use Rattle.laws.specs.OrderLaws.{flip, keyLaws}
-use Rattle.laws.specs.MapLaws.{Above, Sorted, look-head, look-tail}
+use Rattle.laws.specs.MapLaws.{Above, Sorted, look-head}
 use Rattle.laws.specs.Tests.{All}
 use Rattle.store.specs.Places.{Under, Over, Hit, Gap}
 use Rattle.store.proofs.Lists.{all-getD, drop-zero, all-zero}

@@ -1,11 +1,11 @@
 -- A directory renamed: it is removed, and then its nodes are put in under the new name.
-use mathlib.Core.Path.{_≡_, refl, sym, ap, subst, _∙_}
-use mathlib.Core.List.{List, [], _∷_, _++_}
+use mathlib.Core.Path.{_≡_, refl, sym, ap, _∙_}
+use mathlib.Core.List.{[], _∷_}
 use mathlib.Core.Bool.{Bool, true, false}
-use Prim.Native.Nat.{ℕ, zero, suc, _+_, _≤_, _<_}
+use Prim.Native.Nat.{ℕ, suc, _+_, _≤_, _<_}
 use native.Mathlib.Omega.{arith}
 use lib.ListN.{length, drop, getD}
-use Rattle.model.specs.Order.{Cmp, lt, eq, gt, Name, Key, cmpName, cmpKey, caseCmp}
+use Rattle.model.specs.Order.{Cmp, lt, eq, gt, Name, Key, cmpName, caseCmp}
 use Rattle.model.specs.Map as model
 use Rattle.model.specs.Map.{Map, put, del, look}
 use Rattle.model.specs.Base.{Bytes, if_then_else_, sameBytes}
@@ -23,7 +23,7 @@ use Rattle.store.specs.Tables.{keyOf, nodeOf, mapOf, SoundTable, Holds}
 use Rattle.store.proofs.Lists.{drop-zero}
 use Rattle.store.proofs.Live.{length-table, rest, finished}
 use Rattle.store.proofs.Places.{above-all, flipped, del-over}
-use Rattle.store.proofs.Change.{room-put}
+use Rattle.store.proofs.Room.{room-put}
 use Rattle.store.proofs.Sweep.{by-same}
 
 commute : (k j : Key) (v : ℕ) (t : Map) → Sorted t → (j ≡ k → ⊥) → del j (put k v t) ≡ put k v (del j t)
@@ -175,7 +175,7 @@ module _ {src : Bytes} {t u : Table} {from to : NameRef} {i : ℕ} (w : Renaming
       let c = counted e in
       let l : length (mapOf src u) < 145 = omega (arith, length-table src (w .sound-now .sized), w .room, w .sound .sized .room) in
       let z : mapOf src r ≡ put k (x .number) (mapOf src u) = q .same ∙ room-put k (x .number) (mapOf src u) l in
-      let m : length (mapOf src r) ≤ 1 + length (mapOf src u) = rw (z, length-size, length-size) (size-put-le one k (x .number) (mapOf src u)) in
+      let m : length (mapOf src r) ≤ 1 + length (mapOf src u) = rw (z, length-size (put k (x .number) (mapOf src u)), length-size (mapOf src u)) (size-put-le one k (x .number) (mapOf src u)) in
       record {
         sound = w .sound;
         sound-from = w .sound-from;

@@ -1,8 +1,8 @@
 -- `remove_dir`: the nodes of other directories are stored one behind the other.
-use mathlib.Core.Path.{_≡_, refl, sym, ap, subst, _∙_}
-use mathlib.Core.List.{List, [], _∷_, _++_, map, map-append, append-nil}
+use mathlib.Core.Path.{_≡_, refl, sym, ap, _∙_}
+use mathlib.Core.List.{[], _∷_, _++_, map, map-append, append-nil}
 use mathlib.Core.Bool.{Bool, true, false}
-use Prim.Native.Nat.{ℕ, suc, _+_, _≤_, _<_}
+use Prim.Native.Nat.{ℕ, _+_, _≤_, _<_}
 use native.Mathlib.Numerals.{add-one}
 use native.Mathlib.Omega.{arith}
 use lib.ListN.{length, take, getD, set, length-set}
@@ -17,7 +17,7 @@ use Rattle.spans.specs.Spans.{nameOf, Sound}
 use Rattle.spans.specs.declared.NameRef.{NameRef}
 use Rattle.store.specs.declared.Node.{Node}
 use Rattle.store.specs.declared.Table.{Table}
-use Rattle.store.specs.Tables.{nodeOf, live, mapOf, SoundNode, SoundTable, Holds}
+use Rattle.store.specs.Tables.{nodeOf, mapOf, SoundNode, SoundTable, Holds}
 use Rattle.store.proofs.Lists.{all-zero}
 use Rattle.store.proofs.Live.{sound-at}
 use Rattle.store.proofs.Change.{holds}

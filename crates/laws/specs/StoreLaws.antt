@@ -185,7 +185,7 @@ look-drop-some d j m x h = go (name-dec d (j .0))
     go (yes p) = none≢some (sym (look-drop-same d j m p) ∙ h)
     go (no p) = sym (look-drop-other d j m p) ∙ h
 
-sorted-drop : (d : Name) (m : Map) → Sorted m → Sorted (removeDir d m)
+pub sorted-drop : (d : Name) (m : Map) → Sorted m → Sorted (removeDir d m)
 unfolding removeDir
 sorted-drop d [] s = s
 sorted-drop d (n ∷ r) s = go (sorted-drop d r (s .1)) (cmpName d (n .0 .0))

@@ -8,13 +8,14 @@ use mathlib.Core.Bool.{Bool, true, false, _&&_, false≢true}
 use lib.ListN.{length, take, drop, getD, length-append, take-append-drop, drop-of-length-le}
 use lib.Seq.{drop-cons, getD-append-add, length-take-le}
 use lib.Dec.{leb, eqb, eqb-refl}
-use Rattle.model.specs.Order.{Name}
+use Rattle.model.specs.Order.{Name, Key}
 use Rattle.model.specs.Base.{caseOption, if_then_else_, sameBytes}
 use Rattle.model.specs.Name.{lastDot, extension, stripExtension, backupExtension, backupName, originalName, stagingExtension, stripTmp}
 use Rattle.laws.specs.MapLaws.{none≢some, some-inj}
 use Rattle.laws.specs.Tests.{eqb-eq, leb-le, le-leb, of-T, same-eq, same-refl, nil≢cons, and-both, and-made}
 
-lastDot-append : (a b : Name) → lastDot b ≡ none → lastDot (a ++ 46 ∷ b) ≡ some (a, b)
+-- The last dot of a name that ends in a dot and bytes without one.
+pub lastDot-append : (a b : Name) → lastDot b ≡ none → lastDot (a ++ 46 ∷ b) ≡ some (a, b)
 unfolding lastDot
 lastDot-append [] b h = rw h
 lastDot-append (x ∷ xs) b h = rw (lastDot-append xs b h)
@@ -71,6 +72,10 @@ original-named n g p q = nil≢cons (sym q ∙ strip-shape backupExtension n g p
 pub original-nil : originalName [] ≡ none
 unfolding originalName stripExtension extension
 original-nil = refl
+
+-- A backup's key is no plain key.
+pub key-apart : (d c f n g : Name) → originalName f ≡ none → originalName n ≡ some g → _≡_ {A = Key} (d, f) (c, n) → ⊥
+key-apart d c f n g p q e = none≢some (sym p ∙ ap (λ (k : Key). originalName (k .1)) e ∙ q)
 
 -- A name has at least five bytes, and the last four are a dot and these three.
 unfoldable pub endsIn : ℕ → ℕ → ℕ → Name → Bool

@@ -2,6 +2,7 @@ ghost use mathlib.Core.Path.{_≡_};
 ghost use mathlib.Core.List.{List, [], _∷_};
 ghost use Prim.Native.Nat.{ℕ, _≤_, _<_, _+_, _*_};
 ghost use lib.ListN.{length, getD, take, drop};
+ghost use Rattle.model.specs.Limits.{nameLimit};
 ghost use Rattle.model.specs.Order.{cmpName};
 ghost use Rattle.model.specs.Base.{sameBytes};
 ghost use Rattle.model.specs.Name.{isBackup, isTmp};
@@ -30,6 +31,9 @@ pub enum OriginalName {
     Is(NameRef),
     NotABackup,
 }
+
+// 01, How a store is handed over: "A name is 1 to 64 bytes".
+const NAME_LIMIT: usize = 64;
 
 // ".bak"
 const DOT_BAK: [u8; 4] = [0x2E, 0x62, 0x61, 0x6B];
@@ -67,7 +71,7 @@ pub fn empty() -> NameRef
 
 // A part of the bytes as a name.
 pub fn span(src: &[u8], start: usize, len: usize) -> NameRef
-    requires { ⌜ (start < 65536) × (len ≤ 64) × (start + len ≤ length (now src)) ⌝ }
+    requires { ⌜ (start < 65536) × (len ≤ nameLimit) × (start + len ≤ length (now src)) ⌝ }
     ensures { λ r. ⌜ Names (now (src .entry)) r (take len (drop start (now (src .entry)))) ⌝ }
 {
     NameRef {
@@ -200,7 +204,7 @@ pub fn backup(src: &[u8], r: NameRef) -> BackupName
     ensures { λ b. ⌜ Backup (now (src .entry)) r b ⌝ }
 {
     let n = length_of(r);
-    if n <= 60 {
+    if n + 4 <= NAME_LIMIT {
         BackupName::Is(NameRef {
             start: r.start,
             len: r.len,

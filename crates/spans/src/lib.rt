@@ -105,7 +105,7 @@ pub fn byte_at(src: &[u8], r: NameRef, i: usize) -> u8
     }
 }
 
-// The order of two names: first the bytes that both have in their spans, then one by one.
+// 01, Listings and file steps: "in ascending byte order, a shorter name before a longer one that begins with it". First the bytes that both have in their spans, then one by one.
 pub fn compare(src: &[u8], a: NameRef, b: NameRef) -> Order
     requires { ⌜ Sound (now src) a × Sound (now src) b ⌝ }
     ensures { λ r. ⌜ orderOf r ≡ cmpName (nameOf (now (src .entry)) a) (nameOf (now (src .entry)) b) ⌝ }
@@ -182,7 +182,7 @@ fn ends_in(src: &[u8], r: NameRef, x: u8, y: u8, z: u8) -> bool
     a == 0x2E && (b == x && (c == y && d == z))
 }
 
-// Whether a name is a backup name: its extension is "bak".
+// Whether a name is a backup name: its extension is "bak" (recovery.rs, `BACKUP_EXTENSION`).
 pub fn is_backup(src: &[u8], r: NameRef) -> bool
     requires { ⌜ Sound (now src) r ⌝ }
     ensures { λ b. ⌜ b ≡ isBackup (nameOf (now (src .entry)) r) ⌝ }
@@ -190,7 +190,7 @@ pub fn is_backup(src: &[u8], r: NameRef) -> bool
     ends_in(src, r, 0x62, 0x61, 0x6B)
 }
 
-// Whether a name has the extension of staging files, "tmp".
+// Whether a name has the extension of staging files, "tmp" (recovery.rs, `STAGING_EXTENSION`).
 pub fn is_tmp(src: &[u8], r: NameRef) -> bool
     requires { ⌜ Sound (now src) r ⌝ }
     ensures { λ b. ⌜ b ≡ isTmp (nameOf (now (src .entry)) r) ⌝ }
@@ -198,7 +198,7 @@ pub fn is_tmp(src: &[u8], r: NameRef) -> bool
     ends_in(src, r, 0x74, 0x6D, 0x70)
 }
 
-// The backup name of a name, where that has at most 64 bytes.
+// The backup name of a name, where that has at most 64 bytes. 01, Sixteen numbers, 14: "backup name over 64 bytes".
 pub fn backup(src: &[u8], r: NameRef) -> BackupName
     requires { ⌜ Sound (now src) r ⌝ }
     ensures { λ b. ⌜ Backup (now (src .entry)) r b ⌝ }
@@ -215,7 +215,7 @@ pub fn backup(src: &[u8], r: NameRef) -> BackupName
     }
 }
 
-// The name whose backup name it is, if it is one.
+// The name whose backup name it is, if it is one. 01, Corners, paths.rs: ""a.bak" is a backup; ".bak" has no extension".
 pub fn original(src: &[u8], r: NameRef) -> OriginalName
     requires { ⌜ Sound (now src) r ⌝ }
     ensures { λ o. ⌜ Original (now (src .entry)) r o ⌝ }

@@ -1,23 +1,24 @@
 -- A well-formed tree by its looks, and what changes of it keep it so.
-use mathlib.Core.Path.{_≡_, refl, sym, _∙_, ap, ap₂, subst}
-use Prim.Native.Nat.{ℕ, zero, suc, _+_, _≤_, _<_}
+use mathlib.Core.Path.{_≡_, refl, sym, _∙_, ap}
+use Prim.Native.Nat.{ℕ, suc, _+_, _≤_}
 use native.Mathlib.Omega.{arith}
-use mathlib.Core.List.{List, [], _∷_, _++_, map}
-use mathlib.Core.Option.{Option, none, some}
-use mathlib.Core.Bool.{Bool, true, false, not, _&&_, false≢true}
+use mathlib.Core.List.{List, [], _∷_}
+use mathlib.Core.Option.{some}
+use mathlib.Core.Bool.{true, false, _&&_, false≢true}
 use mathlib.Core.Logic.{_⊎_, inl, inr}
 use lib.ListN.{length}
-use lib.Dec.{leb, eqb}
+use lib.Dec.{eqb}
 use Rattle.model.specs.Order.{Cmp, lt, eq, gt, thenCmp, Name, Key, cmpName, cmpKey}
 use Rattle.laws.specs.OrderLaws.{flip, nameLaws, keyLaws, lt≢gt, lt≢eq, gt≢eq}
 use Rattle.model.specs.Order.{caseCmp}
 use Rattle.model.specs.Map.{Map, Node, look, put, del, Has}
-use Rattle.laws.specs.MapLaws.{Above, Sorted, key-dec, none≢some, some-inj, look-head, look-tail, look-put-same, look-put-other, look-del-same, look-del-other, look-del-some, sorted-put, sorted-del, above-none}
-use Rattle.model.specs.Base.{ifEmpty, sameBytes, allOf}
+use Rattle.laws.specs.MapLaws.{Above, Sorted, key-dec, none≢some, some-inj, look-head, look-tail}
+use Rattle.model.specs.Base.{ifEmpty, sameBytes}
 use Rattle.model.specs.Name.{validName}
-use Rattle.model.specs.Store.{dirs, fileCount, validNumber, validNode, validNodes, validStaged, belowFirst, ascending}
-use Rattle.laws.specs.Tests.{and-both, and-made, leb-le, le-leb, eqb-eq, same-eq, same-refl, All, all-of, of-all}
-use Rattle.laws.specs.ImageLaws.{valid-length, node-parts, file-parts, staged-parts}
+use Rattle.model.specs.Store.{dirs, fileCount, validNumber, validNode, validNodes, belowFirst, ascending}
+use Rattle.laws.specs.Tests.{and-both, and-made, eqb-eq, same-refl}
+use Rattle.laws.specs.ValidNames.{Valid, valid-named}
+use Rattle.laws.specs.ImageLaws.{node-parts, file-parts}
 
 -- Ascending neighbours, and every key above those before it.
 below-lt : (c : Cmp) → caseCmp c true false false ≡ true → c ≡ lt
@@ -53,11 +54,11 @@ sorted-ascending (n ∷ r) s = and-made (belowFirst (n .0) r) (ascending r) (go 
     go [] a = refl
     go (m ∷ q) a = rw (a (m .0) (m .1) (look-head m q))
 
--- What is said of a node.
-pub record NodeGood (t : Map) (d f : Name) (x : ℕ) : Type 0 where
-  pub dir : validName d ≡ true
+-- What is said of a node, with the property N of names.
+pub record NodeGood (N : Name → Type 0) (t : Map) (d f : Name) (x : ℕ) : Type 0 where
+  pub dir : N d
   pub zeroed : f ≡ [] → x ≡ 0
-  pub name : (f ≡ [] → ⊥) → validName f ≡ true
+  pub name : (f ≡ [] → ⊥) → N f
   pub number : (f ≡ [] → ⊥) → validNumber x ≡ true
   pub inside : (f ≡ [] → ⊥) → Has (d, []) t
 
@@ -67,10 +68,6 @@ record NodeSaid (e : Name) (t : Map) (d f : Name) (x : ℕ) : Type 0 where
   name : (f ≡ [] → ⊥) → validName f ≡ true
   number : (f ≡ [] → ⊥) → validNumber x ≡ true
   inside : (f ≡ [] → ⊥) → (d ≡ e) ⊎ Has (d, []) t
-
-pub invalid-nil : {A : Type 0} → validName [] ≡ true → A
-unfolding validName
-invalid-nil e = absurd (false≢true e)
 
 cons≢nil : {A : Type 0} {x : A} {l : List A} → x ∷ l ≡ [] → ⊥
 cons≢nil {A} {x} {l} p = let z : _≡_ {A = ℕ} 0 1 = cc in omega arith
@@ -114,13 +111,13 @@ nodes-said e (n ∷ r) p d f x h =
         at (inl y) = old (n .0 .1) refl (q .1) y
         at (inr y) = inr (has (key-dec (d, []) (n .0)) y)
 
-pub nodes-good : (t : Map) → validNodes [] t ≡ true → (d f : Name) (x : ℕ) → look (d, f) t ≡ some x → NodeGood t d f x
+pub nodes-good : (t : Map) → validNodes [] t ≡ true → (d f : Name) (x : ℕ) → look (d, f) t ≡ some x → NodeGood Valid t d f x
 nodes-good t p d f x h =
     let s = nodes-said [] t p d f x h in
     record { dir = s .dir; zeroed = s .zeroed; name = s .name; number = s .number; inside = λ z. go (s .dir) (s .inside z) }
   where
     go : validName d ≡ true → (d ≡ []) ⊎ Has (d, []) t → Has (d, []) t
-    go v (inl z) = invalid-nil (rw z at v)
+    go v (inl z) = absurd (valid-named d v z)
     go v (inr z) = z
 
 -- Back: in a sorted tree every file stands behind its directory.
@@ -202,7 +199,7 @@ nodes-back e (n ∷ r) s b h =
             squeeze e (n .0 .0) g (n .0 .1) f (a (n .0) (n .1) (look-head n r)) q
 
         at : Edge e (n ∷ r) → n .0 .0 ≡ e
-        at (inl y) = invalid-nil (rw (z ∙ y) at (h .dir d f x l))
+        at (inl y) = absurd (valid-named d (h .dir d f x l) (z ∙ y))
         at (inr y) = on (y .0) (y .1) (key-dec (d, f) (n .0))
 
     own : (n .0 .1 ≡ [] → ⊥) → (n .0 .0 ≡ e) ⊎ Has (n .0 .0, []) (n ∷ r) → n .0 .0 ≡ e
@@ -227,7 +224,7 @@ nodes-back e (n ∷ r) s b h =
         let m = h .name (n .0 .0) (n .0 .1) (n .1) (look-head n r) z in
         (m .0, m .1, own z (h .inside (n .0 .0) (n .0 .1) (n .1) (look-head n r) z))
 
-pub good-nodes : (t : Map) → Sorted t → ((d f : Name) (x : ℕ) → look (d, f) t ≡ some x → NodeGood t d f x) → validNodes [] t ≡ true
+pub good-nodes : (t : Map) → Sorted t → ((d f : Name) (x : ℕ) → look (d, f) t ≡ some x → NodeGood Valid t d f x) → validNodes [] t ≡ true
 good-nodes t s h = nodes-back [] t s (inl refl) record {
   dir = λ d f x l. h d f x l .dir;
   zeroed = λ d x l. h d [] x l .zeroed refl;

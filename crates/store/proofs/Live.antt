@@ -1,17 +1,17 @@
 -- The nodes of a table that are in use, and the map that they stand for.
-use mathlib.Core.Path.{_≡_, refl, sym, ap, subst, _∙_}
-use mathlib.Core.List.{List, [], _∷_, _++_, map}
+use mathlib.Core.Path.{_≡_, sym, ap, subst, _∙_}
+use mathlib.Core.List.{[], _∷_}
 use Prim.Native.Nat.{ℕ, suc, _+_, _≤_, _<_}
 use native.Mathlib.Numerals.{add-one}
 use native.Mathlib.Omega.{arith}
-use lib.ListN.{length, take, drop, getD, length-map, List·getD-map, drop-of-length-le}
+use lib.ListN.{length, drop, getD, length-map, List·getD-map, drop-of-length-le}
 use lib.Seq.{drop-cons, length-take-le, getD-take}
 use Rattle.model.specs.Map as model
 use Rattle.model.specs.Base.{Bytes}
 use Rattle.store.specs.declared.Node.{Node}
 use Rattle.store.specs.declared.Table.{Table}
 use Rattle.store.specs.Tables.{nodeOf, live, mapOf, SoundNode, Sized, SoundTable}
-use Rattle.store.proofs.Lists.{map-drop, all-getD}
+use Rattle.store.proofs.Lists.{all-getD}
 
 pub blank : Node
 blank = record { dir = record { start = 0; len = 0; baks = 0 }; file = record { start = 0; len = 0; baks = 0 }; number = 0 }

@@ -1,28 +1,27 @@
 -- A key's place in a sorted map, and what look, put and del make of it there.
-use mathlib.Core.Path.{_≡_, refl, sym, ap, subst, _∙_}
-use mathlib.Core.List.{List, [], _∷_, _++_}
-use mathlib.Core.Option.{Option, none, some}
-use Prim.Native.Nat.{ℕ, zero, suc, _+_, _≤_, _<_}
+use mathlib.Core.Path.{_≡_, refl, sym, ap, _∙_}
+use mathlib.Core.List.{[], _∷_, _++_}
+use mathlib.Core.Option.{none, some}
+use Prim.Native.Nat.{ℕ, zero, suc, _+_, _<_}
 use native.Mathlib.Nat.{le-of-suc-le-suc, not-suc-le-zero}
-use native.Mathlib.Omega.{arith}
 use lib.ListN.{length, take, drop, getD, take-append-drop}
 use lib.Seq.{drop-cons}
-use Rattle.model.specs.Order.{Cmp, lt, eq, gt, Key, cmpKey}
+use Rattle.model.specs.Order.{lt, eq, gt, Key, cmpKey}
 use Rattle.model.specs.Map.{Node, Map, look, put, del}
 use Rattle.laws.specs.OrderLaws.{flip, keyLaws}
-use Rattle.laws.specs.MapLaws.{Above, Sorted, look-head, look-tail}
+use Rattle.laws.specs.MapLaws.{Above, Sorted, look-head}
 use Rattle.laws.specs.Tests.{All}
 use Rattle.store.specs.Places.{Under, Over, Hit, Gap}
 use Rattle.store.proofs.Lists.{all-getD, drop-zero, all-zero}
 
-flipped : (a b : Key) → cmpKey a b ≡ lt → cmpKey b a ≡ gt
+pub flipped : (a b : Key) → cmpKey a b ≡ lt → cmpKey b a ≡ gt
 flipped a b h = keyLaws .turn a b ∙ ap flip h
 
 flipped-back : (a b : Key) → cmpKey a b ≡ gt → cmpKey b a ≡ lt
 flipped-back a b h = keyLaws .turn a b ∙ ap flip h
 
 -- What stands in the rest of a sorted map is above its first key.
-above-all : (k : Key) (r : Map) → Sorted r → Above k r → All (Over k) r
+pub above-all : (k : Key) (r : Map) → Sorted r → Above k r → All (Over k) r
 above-all k [] s a = tt
 above-all k (n ∷ r) s a =
     let h : cmpKey k (n .0) ≡ lt = a (n .0) (n .1) (look-head n r) in
@@ -96,7 +95,7 @@ module _ (k : Key) where
   put-over v [] h = refl
   put-over v (n ∷ b) h = rw (h .0)
 
-  del-over : (b : Map) → All (Over k) b → del k b ≡ b
+  pub del-over : (b : Map) → All (Over k) b → del k b ≡ b
   unfolding del
   del-over [] h = refl
   del-over (n ∷ b) h = rw (h .0) (ap (n ∷_) (del-over b (h .1)))

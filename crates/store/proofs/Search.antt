@@ -1,12 +1,12 @@
 -- Binary search: the nodes before lo are below the key, and those from hi on are above it.
-use mathlib.Core.Path.{_≡_, refl, sym, ap, subst, _∙_}
-use mathlib.Core.List.{List, [], _∷_}
-use mathlib.Core.Option.{Option, none, some}
+use mathlib.Core.Path.{_≡_, sym, ap, _∙_}
+use mathlib.Core.List.{_∷_}
+use mathlib.Core.Option.{none, some}
 use Prim.Native.Nat.{ℕ, suc, _+_, _≤_, _<_}
 use native.Mathlib.Numerals.{add-one}
 use native.Mathlib.Omega.{arith}
 use lib.ListN.{length, take, drop, getD}
-use Rattle.model.specs.Order.{Cmp, lt, eq, gt, Key, cmpKey}
+use Rattle.model.specs.Order.{Key, cmpKey}
 use Rattle.model.specs.Map as model
 use Rattle.model.specs.Map.{look}
 use Rattle.model.specs.Base.{Bytes}

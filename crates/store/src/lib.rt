@@ -2,16 +2,18 @@ ghost use mathlib.Core.Path.{_≡_};
 ghost use mathlib.Core.List.{List, [], _∷_, _++_};
 ghost use mathlib.Core.Bool.{true};
 ghost use Prim.Native.Nat.{ℕ, _≤_, _<_, _+_};
-ghost use lib.ListN.{length, take, drop};
+ghost use lib.ListN.{take, drop};
 ghost use Rattle.model.specs.Order.{cmpKey};
 ghost use Rattle.model.specs.Map.{look, del};
-ghost use Rattle.model.specs.Base.{sameBytes};
 ghost use Rattle.model.specs.Step.{removeDir, renameDir};
 ghost use Rattle.spans.specs.Spans.{nameOf, orderOf, Sound};
-ghost use Rattle.store.specs.Places.{putIn, aboveLast};
+ghost use Rattle.store.specs.Places.{tableRoom, putIn, aboveLast};
 ghost use Rattle.store.specs.Tables.{keyOf, nodeOf, live, mapOf, SoundNode, Sized, SoundTable, Holds, Finds, heldOf, Counted};
 use spans::NameRef;
 use spans::Order;
+
+// 01, How a store is handed over: "At most 16 directories, 128 files"; and one node more, so that a put within these limits has room.
+const ROOM: usize = 145;
 
 // A directory's own node has the empty file name and number 0; a staging file's has the empty directory name.
 pub struct Node {
@@ -20,9 +22,10 @@ pub struct Node {
     pub number: u32,
 }
 
-// Nodes ascending by directory and file: those before `len` are in use.
+// A tree, or the staging files. 01, How a store is handed over: directories "in ascending byte order of name", each "followed by its files
+// ascending". The nodes before `len` are in use.
 pub struct Table {
-    pub nodes: [Node; 145],
+    pub nodes: [Node; ROOM],
     pub len: usize,
 }
 
@@ -56,15 +59,9 @@ pub struct Store {
     pub open_mark: bool,
 }
 
-const NO_NAME: NameRef = NameRef {
-    start: 0,
-    len: 0,
-    baks: 0,
-};
-
 const NO_NODE: Node = Node {
-    dir: NO_NAME,
-    file: NO_NAME,
+    dir: spans::EMPTY,
+    file: spans::EMPTY,
     number: 0,
 };
 
@@ -72,7 +69,7 @@ pub fn empty() -> Table
     ensures { λ r. ⌜ ((s : List ℕ) → Holds s r []) ⌝ }
 {
     Table {
-        nodes: [NO_NODE; 145],
+        nodes: [NO_NODE; ROOM],
         len: 0,
     }
 }
@@ -142,7 +139,7 @@ pub fn look(src: &[u8], t: Table, dir: NameRef, file: NameRef) -> Held
 
 // The table with a node put in at a place.
 fn insert_at(t: Table, p: usize, x: Node) -> Table
-    requires { ⌜ Sized t × ((p ≤ t .len) × (t .len < 145)) ⌝ }
+    requires { ⌜ Sized t × ((p ≤ t .len) × (t .len < tableRoom)) ⌝ }
     ensures { λ r. ⌜ Sized r × (live r ≡ take p (live t) ++ x ∷ drop p (live t)) ⌝ }
 {
     let mut u = t;
@@ -181,7 +178,7 @@ pub fn put(src: &[u8], t: Table, x: Node) -> Table
     ensures { λ r. ⌜ Holds (now (src .entry)) r (putIn (keyOf (now (src .entry)) (x .dir) (x .file)) (x .number) (mapOf (now (src .entry)) t)) ⌝ }
 {
     let n = t.len;
-    if n >= 145 {
+    if n >= ROOM {
         return t;
     }
     let dir = x.dir;
@@ -209,7 +206,7 @@ pub fn del(src: &[u8], t: Table, dir: NameRef, file: NameRef) -> Table
     }
 }
 
-// The table without a directory and its files.
+// The table without a directory and its files (step 0x29).
 pub fn remove_dir(src: &[u8], t: Table, dir: NameRef) -> Table
     requires { ⌜ SoundTable (now src) t × Sound (now src) dir ⌝ }
     ensures { λ r. ⌜ Holds (now (src .entry)) r (removeDir (nameOf (now (src .entry)) dir) (mapOf (now (src .entry)) t)) ⌝ }
@@ -221,8 +218,7 @@ pub fn remove_dir(src: &[u8], t: Table, dir: NameRef) -> Table
     while i < n {
         let x = t.nodes[i];
         let xd = x.dir;
-        let of = spans::same(src, dir, xd);
-        if of {} else {
+        if !spans::same(src, dir, xd) {
             u.nodes[j] = x;
             j += 1;
         }
@@ -232,7 +228,7 @@ pub fn remove_dir(src: &[u8], t: Table, dir: NameRef) -> Table
     u
 }
 
-// The table with a directory renamed. What stands in the other directory stays, but for files of the same names.
+// The table with a directory renamed (step 0x26). What stands in the other directory stays, but for files of the same names.
 pub fn rename_dir(src: &[u8], t: Table, from: NameRef, to: NameRef) -> Table
     requires { ⌜ SoundTable (now src) t × (Sound (now src) from × Sound (now src) to) ⌝ }
     ensures { λ r. ⌜ Holds (now (src .entry)) r (renameDir (nameOf (now (src .entry)) from) (nameOf (now (src .entry)) to) (mapOf (now (src .entry)) t) (mapOf (now (src .entry)) t)) ⌝ }
@@ -244,8 +240,7 @@ pub fn rename_dir(src: &[u8], t: Table, from: NameRef, to: NameRef) -> Table
         let x = t.nodes[i];
         let xd = x.dir;
         let xf = x.file;
-        let of = spans::same(src, from, xd);
-        if of {
+        if spans::same(src, from, xd) {
             u = put(
                 src,
                 u,
@@ -305,7 +300,7 @@ pub fn follows(src: &[u8], t: Table, dir: NameRef, file: NameRef) -> bool
 
 // The table with one more node at its end. An image's nodes come in ascending order.
 pub fn append(src: &[u8], t: Table, x: Node) -> Table
-    requires { ⌜ (SoundTable (now src) t × SoundNode (now src) x) × ((t .len < 145) × (aboveLast (keyOf (now src) (x .dir) (x .file)) (mapOf (now src) t) ≡ true)) ⌝ }
+    requires { ⌜ (SoundTable (now src) t × SoundNode (now src) x) × ((t .len < tableRoom) × (aboveLast (keyOf (now src) (x .dir) (x .file)) (mapOf (now src) t) ≡ true)) ⌝ }
     ensures { λ r. ⌜ Holds (now (src .entry)) r (mapOf (now (src .entry)) t ++ nodeOf (now (src .entry)) x ∷ []) ⌝ }
 {
     let mut u = t;

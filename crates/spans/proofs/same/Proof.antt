@@ -1,6 +1,5 @@
 -- `same` asks for their order.
 use borrow.Author.Needs.{needs}
-use mathlib.Core.Path.{_≡_, refl}
 use Rattle.spans.proofs.same.Statement.{statement}
 use Rattle.spans.proofs.same.Tie as tie
 

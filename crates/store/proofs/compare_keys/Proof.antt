@@ -1,6 +1,6 @@
 -- `compare_keys`: the first difference decides.
 use borrow.Author.Needs.{needs}
-use mathlib.Core.Path.{_≡_, refl, _∙_}
+use mathlib.Core.Path.{_∙_}
 use Rattle.model.specs.Order.{cmpKey}
 use Rattle.store.proofs.compare_keys.Statement.{statement}
 use Rattle.store.proofs.compare_keys.Tie as tie

@@ -1,7 +1,6 @@
 -- `insert_at` moves the nodes from the place on up by one.
 use borrow.Author.Needs.{needs}
 use native.Mathlib.Omega.{arith}
-use mathlib.Core.Path.{_≡_, refl}
 use Rattle.store.proofs.Change.{Raised, raised-start, raised-next, raised-end}
 use Rattle.store.proofs.insert_at.Statement.{statement}
 use Rattle.store.proofs.insert_at.Tie as tie

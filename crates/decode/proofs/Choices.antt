@@ -15,7 +15,6 @@ use Rattle.model.specs.Base.{Bytes}
 use Rattle.model.specs.Name.{validName}
 use Rattle.model.specs.Field.{Field}
 use Rattle.laws.specs.ImageLaws.{node-parts}
-use Rattle.laws.specs.TreeLaws.{invalid-nil}
 use Rattle.field.specs.declared.Item.{Item}
 use Rattle.field.specs.declared.Read.{Read}
 use Rattle.field.specs.declared.Read.the-variants.{Is}
@@ -30,6 +29,7 @@ use Rattle.decode.specs.Reading.{Ahead, starts}
 use Rattle.decode.specs.Listing.{own}
 use Rattle.decode.specs.Spots.{SoundSpot, Stops, Breaks, AtField, InDir}
 use Rattle.decode.proofs.Ahead.{no-bytes, first, nothing}
+use Rattle.decode.proofs.Rows.{invalid-nil}
 use Rattle.decode.proofs.Nodes.{tree-filed}
 use Rattle.decode.proofs.Steps.{broken}
 

@@ -14,18 +14,19 @@ use Rattle.model.specs.Map.{Map}
 use Rattle.model.specs.Base.{Bytes, flatMap}
 use Rattle.model.specs.Name.{validName}
 use Rattle.model.specs.Field.{Field, encodeField, encodeFields, fieldsFrom}
-use Rattle.model.specs.Store.{belowFirst, ascending}
+use Rattle.model.specs.Store.{ascending}
 use Rattle.laws.specs.Tests.{and-both}
 use Rattle.laws.specs.MapLaws.{Sorted}
 use Rattle.laws.specs.FieldLaws.{encode-append}
 use Rattle.laws.specs.ImageLaws.{node-parts, staged-parts}
-use Rattle.laws.specs.TreeLaws.{size, isDir, isFile, invalid-nil, sorted-ascending}
+use Rattle.laws.specs.TreeLaws.{size, isDir, isFile, sorted-ascending}
 use Rattle.spans.specs.declared.NameRef.{NameRef}
 use Rattle.spans.specs.Spans.{nameOf, Names}
 use Rattle.store.specs.declared.Table.{Table}
 use Rattle.store.specs.Places.{aboveLast}
 use Rattle.store.specs.Tables.{keyOf, nodeOf, mapOf, SoundNode, SoundTable, Holds}
 use Rattle.store.proofs.Live.{length-table}
+use Rattle.store.proofs.End.{ascending-above}
 use Rattle.decode.specs.declared.Spot.{Spot}
 use Rattle.decode.specs.declared.Next.{Next}
 use Rattle.decode.specs.declared.Next.the-variants.{Is, Other, Broken}
@@ -34,7 +35,7 @@ use Rattle.decode.specs.Listing.{listed, own, filesOf, validAt, validFro
 use Rattle.decode.specs.Spots.{LastDir, SoundSpot, Follows, Stops, Breaks, Comes}
 use Rattle.decode.specs.Decoding.{ReadsNodes}
 use Rattle.decode.proofs.Ahead.{one-more}
-use Rattle.decode.proofs.Rows.{last-more, above-last, ascends-at, valid-at, valid-more, size-append, count}
+use Rattle.decode.proofs.Rows.{invalid-nil, last-more, above-last, last-below, valid-at, valid-more, size-append, count}
 use Rattle.decode.proofs.Nodes.{own-listed, same-node}
 
 -- Before the first node.
@@ -54,21 +55,19 @@ above-none true n e = let p = staged-parts n e in rw (p .0) (go (n .0 .1) (p .1)
     go [] v = invalid-nil v
     go (y ∷ ys) v = refl
 
-below-first : (staged : Bool) (y : Map) → validFrom staged [] y ≡ true → belowFirst none-yet y ≡ true
-below-first staged [] e = refl
-below-first staged (n ∷ r) e = rw (above-none staged n (and-both (validAt staged [] n) (validFrom staged (n .0 .0) r) e .0))
-
 -- A node of a formed listing fits behind those before it; a formed listing with a node that fits is formed.
 abbrev FitsBehind : Bool → Map → model.Node → Type 0
 FitsBehind staged m n = Fits staged (lastKey none-yet m) (size isDir m) (size isFile m) n
 
 fits-behind : {staged : Bool} (m : Map) (n : model.Node) (r : Map) → Formed staged (m ++ n ∷ r) → FitsBehind staged m n
-fits-behind {staged} m n r f = record {
-  valid = valid-at staged none-yet m n r (f .valid);
-  above = ascends-at none-yet m n r (below-first staged (m ++ n ∷ r) (f .valid)) (f .ascends);
-  dirsFit = omega (arith, size-append isDir m (n ∷ r), f .dirs);
-  filesFit = omega (arith, size-append isFile m (n ∷ r), f .files);
-}
+fits-behind {staged} m n r f =
+    let v : validAt staged (lastKey none-yet m .0) n ≡ true = valid-at staged none-yet m n r (f .valid) in
+    record {
+      valid = v;
+      above = last-below (n .0) none-yet m (ascending-above m n r (f .ascends)) (λ e. above-none staged n (rw e at v));
+      dirsFit = omega (arith, size-append isDir m (n ∷ r), f .dirs);
+      filesFit = omega (arith, size-append isFile m (n ∷ r), f .files);
+    }
 
 formed-more : {staged : Bool} (m : Map) (n : model.Node) → Formed staged m → FitsBehind staged m n → Sorted (m ++ n ∷ []) → Formed staged (m ++ n ∷ [])
 formed-more {staged} m n f h s = record {

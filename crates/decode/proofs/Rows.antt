@@ -9,12 +9,18 @@ use Rattle.model.specs.Order.{Cmp, lt, eq, gt, Name, Key, cmpKey, caseCmp}
 use Rattle.model.specs.Map.{Map, Node}
 use Rattle.model.specs.Base.{allOf}
 use Rattle.model.specs.Name.{validName}
-use Rattle.model.specs.Store.{belowFirst, ascending, validNode, validNodes, validStaged}
-use Rattle.laws.specs.Tests.{and-both, and-made}
+use Rattle.model.specs.Store.{validNode, validNodes, validStaged}
+use Rattle.laws.specs.Tests.{nil≢cons, and-both, and-made}
 use Rattle.laws.specs.ImageLaws.{staged-parts}
-use Rattle.laws.specs.TreeLaws.{size, isDir, isFile, invalid-nil}
+use Rattle.laws.specs.ValidNames.{valid-named}
+use Rattle.laws.specs.TreeLaws.{size, isDir, isFile, dir-size, file-size}
 use Rattle.store.specs.Places.{aboveLast}
+use Rattle.store.proofs.Tally.{dirs-files}
 use Rattle.decode.specs.Listing.{validAt, validFrom, lastKey}
+
+-- A valid name has bytes.
+pub invalid-nil : {A : Type 0} → validName [] ≡ true → A
+invalid-nil v = absurd (valid-named [] v refl)
 
 -- The last key.
 pub last-more : (k : Key) (m : Map) (n : Node) → lastKey k (m ++ n ∷ []) ≡ n .0
@@ -32,12 +38,11 @@ above-last k j [] h = refl
 above-last k j (n ∷ []) h = rw h
 above-last k j (n ∷ x ∷ m) h = above-last k (n .0) (x ∷ m) h
 
-pub ascends-at : (k : Key) (m : Map) (n : Node) (r : Map) → belowFirst k (m ++ n ∷ r) ≡ true → ascending (m ++ n ∷ r) ≡ true → cmpKey (lastKey k m) (n .0) ≡ lt
-unfolding ascending
-ascends-at k [] n r b a = below (cmpKey k (n .0)) b
-ascends-at k (x ∷ m) n r b a =
-    let h = and-both (belowFirst (x .0) (m ++ n ∷ r)) (ascending (m ++ n ∷ r)) a in
-    ascends-at (x .0) m n r (h .0) (h .1)
+pub last-below : (k j : Key) (m : Map) → aboveLast k m ≡ true → (m ≡ [] → cmpKey j k ≡ lt) → cmpKey (lastKey j m) k ≡ lt
+unfolding aboveLast
+last-below k j [] a h = h refl
+last-below k j (n ∷ []) a h = below (cmpKey (n .0) k) a
+last-below k j (n ∷ x ∷ m) a h = last-below k (n .0) (x ∷ m) a (λ e. nil≢cons (sym e))
 
 -- Valid nodes.
 module _ (staged : Bool) where
@@ -66,12 +71,7 @@ size-append w [] r = omega arith
 size-append w (n ∷ m) r = omega (arith, size-append w m r)
 
 pub count : (m : Map) → length m ≡ size isDir m + size isFile m
-count [] = refl
-count (n ∷ m) = go (n .0 .1) (count m)
-  where
-    go : (f : Name) → length m ≡ size isDir m + size isFile m → suc (length m) ≡ isDir (n .0 .0, f) + size isDir m + (isFile (n .0 .0, f) + size isFile m)
-    go [] e = omega arith
-    go (y ∷ ys) e = omega arith
+count m = omega (arith, dirs-files m, dir-size m, file-size m)
 
 pub staged-files : (m : Map) → allOf validStaged m ≡ true → size isFile m ≡ length m
 staged-files [] e = refl

@@ -13,9 +13,9 @@ use Rattle.model.specs.Map as model
 use Rattle.model.specs.Base.{Bytes, caseOption}
 use Rattle.model.specs.Name.{validName}
 use Rattle.model.specs.Field.{Field, fromLittleEndian, encodeField, fieldsFrom}
-use Rattle.laws.specs.Tests.{All}
+use Rattle.laws.specs.Tests.{all-at}
 use Rattle.laws.specs.FieldLaws.{Byte}
-use Rattle.laws.specs.ImageLaws.{valid-length}
+use Rattle.laws.specs.ValidNames.{valid-length}
 use Rattle.laws.specs.TreeLaws.{isDir, isFile}
 use Rattle.field.specs.declared.Item.{Item}
 use Rattle.field.specs.Reading.{u32At, fieldOf, Stands}
@@ -96,10 +96,6 @@ module _ {src : Bytes} {p : Spot} {x : Item} (a : AtField false src p x 0x10) wh
       refl (dir-fits t (a .spot .filesFit)) refl (omega arith) refl
 
 -- A file: the four bytes of its number, and its name behind them.
-bytes-of : (l : Bytes) → ((i : ℕ) → Byte (getD l i 0)) → All Byte l
-bytes-of [] h = tt
-bytes-of (b ∷ l) h = (h 0, bytes-of l (λ i. h (suc i)))
-
 rest-of : (k n : ℕ) (l : Bytes) → k ≤ n → n ≤ length l → take (n - k) (drop k l) ≡ drop k (take n l)
 rest-of k n l h w =
     let e : length (take n l) ≡ n = length-take-le n l w in
@@ -167,4 +163,4 @@ module _ {staged : Bool} {src : Bytes} {p : Spot} {x : Item} (a : AtField staged
           filesFit = let r : p .files < filesOf staged = t .room in omega arith;
         }
         refl (file-fits i q (a .spot .dirsFit)) (omega arith) (omega arith)
-        (file-again q (all-take Byte 4 (valueOf src x) (all-take Byte (x .end - x .start) (drop (x .start) src) (all-drop Byte (x .start) src (bytes-of src b)))))
+        (file-again q (all-take Byte 4 (valueOf src x) (all-take Byte (x .end - x .start) (drop (x .start) src) (all-drop Byte (x .start) src (all-at Byte 0 src b)))))

@@ -19,9 +19,10 @@ use Rattle.laws.specs.Tests.{and-both, and-made, le-leb}
 use Rattle.laws.specs.ImageLaws.{Parts, parts, of-parts, regroup, encode-parts, tail, split-encode, decode-encode, decode-only}
 use Rattle.laws.specs.TreeLaws.{size, isDir, isFile, one, dir-size, file-size, length-size}
 use Rattle.laws.specs.StoreLaws.{LogFits, Good, good}
+use Rattle.laws.specs.ValidNames.{Valid, validNaming}
 use Rattle.laws.specs.LengthLaws.{encode-length}
 use Rattle.store.specs.Tables.{mapOf, Holds}
-use Rattle.store.specs.Stores.{logOf, storeOf, SoundStore}
+use Rattle.store.specs.Stores.{storeOf, SoundStore}
 use Rattle.store.specs.declared.Table.{Table}
 use Rattle.store.specs.declared.Store.{Store}
 use Rattle.store.proofs.Lists.{drop-zero}
@@ -67,10 +68,10 @@ well s t g l =
       logFits = log-test (s .log) l;
     }
 
-tree-formed : (s : model.Store) → Parts s → Good s → Formed false (s .tree)
+tree-formed : (s : model.Store) → Parts s → Good Valid s → Formed false (s .tree)
 tree-formed s p g = record { ascends = p .treeAscends; valid = valid-tree [] (s .tree) ∙ p .nodes; dirs = g .tree .dirsFit; files = g .tree .filesFit }
 
-staging-formed : (s : model.Store) → Parts s → Good s → Formed true (s .staging)
+staging-formed : (s : model.Store) → Parts s → Good Valid s → Formed true (s .staging)
 staging-formed s p g =
     let f : size isFile (s .staging) ≡ length (s .staging) = staged-files (s .staging) (p .staged) in
     let h : size one (s .staging) ≤ 32 = g .staging .fits in
@@ -158,4 +159,4 @@ too-long src {t} {g} h T G = record {
   where
     no : (o : Option model.Store) → decode src ≡ o → decode src ≡ none
     no none q = q
-    no (some s) q = let p = decode-only src s q in absurd (omega (arith, encode-length s (p .1), ap length (p .0)))
+    no (some s) q = let p = decode-only src s q in absurd (omega (arith, encode-length validNaming s (good s (p .1)), ap length (p .0)))

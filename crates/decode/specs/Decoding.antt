@@ -10,7 +10,7 @@ use Rattle.model.specs.Store as model
 use Rattle.model.specs.Image.{logField, markField, decode}
 use Rattle.laws.specs.StoreLaws.{LogFits}
 use Rattle.store.specs.Tables.{mapOf, SoundTable}
-use Rattle.store.specs.Stores.{logOf, storeOf, SoundLog, SoundStore}
+use Rattle.store.specs.Stores.{logBytes, storeOf, SoundLog, SoundStore}
 use Rattle.decode.specs.declared.NodesPart.{NodesPart}
 use Rattle.decode.specs.declared.LogPart.{LogPart}
 use Rattle.decode.specs.declared.MarkPart.{MarkPart}
@@ -24,7 +24,7 @@ pub record ReadsNodes (staged : Bool) (src : Bytes) (at : ℕ) (r : NodesPart) :
 
 pub record ReadsLog (src : Bytes) (at : ℕ) (r : LogPart) : Type 0 where
   pub sound : SoundLog src (r .log)
-  pub reads : Reads logField LogFits (λ t. eqb t 0x13) src at (r .ok) (logOf src (r .log)) (r .next)
+  pub reads : Reads logField LogFits (λ t. eqb t 0x13) src at (r .ok) (logBytes src (r .log)) (r .next)
 
 pub record ReadsMark (src : Bytes) (at : ℕ) (r : MarkPart) : Type 0 where
   pub reads : Reads markField (λ b. Unit {0}) (λ t. eqb t 0x14) src at (r .ok) (r .mark) (r .next)

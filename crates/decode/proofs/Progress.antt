@@ -5,9 +5,9 @@ use mathlib.Core.List.{List, [], _∷_, _++_, map, map-append, append-assoc, app
 use mathlib.Core.Option.{none, some}
 use Prim.Native.Nat.{ℕ, _+_, _≤_, _<_}
 use native.Mathlib.Omega.{arith}
-use lib.ListN.{length, drop}
+use lib.ListN.{length, drop, set}
 use lib.Seq.{append-snoc}
-use Rattle.model.specs.Limits.{dirLimit}
+use Rattle.model.specs.Limits.{dirLimit, fileLimit}
 use Rattle.model.specs.Order.{lt, Name, Key, cmpName, cmpKey}
 use Rattle.model.specs.Map as model
 use Rattle.model.specs.Map.{Map}
@@ -23,10 +23,10 @@ use Rattle.laws.specs.TreeLaws.{size, isDir, isFile, sorted-ascending}
 use Rattle.spans.specs.declared.NameRef.{NameRef}
 use Rattle.spans.specs.Spans.{nameOf, Names}
 use Rattle.store.specs.declared.Table.{Table}
-use Rattle.store.specs.Places.{aboveLast}
-use Rattle.store.specs.Tables.{keyOf, nodeOf, mapOf, SoundNode, SoundTable, Holds}
+use Rattle.store.specs.Places.{tableRoom}
+use Rattle.store.specs.Tables.{keyOf, nodeOf, mapOf, Holds}
 use Rattle.store.proofs.Live.{length-table}
-use Rattle.store.proofs.End.{ascending-above}
+use Rattle.store.proofs.End.{ascending-above, appended}
 use Rattle.decode.specs.declared.Spot.{Spot}
 use Rattle.decode.specs.declared.Next.{Next}
 use Rattle.decode.specs.declared.Next.the-variants.{Is, Other, Broken}
@@ -121,20 +121,20 @@ module _ {staged : Bool} {src : Bytes} {at : ℕ} {t : Table} {p : Spot} (w : Pr
   front : (n : model.Node) → FitsBehind staged (w .m) n → Fits staged (keyOf src (p .node .dir) (p .node .file)) (p .dirs) (p .files) n
   front n f = rw (← w .key, w .dirs, w .files) f
 
+  -- The table has room for one node more.
+  pub room : t .len < tableRoom
+  room =
+      let l : length (w .m) ≡ t .len = ap length (sym (w .holds .same)) ∙ length-table src (w .holds .sound .sized) in
+      omega (arith, count (w .m), w .formed .dirs, limit staged (w .formed .files))
+    where
+      limit : (s : Bool) → size isFile (w .m) ≤ filesOf s → size isFile (w .m) ≤ fileLimit
+      limit false h = h
+      limit true h = omega arith
+
   -- One node more.
   module _ {q : Spot} (f : Follows staged src p q) where
-    pub appends : (SoundTable src t × SoundNode src (q .node)) × ((t .len < 145) × (aboveLast (keyOf src (q .node .dir) (q .node .file)) (mapOf src t) ≡ true))
-    appends =
-        let l : length (w .m) ≡ t .len = ap length (sym (w .holds .same)) ∙ length-table src (w .holds .sound .sized) in
-        let c : length (w .m) ≡ size isDir (w .m) + size isFile (w .m) = count (w .m) in
-        ((w .holds .sound, f .spot .node), (omega (arith, w .formed .dirs, limit staged (w .formed .files)), rw (w .holds .same) (above-last _ none-yet (w .m) (rw (w .key) (f .fits .above)))))
-      where
-        limit : (s : Bool) → size isFile (w .m) ≤ filesOf s → size isFile (w .m) ≤ 128
-        limit false h = h
-        limit true h = omega arith
-
-    pub goes-on : {u : Table} → Holds src u (mapOf src t ++ nodeOf src (q .node) ∷ []) → Progress staged src at u q
-    goes-on {u} h = record {
+    pub goes-on : Progress staged src at (record { nodes = set (t .nodes) (t .len) (q .node); len = t .len + 1 }) q
+    goes-on = record {
       m = w .m ++ n ∷ [];
       holds = record { sound = h .sound; same = more };
       spot = f .spot;
@@ -148,6 +148,12 @@ module _ {staged : Bool} {src : Bytes} {at : ℕ} {t : Table} {p : Spot} (w : Pr
       where
         n : model.Node
         n = nodeOf src (q .node)
+
+        u : Table
+        u = record { nodes = set (t .nodes) (t .len) (q .node); len = t .len + 1 }
+
+        h : Holds src u (mapOf src t ++ n ∷ [])
+        h = appended (w .holds .sound) (f .spot .node) room (rw (w .holds .same) (above-last _ none-yet (w .m) (rw (w .key) (f .fits .above))))
 
         more : mapOf src u ≡ w .m ++ n ∷ []
         more = h .same ∙ ap (λ (m : Map). m ++ n ∷ []) (w .holds .same)

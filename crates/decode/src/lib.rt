@@ -188,7 +188,8 @@ fn next_node(src: &[u8], last: Spot, staged: bool) -> Next
     file_at(src, last, x, false)
 }
 
-// The listing that stands at a place: the directories with their files, or the staging files.
+// The listing that stands at a place: the directories with their files, or the staging files. Its nodes come in ascending order, so each is
+// stored at the table's end, in place: `store::append` would copy the table.
 fn read_nodes(src: &[u8], at: usize, staged: bool) -> NodesPart
     requires { ⌜ (length (now src) ≤ imageRoom) × (at ≤ length (now src)) ⌝ }
     ensures { λ r. ⌜ ReadsNodes staged (now (src .entry)) at r ⌝ }
@@ -210,7 +211,9 @@ fn read_nodes(src: &[u8], at: usize, staged: bool) -> NodesPart
         match n {
             Next::Is(p) => {
                 let x = p.node;
-                t = store::append(src, t, x);
+                let n = t.len;
+                t.nodes[n] = x;
+                t.len = n + 1;
                 last = p;
             }
             Next::Other => {

@@ -4,7 +4,7 @@ use Prim.Native.Nat.{_-_}
 use native.Mathlib.Omega.{arith}
 use lib.ListN.{length}
 use borrow.Author.Needs.{needs}
-use Rattle.decode.proofs.Progress.{Progress, begin, appends, goes-on, stops, breaks, is-node, is-other, is-broken}
+use Rattle.decode.proofs.Progress.{Progress, begin, room, goes-on, stops, breaks, is-node, is-other, is-broken}
 use Rattle.decode.proofs.read_nodes.Statement.{statement}
 use Rattle.decode.proofs.read_nodes.Tie as tie
 
@@ -29,14 +29,20 @@ next-node-requires c κs = (c .before .before .before .before .pre .0, c .loop .
 enum-known-n : tie.Need-enum-known-n Inv-loop μ-loop
 enum-known-n c = search needs
 
-append-requires : tie.Need-append-requires Inv-loop μ-loop
-append-requires c κs = appends (c .before .before .before .before .before .loop .inv) (is-node _ (c .before .before .before .before .next-node .ensures) (c .before .before .n .given .1))
+mul-x : tie.Need-mul-x Inv-loop μ-loop
+mul-x c = let r = room (c .before .before .before .before .before .loop .inv) in search needs
+
+element-set-from-x : tie.Need-element-set-from-x Inv-loop μ-loop
+element-set-from-x c = let r = room (c .before .before .before .before .before .loop .inv) in search needs
+
+add-t : tie.Need-add-t Inv-loop μ-loop
+add-t c = let r = room (c .before .before .before .before .before .loop .inv) in search needs
 
 loop-less : tie.Need-loop-less Inv-loop μ-loop
-loop-less c = let f = is-node _ (c .before .before .before .before .before .next-node .ensures) (c .before .before .before .n .given .1) in omega (arith, f .moved, f .spot .within)
+loop-less c = let f = is-node _ (c .before .before .before .before .next-node .ensures) (c .before .before .n .given .1) in omega (arith, f .moved, f .spot .within)
 
 loop-again : tie.Need-loop-again Inv-loop μ-loop
-loop-again c = goes-on (c .before .before .before .before .before .before .loop .inv) (is-node _ (c .before .before .before .before .before .next-node .ensures) (c .before .before .before .n .given .1)) (c .append .ensures)
+loop-again c = goes-on (c .before .before .before .before .before .loop .inv) (is-node _ (c .before .before .before .before .next-node .ensures) (c .before .before .n .given .1))
 
 enum-told : tie.Need-enum-told Inv-loop μ-loop
 enum-told c = search needs
@@ -61,7 +67,9 @@ read-nodes-spec =
     loop-holds
     next-node-requires
     enum-known-n
-    append-requires
+    mul-x
+    element-set-from-x
+    add-t
     loop-less
     loop-again
     enum-told

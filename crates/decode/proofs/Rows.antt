@@ -27,7 +27,7 @@ pub last-more : (k : Key) (m : Map) (n : Node) → lastKey k (m ++ n ∷ []) ≡
 last-more k [] n = refl
 last-more k (x ∷ m) n = last-more (x .0) m n
 
-below : (c : Cmp) → caseCmp c true false false ≡ true → c ≡ lt
+pub below : (c : Cmp) → caseCmp c true false false ≡ true → c ≡ lt
 below lt e = refl
 below eq e = absurd (false≢true e)
 below gt e = absurd (false≢true e)

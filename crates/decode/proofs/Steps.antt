@@ -2,13 +2,14 @@
 use mathlib.Core.Path.{_≡_, refl, sym, ap, _∙_}
 use mathlib.Core.Bool.{Bool, true, false}
 use mathlib.Core.List.{List, [], _∷_, _++_}
+use mathlib.Core.Logic.{_↔_}
 use mathlib.Core.Option.{none, some}
 use Prim.Native.Nat.{ℕ, suc, _+_, _-_, _≤_, _<_}
 use native.Mathlib.Omega.{arith}
 use lib.ListN.{length, take, drop, getD, length-append, length-drop, take-append-drop}
 use lib.Seq.{length-take-le, take-take, drop-drop, take-at, drop-append-le}
 use Rattle.model.specs.Limits.{dirLimit, numberLimit, imageRoom}
-use Rattle.model.specs.Order.{Cmp, lt, eq, gt, Name, cmpName}
+use Rattle.model.specs.Order.{lt, Name, cmpName}
 use Rattle.model.specs.Map as model
 use Rattle.model.specs.Base.{Bytes, caseOption}
 use Rattle.model.specs.Name.{validName}
@@ -22,15 +23,15 @@ use Rattle.field.specs.Reading.{u32At, fieldOf, Stands}
 use Rattle.field.specs.Writing.{field}
 use Rattle.field.proofs.Fields.{number-there}
 use Rattle.spans.specs.declared.NameRef.{NameRef}
-use Rattle.spans.specs.declared.Order.{Order}
-use Rattle.spans.specs.Spans.{nameOf, orderOf, Sound, Names}
+use Rattle.spans.specs.Spans.{nameOf, Names}
 use Rattle.store.specs.Tables.{keyOf, nodeOf, SoundNode}
 use Rattle.store.proofs.Lists.{all-take, all-drop}
 use Rattle.decode.specs.declared.Spot.{Spot}
 use Rattle.decode.specs.Reading.{Ahead, starts}
-use Rattle.decode.specs.Listing.{listed, fileTag, own, filesOf, Fits}
+use Rattle.decode.specs.Listing.{listed, fileTag, own, filesOf, isBelow}
 use Rattle.decode.specs.Spots.{LastDir, SoundSpot, FitsAt, Follows, Breaks, AtField, InDir}
 use Rattle.decode.proofs.Ahead.{valueOf, value-length, first}
+use Rattle.decode.proofs.Rows.{below}
 use Rattle.decode.proofs.Nodes.{numberOf, own-file}
 use Rattle.decode.proofs.Tests.{DirPasses, dir-passes, dir-fits, FilePasses, file-passes, file-fits, file-again, is-file}
 
@@ -42,8 +43,8 @@ name-fits src b e h o w v =
     (omega arith, omega (arith, valid-length (take (e - b) (drop b src)) v .1), omega arith)
 
 -- What a comparison found.
-found : {src : Bytes} {name : NameRef} {o q : Order} (k f : Name) → Names src name f → orderOf o ≡ cmpName k (nameOf src name) → o ≡ q → cmpName k f ≡ orderOf q
-found k f n c e = ap (cmpName k) (sym (n .same)) ∙ sym c ∙ ap orderOf e
+found : {src : Bytes} {name : NameRef} {r : Bool} (k f : Name) → Names src name f → r ≡ isBelow k (nameOf src name) → (r ≡ true) ↔ (cmpName k f ≡ lt)
+found {src} {name} {r} k f n e = let z : r ≡ isBelow k f = e ∙ ap (isBelow k) (n .same) in (λ t. below (cmpName k f) (sym z ∙ t), λ l. z ∙ rw l)
 
 module _ {staged : Bool} {src : Bytes} {p : Spot} {x : Item} {t : ℕ} (a : AtField staged src p x t) where
   is-field : fieldOf src x ≡ field t (valueOf src x)
@@ -79,8 +80,8 @@ module _ {src : Bytes} {p : Spot} {x : Item} (a : AtField false src p x 0x10) wh
   pub dir-broken : (DirPasses (keyOf src (p .node .dir) (p .node .file)) (p .dirs) (valueOf src x) → ⊥) → Breaks false src p
   dir-broken h = broken a refl (λ n f e. h (dir-passes f e))
 
-  pub dir-ordered : {name : NameRef} {o q : Order} → Names src name (valueOf src x) → orderOf o ≡ cmpName (nameOf src (p .node .dir)) (nameOf src name) → o ≡ q → cmpName (nameOf src (p .node .dir)) (valueOf src x) ≡ orderOf q
-  dir-ordered n c e = found (nameOf src (p .node .dir)) (valueOf src x) n c e
+  pub dir-ordered : {name : NameRef} {r : Bool} → Names src name (valueOf src x) → r ≡ isBelow (nameOf src (p .node .dir)) (nameOf src name) → (r ≡ true) ↔ (cmpName (nameOf src (p .node .dir)) (valueOf src x) ≡ lt)
+  dir-ordered n e = found (nameOf src (p .node .dir)) (valueOf src x) n e
 
   pub dir-followed : {name none : NameRef} → DirPasses (keyOf src (p .node .dir) (p .node .file)) (p .dirs) (valueOf src x) → Names src name (valueOf src x) → Names src none [] →
       Follows false src p (record { node = record { dir = name; file = none; number = 0 }; next = x .end; dirs = p .dirs + 1; files = p .files })
@@ -142,8 +143,8 @@ module _ {staged : Bool} {src : Bytes} {p : Spot} {x : Item} (a : AtField staged
       let m : u32At src (x .start) ≡ numberOf (valueOf src x) = number-value (t .long) in
       record { room = t .room; long = rw (value-length (a .stands)) (t .long); number = rw m at (t .number); small = rw m at (t .small); valid = rw n at (t .valid); above = rw n at (t .above) }
 
-  pub file-ordered : {name : NameRef} {o q : Order} → Names src name (nameIn src x) → orderOf o ≡ cmpName (nameOf src (p .node .file)) (nameOf src name) → o ≡ q → cmpName (nameOf src (p .node .file)) (nameIn src x) ≡ orderOf q
-  file-ordered n c e = found (nameOf src (p .node .file)) (nameIn src x) n c e
+  pub file-ordered : {name : NameRef} {r : Bool} → Names src name (nameIn src x) → r ≡ isBelow (nameOf src (p .node .file)) (nameOf src name) → (r ≡ true) ↔ (cmpName (nameOf src (p .node .file)) (nameIn src x) ≡ lt)
+  file-ordered n e = found (nameOf src (p .node .file)) (nameIn src x) n e
 
   module _ (i : InDir staged (nameOf src (p .node .dir))) where
     pub file-broken : (FileTests staged src p x → ⊥) → Breaks staged src p

@@ -5,7 +5,7 @@ use mathlib.Core.List.{List, [], _∷_}
 use Prim.Native.Nat.{ℕ, _+_, _≤_}
 use lib.Dec.{eqb}
 use Rattle.model.specs.Limits.{dirLimit, fileLimit, stagingLimit}
-use Rattle.model.specs.Order.{lt, Name, Key, cmpKey}
+use Rattle.model.specs.Order.{lt, Name, Key, cmpName, cmpKey, caseCmp}
 use Rattle.model.specs.Map.{Map, Node}
 use Rattle.model.specs.Field.{Field}
 use Rattle.model.specs.Store.{validNode, validStaged, ascending}
@@ -50,6 +50,10 @@ pub record Formed (staged : Bool) (m : Map) : Type 0 where
 abbrev pub lastKey : Key → Map → Key
 lastKey k [] = k
 lastKey k (n ∷ r) = lastKey (n .0) r
+
+-- A name may stand before another.
+abbrev pub isBelow : Name → Name → Bool
+isBelow a b = caseCmp (cmpName a b) true false false
 
 -- A node may stand behind a key and so many directories and files.
 pub record Fits (staged : Bool) (k : Key) (dirs files : ℕ) (n : Node) : Type 0 where

@@ -4,12 +4,13 @@ ghost use mathlib.Core.Bool.{true, false, _&&_};
 ghost use Prim.Native.Nat.{_≤_};
 ghost use lib.ListN.{length};
 ghost use Rattle.model.specs.Limits.{imageRoom};
-ghost use Rattle.spans.specs.Spans.{nameOf};
-ghost use Rattle.decode.specs.Listing.{fileTag, filesOf};
+ghost use Rattle.spans.specs.Spans.{nameOf, Sound};
+ghost use Rattle.decode.specs.Listing.{fileTag, filesOf, isBelow};
 ghost use Rattle.decode.specs.Spots.{SoundSpot, Comes, AtField, InDir};
 ghost use Rattle.decode.specs.Decoding.{ReadsNodes, ReadsLog, ReadsMark, Decodes};
 use field::Item;
 use field::Read;
+use spans::NameRef;
 use spans::Order;
 use store::LogRef;
 use store::Node;
@@ -79,6 +80,19 @@ fn file_limit(staged: bool) -> usize
     if staged { STAGING_LIMIT } else { FILE_LIMIT }
 }
 
+// Whether a name may stand before another: "ascending", "No name twice in a directory."
+fn is_below(src: &[u8], a: NameRef, b: NameRef) -> bool
+    requires { ⌜ Sound (now src) a × Sound (now src) b ⌝ }
+    ensures { λ r. ⌜ r ≡ isBelow (nameOf (now (src .entry)) a) (nameOf (now (src .entry)) b) ⌝ }
+{
+    let o = spans::compare(src, a, b);
+    match o {
+        Order::Less => true,
+        Order::Equal => false,
+        Order::Greater => false,
+    }
+}
+
 // A directory: "0x10 (name)".
 fn dir_at(src: &[u8], last: Spot, x: Item) -> Next
     requires { ⌜ AtField false (now src) last x 0x10 ⌝ }
@@ -97,21 +111,19 @@ fn dir_at(src: &[u8], last: Spot, x: Item) -> Next
     let none = spans::empty();
     let node = last.node;
     let dir = node.dir;
-    let o = spans::compare(src, dir, name);
-    match o {
-        Order::Less => Next::Is(Spot {
-            node: Node {
-                dir: name,
-                file: none,
-                number: 0,
-            },
-            next: end,
-            dirs: dirs + 1,
-            files: last.files,
-        }),
-        Order::Equal => Next::Broken,
-        Order::Greater => Next::Broken,
+    if !is_below(src, dir, name) {
+        return Next::Broken;
     }
+    Next::Is(Spot {
+        node: Node {
+            dir: name,
+            file: none,
+            number: 0,
+        },
+        next: end,
+        dirs: dirs + 1,
+        files: last.files,
+    })
 }
 
 // A file in the directory that was read last, "0x11 (number, name)", or a staging file, "0x12 (number, name)".
@@ -140,21 +152,19 @@ fn file_at(src: &[u8], last: Spot, x: Item, staged: bool) -> Next
     let node = last.node;
     let dir = node.dir;
     let file = node.file;
-    let o = spans::compare(src, file, name);
-    match o {
-        Order::Less => Next::Is(Spot {
-            node: Node {
-                dir: dir,
-                file: name,
-                number: number,
-            },
-            next: end,
-            dirs: last.dirs,
-            files: files + 1,
-        }),
-        Order::Equal => Next::Broken,
-        Order::Greater => Next::Broken,
+    if !is_below(src, file, name) {
+        return Next::Broken;
     }
+    Next::Is(Spot {
+        node: Node {
+            dir: dir,
+            file: name,
+            number: number,
+        },
+        next: end,
+        dirs: last.dirs,
+        files: files + 1,
+    })
 }
 
 // What stands behind the last node of a listing.

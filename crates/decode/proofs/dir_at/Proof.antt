@@ -1,10 +1,9 @@
 -- `decode::dir_at` meets its contract: each test that fails is one that a node with this field would pass.
-use mathlib.Core.Path.{refl, sym, _∙_}
+use mathlib.Core.Path.{sym, _∙_}
 use mathlib.Core.Bool.{false≢true}
 use native.Mathlib.Omega.{arith}
 use borrow.Author.Needs.{needs}
 use borrow.Author.Tests.{not-true, not-false}
-use Rattle.laws.specs.OrderLaws.{lt≢eq, lt≢gt}
 use Rattle.decode.proofs.Steps.{name-fits, dir-broken, dir-ordered, dir-followed}
 use Rattle.decode.proofs.dir_at.Statement.{statement}
 use Rattle.decode.proofs.dir_at.Tie as tie
@@ -36,36 +35,24 @@ span-requires c κs = name-fits _ _ _ (c .before .before .before .before .before
 empty-requires : tie.Need-empty-requires
 empty-requires c κs = search needs
 
-compare-requires : tie.Need-compare-requires
-compare-requires c κs = search needs
-
-enum-told : tie.Need-enum-told
-enum-told c = search needs
-
-add-t20 : tie.Need-add-t20
-add-t20 c = search needs
-
-enum-told-2 : tie.Need-enum-told-2
-enum-told-2 c = search needs
-
-enum-told-3 : tie.Need-enum-told-3
-enum-told-3 c = search needs
+is-below-requires : tie.Need-is-below-requires
+is-below-requires c κs = search needs
 
 returns-3 : tie.Need-returns-3
-returns-3 c =
-    dir-followed (c .before .before .before .before .before .before .before .before .before .before .before .before .pre)
-    record {
-      room = search needs;
-      valid = sym (c .before .before .before .before .before .before .before .before .sanitize-path-segment .ensures) ∙ not-false _ (c .before .before .before .before .before .before .before .if2 .left);
-      above = dir-ordered (c .before .before .before .before .before .before .before .before .before .before .before .before .pre) (c .before .before .before .before .before .before .span .ensures) (c .before .before .compare .ensures) (c .enum-told .given .1);
-    }
-    (c .before .before .before .before .before .before .span .ensures) (c .before .before .before .before .before .empty .ensures _)
+returns-3 c = dir-broken (c .before .before .before .before .before .before .before .before .before .before .before .pre) (λ t. false≢true (sym (not-true _ (c .if3 .taken)) ∙ dir-ordered (c .before .before .before .before .before .before .before .before .before .before .before .pre) (c .before .before .before .before .before .span .ensures) (c .before .is-below .ensures) .1 (t .above)))
+
+add-t13 : tie.Need-add-t13
+add-t13 c = search needs
 
 returns-4 : tie.Need-returns-4
-returns-4 c = dir-broken (c .before .before .before .before .before .before .before .before .before .before .before .before .pre) (λ t. lt≢eq (sym (t .above) ∙ dir-ordered (c .before .before .before .before .before .before .before .before .before .before .before .before .pre) (c .before .before .before .before .before .before .span .ensures) (c .before .before .compare .ensures) (c .enum-told2 .given .1)))
-
-returns-5 : tie.Need-returns-5
-returns-5 c = dir-broken (c .before .before .before .before .before .before .before .before .before .before .before .before .pre) (λ t. lt≢gt (sym (t .above) ∙ dir-ordered (c .before .before .before .before .before .before .before .before .before .before .before .before .pre) (c .before .before .before .before .before .before .span .ensures) (c .before .before .compare .ensures) (c .enum-told3 .given .1)))
+returns-4 c =
+    dir-followed (c .before .before .before .before .before .before .before .before .before .before .before .pre)
+    record {
+      room = search needs;
+      valid = sym (c .before .before .before .before .before .before .before .sanitize-path-segment .ensures) ∙ not-false _ (c .before .before .before .before .before .before .if2 .left);
+      above = dir-ordered (c .before .before .before .before .before .before .before .before .before .before .before .pre) (c .before .before .before .before .before .span .ensures) (c .before .is-below .ensures) .0 (not-false _ (c .if3 .left));
+    }
+    (c .before .before .before .before .before .span .ensures) (c .before .before .before .before .empty .ensures _)
 
 pub dir-at-spec : {M : Type 1} → statement M
 dir-at-spec =
@@ -80,11 +67,7 @@ dir-at-spec =
     sub-span
     span-requires
     empty-requires
-    compare-requires
-    enum-told
-    add-t20
-    enum-told-2
-    enum-told-3
+    is-below-requires
     returns-3
-    returns-4
-    returns-5)
+    add-t13
+    returns-4)

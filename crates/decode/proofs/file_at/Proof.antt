@@ -4,7 +4,6 @@ use mathlib.Core.Bool.{false≢true}
 use native.Mathlib.Omega.{arith}
 use borrow.Author.Needs.{needs}
 use borrow.Author.Tests.{not-true, not-false}
-use Rattle.laws.specs.OrderLaws.{lt≢eq, lt≢gt}
 use Rattle.decode.proofs.Steps.{name-fits, file-broken, file-ordered, file-followed}
 use Rattle.decode.proofs.file_at.Statement.{statement}
 use Rattle.decode.proofs.file_at.Tie as tie
@@ -51,39 +50,27 @@ sub-span c = search needs
 span-requires : tie.Need-span-requires
 span-requires c κs = name-fits _ _ _ (c .before .before .before .before .before .before .before .before .before .pre .0 .short) (search needs) (c .before .before .before .before .before .before .before .before .before .pre .0 .stands .within) (sym (c .before .sanitize-path-segment .ensures) ∙ not-false _ (c .if4 .left))
 
-compare-requires : tie.Need-compare-requires
-compare-requires c κs = search needs
-
-enum-told : tie.Need-enum-told
-enum-told c = search needs
-
-add-t23 : tie.Need-add-t23
-add-t23 c = search needs
-
-enum-told-2 : tie.Need-enum-told-2
-enum-told-2 c = search needs
-
-enum-told-3 : tie.Need-enum-told-3
-enum-told-3 c = search needs
+is-below-requires : tie.Need-is-below-requires
+is-below-requires c κs = search needs
 
 returns-5 : tie.Need-returns-5
-returns-5 c =
-    file-followed (c .before .before .before .before .before .before .before .before .before .before .before .before .before .before .before .before .pre .0) (c .before .before .before .before .before .before .before .before .before .before .before .before .before .before .before .before .pre .1) (λ i. omega (arith, c .before .before .before .before .before .before .before .before .before .before .before .before .before .before .before .shared-slice-known .given i))
+returns-5 c = file-broken (c .before .before .before .before .before .before .before .before .before .before .before .before .before .before .before .pre .0) (c .before .before .before .before .before .before .before .before .before .before .before .before .before .before .before .pre .1) (λ t. false≢true (sym (not-true _ (c .if5 .taken)) ∙ file-ordered (c .before .before .before .before .before .before .before .before .before .before .before .before .before .before .before .pre .0) (c .before .before .before .before .before .span .ensures) (c .before .is-below .ensures) .1 (t .above)))
+
+add-t14 : tie.Need-add-t14
+add-t14 c = search needs
+
+returns-6 : tie.Need-returns-6
+returns-6 c =
+    file-followed (c .before .before .before .before .before .before .before .before .before .before .before .before .before .before .before .pre .0) (c .before .before .before .before .before .before .before .before .before .before .before .before .before .before .before .pre .1) (λ i. omega (arith, c .before .before .before .before .before .before .before .before .before .before .before .before .before .before .shared-slice-known .given i))
     record {
       room = search needs;
       long = search needs;
-      number = omega (arith, c .before .before .before .before .before .before .before .before .before .before .before .u32-at .ensures);
-      small = omega (arith, c .before .before .before .before .before .before .before .before .before .before .before .u32-at .ensures);
-      valid = sym (c .before .before .before .before .before .before .before .before .sanitize-path-segment .ensures) ∙ not-false _ (c .before .before .before .before .before .before .before .if4 .left);
-      above = file-ordered (c .before .before .before .before .before .before .before .before .before .before .before .before .before .before .before .before .pre .0) (c .before .before .before .before .before .before .span .ensures) (c .before .before .compare .ensures) (c .enum-told .given .1);
+      number = omega (arith, c .before .before .before .before .before .before .before .before .before .before .u32-at .ensures);
+      small = omega (arith, c .before .before .before .before .before .before .before .before .before .before .u32-at .ensures);
+      valid = sym (c .before .before .before .before .before .before .before .sanitize-path-segment .ensures) ∙ not-false _ (c .before .before .before .before .before .before .if4 .left);
+      above = file-ordered (c .before .before .before .before .before .before .before .before .before .before .before .before .before .before .before .pre .0) (c .before .before .before .before .before .span .ensures) (c .before .is-below .ensures) .0 (not-false _ (c .if5 .left));
     }
-    (c .before .before .before .before .before .before .span .ensures) (c .before .before .before .before .before .before .before .before .before .before .before .u32-at .ensures)
-
-returns-6 : tie.Need-returns-6
-returns-6 c = file-broken (c .before .before .before .before .before .before .before .before .before .before .before .before .before .before .before .before .pre .0) (c .before .before .before .before .before .before .before .before .before .before .before .before .before .before .before .before .pre .1) (λ t. lt≢eq (sym (t .above) ∙ file-ordered (c .before .before .before .before .before .before .before .before .before .before .before .before .before .before .before .before .pre .0) (c .before .before .before .before .before .before .span .ensures) (c .before .before .compare .ensures) (c .enum-told2 .given .1)))
-
-returns-7 : tie.Need-returns-7
-returns-7 c = file-broken (c .before .before .before .before .before .before .before .before .before .before .before .before .before .before .before .before .pre .0) (c .before .before .before .before .before .before .before .before .before .before .before .before .before .before .before .before .pre .1) (λ t. lt≢gt (sym (t .above) ∙ file-ordered (c .before .before .before .before .before .before .before .before .before .before .before .before .before .before .before .before .pre .0) (c .before .before .before .before .before .before .span .ensures) (c .before .before .compare .ensures) (c .enum-told3 .given .1)))
+    (c .before .before .before .before .before .span .ensures) (c .before .before .before .before .before .before .before .before .before .before .u32-at .ensures)
 
 pub file-at-spec : {M : Type 1} → statement M
 file-at-spec =
@@ -103,11 +90,7 @@ file-at-spec =
     returns-4
     sub-span
     span-requires
-    compare-requires
-    enum-told
-    add-t23
-    enum-told-2
-    enum-told-3
+    is-below-requires
     returns-5
-    returns-6
-    returns-7)
+    add-t14
+    returns-6)

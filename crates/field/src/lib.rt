@@ -22,7 +22,7 @@ pub enum Read {
 }
 
 // How many of the first `len` places stand from `at` on.
-fn left(len: usize, at: usize) -> usize
+pub fn left(len: usize, at: usize) -> usize
     ensures { λ r. ⌜ r ≡ len - at ⌝ }
 {
     if at < len { len - at } else { 0 }
@@ -85,6 +85,7 @@ pub fn put_bytes(out: &mut [u8], at: usize, s: &[u8])
     }
 }
 
+// One byte written at `at`.
 pub fn put_u8(out: &mut [u8], at: usize, b: u8)
     ensures { λ _. ⌜ now (out .exit) ≡ written at (b ∷ []) (now (out .entry)) ⌝ }
 {

@@ -105,9 +105,9 @@ columns (code.CopyCollection a b x) = Byte 6 ∷ Name a ∷ Name b ∷ Byte (if 
 
 pub has-columns : (o : Operation) → Columns o (columns o)
 unfolding fieldTags fieldTable kind values
-has-columns (code.Write c k s) = record { sound = λ src h. (tt, (h .0, (h .1 .0, (h .1 .1, tt)))); same = λ src. refl }
-has-columns (code.Delete c k) = record { sound = λ src h. (tt, (h .0, (h .1, (tt, tt)))); same = λ src. refl }
-has-columns (code.DeleteAll c) = record { sound = λ src h. (tt, (h, (tt, (tt, tt)))); same = λ src. refl }
-has-columns (code.CreateCollection c) = record { sound = λ src h. (tt, (h, (tt, (tt, tt)))); same = λ src. refl }
-has-columns (code.DeleteCollection c) = record { sound = λ src h. (tt, (h, (tt, (tt, tt)))); same = λ src. refl }
-has-columns (code.CopyCollection a b x) = record { sound = λ src h. (tt, (h .0, (h .1, (tt, tt)))); same = λ src. refl }
+has-columns (code.Write c k s) = record { size = refl; sound = λ src h. (tt, (h .0, (h .1 .0, (h .1 .1, tt)))); same = λ src. refl }
+has-columns (code.Delete c k) = record { size = refl; sound = λ src h. (tt, (h .0, (h .1, (tt, tt)))); same = λ src. refl }
+has-columns (code.DeleteAll c) = record { size = refl; sound = λ src h. (tt, (h, (tt, (tt, tt)))); same = λ src. refl }
+has-columns (code.CreateCollection c) = record { size = refl; sound = λ src h. (tt, (h, (tt, (tt, tt)))); same = λ src. refl }
+has-columns (code.DeleteCollection c) = record { size = refl; sound = λ src h. (tt, (h, (tt, (tt, tt)))); same = λ src. refl }
+has-columns (code.CopyCollection a b x) = record { size = refl; sound = λ src h. (tt, (h .0, (h .1, (tt, tt)))); same = λ src. refl }

@@ -8,6 +8,7 @@ use lib.ListN.{length, take, drop}
 use lib.Dec.{leb}
 use Rattle.model.specs.Base.{Bytes, if_then_else_}
 use Rattle.model.specs.Operation.{Op, write, delete, deleteAll, createCollection, deleteCollection, copyCollection, encodePayload, decodePayload}
+use Rattle.field.specs.Writing.{written}
 use Rattle.spans.specs.Spans.{nameOf, Sound}
 use Rattle.transaction.specs.declared.Operation.{Operation}
 use Rattle.transaction.specs.declared.Operation.the-variants as code
@@ -65,3 +66,8 @@ pub record Encodes (src : Bytes) (o : Operation) (p : Payload) : Type 0 where
   pub size : length (p .bytes) ≡ 268
   pub within : p .len ≤ 268
   pub same : payloadOf p ≡ encodePayload (opOf src o)
+
+-- What a function does that writes some bytes at a place and says how many.
+pub record Writes (bytes : Bytes) (at : ℕ) (before after : Bytes) (n : ℕ) : Type 0 where
+  pub out : after ≡ written at bytes before
+  pub size : n ≡ length bytes

@@ -62,6 +62,7 @@ SoundColumn src (Byte b) = Unit {0}
 
 -- An operation's values under the tags of its row.
 pub record Columns (o : Operation) (l : List Column) : Type 0 where
+  pub size : length l ≡ 4
   pub sound : (src : Bytes) → SoundOp src o → All (SoundColumn src) l
   pub same : (src : Bytes) → map (columnOf src) (take (length (fieldTags (kind (opOf src o)))) l) ≡ (kind (opOf src o) ∷ []) ∷ values (opOf src o)
 

@@ -5,9 +5,9 @@ ghost use Prim.Native.Nat.{ℕ, _≤_, _-_};
 ghost use lib.ListN.{length, getD, take};
 ghost use Rattle.model.specs.Base.{if_then_else_, sameBytes};
 ghost use Rattle.model.specs.Operation.{fieldTags, kind, validValue, encodePayload};
-ghost use Rattle.field.specs.Writing.{written, field};
+ghost use Rattle.field.specs.Writing.{field};
 ghost use Rattle.spans.specs.Spans.{nameOf, Sound};
-ghost use Rattle.transaction.specs.Operations.{opOf, SoundOp, Decodes, Encodes};
+ghost use Rattle.transaction.specs.Operations.{opOf, SoundOp, Decodes, Encodes, Writes};
 ghost use Rattle.transaction.specs.Rows.{tagsIn, SoundParts, Matches, Makes, SoundColumn, Columns, Puts};
 use field::Read;
 use spans::NameRef;
@@ -310,7 +310,7 @@ pub fn payload_of(src: &[u8], op: Operation) -> Payload
 // An operation's payload written at `at`, and how long it is.
 pub fn encode_operation(src: &[u8], op: Operation, out: &mut [u8], at: usize) -> usize
     requires { ⌜ SoundOp (now src) op ⌝ }
-    ensures { λ r. ⌜ (now (out .exit) ≡ written at (encodePayload (opOf (now (src .entry)) op)) (now (out .entry))) × (r ≡ length (encodePayload (opOf (now (src .entry)) op))) ⌝ }
+    ensures { λ r. ⌜ Writes (encodePayload (opOf (now (src .entry)) op)) at (now (out .entry)) (now (out .exit)) r ⌝ }
 {
     let p = payload_of(src, op);
     let bytes = p.bytes;

@@ -1,78 +1,64 @@
+-- `transaction::payload_of` meets its contract: a field a turn, by the row of the operation's kind.
+use Prim.Native.Nat.{_-_}
+use mathlib.Core.Path.{refl, ap, _∙_}
+use native.Mathlib.Omega.{arith}
+use borrow.Author.Needs.{needs}
+use Rattle.transaction.proofs.Encode.{Encoding, no-fields, one-more, encodes, all-at}
+use Rattle.model.specs.Operation.{fieldTags}
+use Rattle.transaction.specs.Rows.{SoundColumn}
 use Rattle.transaction.proofs.payload_of.Statement.{statement}
 use Rattle.transaction.proofs.payload_of.Tie as tie
-use Rattle.transaction.proofs.payload_of.Reads as reads
-use Rattle.transaction.proofs.payload_of.Lts as lts
-use Rattle.transaction.proofs.columns_of.Reads as columns-of-reads
-use Rattle.transaction.proofs.count_fields.Reads as count-fields-reads
-use Rattle.transaction.proofs.kind_of.Reads as kind-of-reads
-use Rattle.transaction.proofs.put_column.Reads as put-column-reads
-use Rattle.transaction.proofs.row_of.Reads as row-of-reads
 
 abbrev Inv-loop : tie.InvT-loop
-Inv-loop src row n columns bytes₀ at₀ i₀ bytes at i = ?
+Inv-loop src row n columns bytes₀ at₀ i₀ bytes at i = Encoding src row columns n bytes₀ bytes at i
 
 abbrev μ-loop : tie.MeasureT-loop
-μ-loop src row n columns bytes₀ at₀ i₀ bytes at i = ?
+μ-loop src row n columns bytes₀ at₀ i₀ bytes at i = n - i
 
--- src/lib.rt:294:22
 kind-of-requires : tie.Need-kind-of-requires Inv-loop μ-loop
-kind-of-requires c κs = ?
+kind-of-requires c κs = search needs
 
--- src/lib.rt:294:15
 row-of-requires : tie.Need-row-of-requires Inv-loop μ-loop
-row-of-requires c κs = ?
+row-of-requires c κs = search needs
 
--- src/lib.rt:295:9
 count-fields-requires : tie.Need-count-fields-requires Inv-loop μ-loop
-count-fields-requires c κs = ?
+count-fields-requires c κs = search needs
 
--- src/lib.rt:296:19
 columns-of-requires : tie.Need-columns-of-requires Inv-loop μ-loop
-columns-of-requires c κs = ?
+columns-of-requires c κs = search needs
 
--- src/lib.rt:300:5
 loop-holds : tie.Need-loop-holds Inv-loop μ-loop
-loop-holds c = ?
+loop-holds c = no-fields _ _ _ _ _ refl
 
--- src/lib.rt:301:17
 mul-c : tie.Need-mul-c Inv-loop μ-loop
-mul-c c = ?
+mul-c c = search needs
 
--- src/lib.rt:301:17
 array-copy-out-c : tie.Need-array-copy-out-c Inv-loop μ-loop
-array-copy-out-c c = ?
+array-copy-out-c c = search needs
 
--- src/lib.rt:302:31
 array-read-put-column : tie.Need-array-read-put-column Inv-loop μ-loop
-array-read-put-column c = ?
+array-read-put-column c = search needs
 
--- src/lib.rt:302:42
 slice-aggregate-put-column : tie.Need-slice-aggregate-put-column Inv-loop μ-loop
-slice-aggregate-put-column c = ?
+slice-aggregate-put-column c = search needs
 
--- src/lib.rt:302:15
 put-column-requires : tie.Need-put-column-requires Inv-loop μ-loop
-put-column-requires c κs = ?
+put-column-requires c κs = all-at (SoundColumn (c .before .before .before .before .before .before .before .before .before .args .src .now)) (c .before .before .before .before .columns-of .result) (c .before .before .before .loop .i) _ (c .before .before .before .before .columns-of .ensures .sound _ (c .before .before .before .before .before .before .before .before .before .pre)) (omega arith)
 
--- src/lib.rt:302:9
 add-at : tie.Need-add-at Inv-loop μ-loop
-add-at c = ?
+add-at c = search needs
 
--- src/lib.rt:303:9
 add-i : tie.Need-add-i Inv-loop μ-loop
-add-i c = ?
+add-i c = search needs
 
--- src/lib.rt:300:5
 loop-less : tie.Need-loop-less Inv-loop μ-loop
-loop-less c = ?
+loop-less c = search needs
 
--- src/lib.rt:300:5
 loop-again : tie.Need-loop-again Inv-loop μ-loop
-loop-again c = ?
+loop-again c = one-more (c .before .before .before .before .before .loop .inv) (omega arith) (omega arith) _ (omega arith) (omega arith) (c .before .put-column .ensures)
 
--- src/lib.rt:290:1
 returns : tie.Need-returns Inv-loop μ-loop
-returns c = ?
+returns c = encodes _ (c .before .loop .inv) (omega arith) (omega arith) (omega arith) (c .before .before .before .count-fields .ensures .1 ∙ c .before .before .before .before .row-of .ensures ∙ ap fieldTags (c .before .before .before .before .before .kind-of .ensures _)) (c .before .before .columns-of .ensures)
 
 pub payload-of-spec : {M : Type 1} → statement M
 payload-of-spec =

@@ -19,11 +19,11 @@ is-byte-requires-2 c κs = search needs
 returns-3 : tie.Need-returns-3
 returns-3 c = mark-one _ _ (c .before .before .before .if2 .taken) (c .before .before .is-byte .ensures) (c .before .if3 .left) (c .is-byte2 .ensures)
 
-sanitize-requires : tie.Need-sanitize-requires
-sanitize-requires c κs = search needs
+sanitize-path-segment-requires : tie.Need-sanitize-path-segment-requires
+sanitize-path-segment-requires c κs = search needs
 
 returns-4 : tie.Need-returns-4
-returns-4 c = name-value _ _ (c .before .before .if1 .left) (c .before .if2 .left) (c .sanitize .ensures)
+returns-4 c = name-value _ _ (c .before .before .if1 .left) (c .before .if2 .left) (c .sanitize-path-segment .ensures)
 
 pub valid-value-spec : {M : Type 1} → statement M
 valid-value-spec =
@@ -34,5 +34,5 @@ valid-value-spec =
     returns-2
     is-byte-requires-2
     returns-3
-    sanitize-requires
+    sanitize-path-segment-requires
     returns-4)

@@ -4,6 +4,7 @@ use Prim.Native.Nat.{ℕ, zero, suc, _+_, _≤_, _<_}
 use native.Mathlib.Omega.{arith}
 use mathlib.Core.List.{List, [], _∷_, _++_, map}
 use mathlib.Core.Bool.{Bool, true, false, not, _&&_, false≢true}
+use lib.ListN.{getD}
 use lib.Dec.{T, leb, eqb, leb→le, le→leb, eqb→eq}
 use Rattle.model.specs.Base.{Bytes, if_then_else_, sameBytes, allOf}
 use Rattle.model.specs.Order.{Cmp, lt, eq, gt, cmpName}
@@ -68,3 +69,8 @@ of-all p (a ∷ l) h = and-made (p a) (allOf p l) (h .0) (of-all p l (h .1))
 pub all-map : {A B : Type 0} (P : A → Type 0) (Q : B → Type 0) (f : A → B) → ((a : A) → P a → Q (f a)) → (l : List A) → All P l → All Q (map f l)
 all-map P Q f h [] p = tt
 all-map P Q f h (a ∷ l) p = (h a (p .0), all-map P Q f h l (p .1))
+
+-- What holds at every place of a list, and of what stands past its end, holds of every element.
+pub all-at : {A : Type 0} (P : A → Type 0) (d : A) (l : List A) → ((i : ℕ) → P (getD l i d)) → All P l
+all-at P d [] h = tt
+all-at P d (a ∷ l) h = (h 0, all-at P d l (λ i. h (suc i)))

@@ -1,9 +1,9 @@
 -- Extensions by the last bytes of a name. The model's extension goes by the last dot; where it has no dot itself, that is the dot before it.
 use mathlib.Core.Path.{_≡_, refl, sym, ap, _∙_}
-use mathlib.Core.List.{List, [], _∷_, _++_}
+use mathlib.Core.List.{[], _∷_, _++_}
 use mathlib.Core.Option.{Option, none, some}
-use mathlib.Core.Bool.{Bool, true, false, _&&_, false≢true}
-use Prim.Native.Nat.{ℕ, zero, suc, _+_, _-_, _≤_, _<_}
+use mathlib.Core.Bool.{Bool, true, false, false≢true}
+use Prim.Native.Nat.{ℕ, suc, _+_, _-_, _≤_, _<_}
 use native.Mathlib.Omega.{arith}
 use lib.ListN.{length, take, drop, length-append, length-drop, take-append-drop}
 use lib.Seq.{take-at, drop-at, take-all, length-take-le}
@@ -21,10 +21,10 @@ module _ (f d : Name) where
   start : length (f ++ d) - length d ≡ length f
   start = ap (λ (k : ℕ). k - length d) (length-append f d) ∙ omega arith
 
-  pub front : take (length (f ++ d) - length d) (f ++ d) ≡ f
+  front : take (length (f ++ d) - length d) (f ++ d) ≡ f
   front = take-at f d (length (f ++ d) - length d) (sym start)
 
-  pub back : drop (length (f ++ d) - length d) (f ++ d) ≡ d
+  back : drop (length (f ++ d) - length d) (f ++ d) ≡ d
   back = drop-at f d (length (f ++ d) - length d) (sym start)
 
 -- What `has_extension` finds: the name is too short, or its last bytes are compared.
@@ -75,13 +75,13 @@ some-of (some g) e = (g, refl)
 
 -- A name has an extension without dots exactly if it ends in a dot and that extension, behind at least one byte.
 pub extension-ends : (e n : Name) → lastDot e ≡ none → isSome (stripExtension e n) ≡ endsIn (0x2E ∷ e) n
-extension-ends e n h = both-ways _ _ there back
+extension-ends e n h = both-ways _ _ ends strips
   where
-    there : isSome (stripExtension e n) ≡ true → endsIn (0x2E ∷ e) n ≡ true
-    there p = let s = strip-shape e n _ (some-of _ p .1) in rw (s .3) (ends-append (s .0) (s .1) (0x2E ∷ e))
+    ends : isSome (stripExtension e n) ≡ true → endsIn (0x2E ∷ e) n ≡ true
+    ends p = let s = strip-shape e n _ (some-of _ p .1) in rw (s .3) (ends-append (s .0) (s .1) (0x2E ∷ e))
 
-    back : endsIn (0x2E ∷ e) n ≡ true → isSome (stripExtension e n) ≡ true
-    back p = let s = ends-shape (0x2E ∷ e) n p in rw (s .2, strip-append e (s .0) (s .1) h)
+    strips : endsIn (0x2E ∷ e) n ≡ true → isSome (stripExtension e n) ≡ true
+    strips p = let s = ends-shape (0x2E ∷ e) n p in rw (s .2, strip-append e (s .0) (s .1) h)
 
 -- 01, Corners, paths.rs: "a.bak" is a backup, ".bak" isn't: at least five bytes, of which the last four are ".bak".
 pub backup-ends : (n : Name) → isBackup n ≡ endsIn (0x2E ∷ 0x62 ∷ 0x61 ∷ 0x6B ∷ []) n

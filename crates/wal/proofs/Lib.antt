@@ -1,0 +1,4 @@
+pub mod Checksums
+pub mod Headers
+pub mod Heads
+pub mod Appended

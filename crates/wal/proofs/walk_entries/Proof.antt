@@ -1,108 +1,87 @@
+-- `wal::walk_entries` meets its contract: an entry a turn. What is still to be walked, behind what was read, is the whole walk.
+use Prim.Native.Nat.{_-_}
+use mathlib.Core.Path.{refl, sym}
+use native.Mathlib.Omega.{arith}
+use lib.Seq.{length-take-le}
+use borrow.Author.Needs.{needs}
+use Rattle.wal.proofs.Walks.{Walking, none-read, no-operations, at-end, at-limit, at-truncated, at-undecodable, at-operation}
 use Rattle.wal.proofs.walk_entries.Statement.{statement}
 use Rattle.wal.proofs.walk_entries.Tie as tie
-use Rattle.wal.proofs.walk_entries.Reads as reads
-use Rattle.wal.proofs.walk_entries.Lts as lts
-use Rattle.transaction.proofs.decode_operation.Reads as decode-operation-reads
-use Rattle.wal.proofs.ended.Reads as ended-reads
-use Rattle.wal.proofs.entry_at.Reads as entry-at-reads
 
 abbrev Inv-loop : tie.InvT-loop
-Inv-loop src first end ops₀ log at₀ n₀ ops at n = ?
+Inv-loop src first end ops₀ log at₀ n₀ ops at n = Walking src first end ops at n
 
 abbrev μ-loop : tie.MeasureT-loop
-μ-loop src first end ops₀ log at₀ n₀ ops at n = ?
+μ-loop src first end ops₀ log at₀ n₀ ops at n = 32 - n
 
--- src/lib.rt:154:9
 slice-aggregate-log : tie.Need-slice-aggregate-log Inv-loop μ-loop
-slice-aggregate-log c = ?
+slice-aggregate-log c = sym (length-take-le (c .before .before .args .end) (c .before .before .args .src .now) (omega arith))
 
--- src/lib.rt:157:5
 loop-holds : tie.Need-loop-holds Inv-loop μ-loop
-loop-holds c = ?
+loop-holds c = none-read _ _ _ _ (omega arith) refl (no-operations _)
 
--- src/lib.rt:159:13
 ended-requires : tie.Need-ended-requires Inv-loop μ-loop
-ended-requires c κs = ?
+ended-requires c κs = search needs
 
--- src/lib.rt:159:13
 returns : tie.Need-returns Inv-loop μ-loop
-returns c = ?
+returns c = at-end (c .before .before .before .loop .inv) (omega arith) (omega arith) (c .ended .ensures)
 
--- src/lib.rt:161:40
 entry-at-requires : tie.Need-entry-at-requires Inv-loop μ-loop
-entry-at-requires c κs = ?
+entry-at-requires c κs = search needs
 
--- src/lib.rt:161:28
 enum-known-from : tie.Need-enum-known-from Inv-loop μ-loop
-enum-known-from c = ?
+enum-known-from c = search needs
 
--- src/lib.rt:162:26
 enum-told : tie.Need-enum-told Inv-loop μ-loop
-enum-told c = ?
+enum-told c = search needs
 
--- src/lib.rt:162:13
 ended-requires-2 : tie.Need-ended-requires-2 Inv-loop μ-loop
-ended-requires-2 c κs = ?
+ended-requires-2 c κs = search needs
 
--- src/lib.rt:162:13
 returns-2 : tie.Need-returns-2 Inv-loop μ-loop
-returns-2 c = ?
+returns-2 c = at-truncated (c .before .before .before .before .before .before .loop .inv) (omega arith) (omega arith) (omega arith) (c .before .before .before .entry-at .ensures) (c .before .enum-told .given .1) (c .ended2 .ensures)
 
--- src/lib.rt:164:31
 decode-operation-requires : tie.Need-decode-operation-requires Inv-loop μ-loop
-decode-operation-requires c κs = ?
+decode-operation-requires c κs = search needs
 
--- src/lib.rt:164:25
 enum-known-op : tie.Need-enum-known-op Inv-loop μ-loop
-enum-known-op c = ?
+enum-known-op c = search needs
 
--- src/lib.rt:165:26
 enum-told-2 : tie.Need-enum-told-2 Inv-loop μ-loop
-enum-told-2 c = ?
+enum-told-2 c = search needs
 
--- src/lib.rt:165:13
 ended-requires-3 : tie.Need-ended-requires-3 Inv-loop μ-loop
-ended-requires-3 c κs = ?
+ended-requires-3 c κs = search needs
 
--- src/lib.rt:165:13
 returns-3 : tie.Need-returns-3 Inv-loop μ-loop
-returns-3 c = ?
+returns-3 c = at-undecodable (c .before .before .before .before .before .before .before .before .before .before .loop .inv) (omega arith) (omega arith) (omega arith) (omega arith) (c .before .before .before .before .before .before .before .entry-at .ensures) (c .before .before .before .before .before .from .given .1) (c .before .before .before .decode-operation .ensures) (c .before .enum-told2 .given .1) (c .ended3 .ensures)
 
--- src/lib.rt:167:9
 mul-ops : tie.Need-mul-ops Inv-loop μ-loop
-mul-ops c = ?
+mul-ops c = search needs
 
--- src/lib.rt:167:9
 array-set-from-ops : tie.Need-array-set-from-ops Inv-loop μ-loop
-array-set-from-ops c = ?
+array-set-from-ops c = search needs
 
--- src/lib.rt:169:9
 add-n : tie.Need-add-n Inv-loop μ-loop
-add-n c = ?
+add-n c = search needs
 
--- src/lib.rt:157:5
 loop-less : tie.Need-loop-less Inv-loop μ-loop
-loop-less c = ?
+loop-less c = search needs
 
--- src/lib.rt:157:5
 loop-again : tie.Need-loop-again Inv-loop μ-loop
-loop-again c = ?
+loop-again c = at-operation (c .before .before .before .before .before .before .before .before .before .before .loop .inv) (omega arith) (omega arith) (omega arith) (omega arith) (c .before .before .before .before .before .before .before .entry-at .ensures) (c .before .before .before .before .before .from .given .1) (c .before .before .before .decode-operation .ensures) _ (c .before .op .given .1)
 
--- src/lib.rt:172:9
 ended-requires-4 : tie.Need-ended-requires-4 Inv-loop μ-loop
-ended-requires-4 c κs = ?
+ended-requires-4 c κs = search needs
 
--- src/lib.rt:172:9
 returns-4 : tie.Need-returns-4 Inv-loop μ-loop
-returns-4 c = ?
+returns-4 c = at-limit (c .before .before .before .loop .inv) (omega arith) (omega arith) (omega arith) (c .ended4 .ensures)
 
--- src/lib.rt:174:5
 ended-requires-5 : tie.Need-ended-requires-5 Inv-loop μ-loop
-ended-requires-5 c κs = ?
+ended-requires-5 c κs = search needs
 
--- src/lib.rt:149:1
 returns-5 : tie.Need-returns-5 Inv-loop μ-loop
-returns-5 c = ?
+returns-5 c = at-end (c .before .before .before .loop .inv) (omega arith) (omega arith) (c .ended5 .ensures)
 
 pub walk-entries-spec : {M : Type 1} → statement M
 walk-entries-spec =

@@ -97,19 +97,22 @@ and-right : (a : Bool) → (a && false) ≡ false
 and-right true = refl
 and-right false = refl
 
-module _ {src : Bytes} {start end : ℕ} where
-  nowhere : inBounds src start end ≡ false → Decodes src start end Undecodable
-  unfolding decodedAt
-  nowhere h = record { sound = tt; same = rw h }
+module _ (src : Bytes) (start end : ℕ) where
+  pub end-first : end < start → inBounds src start end ≡ false
+  unfolding inBounds
+  end-first h = rw (lt-leb start end h)
 
-  pub end-first : end < start → Decodes src start end Undecodable
-  end-first h = nowhere (unfold inBounds in rw (lt-leb start end h))
+  pub past-end : length src < end → inBounds src start end ≡ false
+  unfolding inBounds
+  past-end h = rw (lt-leb end (length src) h, and-right (leb start end))
 
-  pub past-end : length src < end → Decodes src start end Undecodable
-  past-end h = nowhere (unfold inBounds in rw (lt-leb end (length src) h, and-right (leb start end)))
+  pub too-long : 0xFFFF < length src → inBounds src start end ≡ false
+  unfolding inBounds
+  too-long h = rw (lt-leb (length src) 0xFFFF h, and-right (leb start end && leb end (length src)))
 
-  pub too-long : 0xFFFF < length src → Decodes src start end Undecodable
-  too-long h = nowhere (unfold inBounds in rw (lt-leb (length src) 0xFFFF h, and-right (leb start end && leb end (length src))))
+pub nowhere : {src : Bytes} {start end : ℕ} → inBounds src start end ≡ false → Decodes src start end Undecodable
+unfolding decodedAt
+nowhere h = record { sound = tt; same = rw h }
 
 -- In bounds: what is left to be shown is what the payload decodes to.
 pub in-bounds : (src : Bytes) (start end : ℕ) → start ≤ end → end ≤ length src → length src ≤ 0xFFFF → inBounds src start end ≡ true

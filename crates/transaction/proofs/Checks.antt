@@ -11,7 +11,7 @@ use Rattle.model.specs.Base.{Bytes, if_then_else_, sameBytes}
 use Rattle.model.specs.Name.{validName}
 use Rattle.model.specs.Operation.{validValue}
 use Rattle.laws.specs.Tests.{same-eq}
-use Rattle.laws.specs.ImageLaws.{valid-length}
+use Rattle.laws.specs.ValidNames.{valid-length}
 use Rattle.field.specs.Writing.{field}
 
 module _ (tag : ℕ) (v : Bytes) where

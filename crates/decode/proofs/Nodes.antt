@@ -17,11 +17,11 @@ use Rattle.model.specs.Image.{nodeField, stagedField}
 use Rattle.laws.specs.Tests.{All, and-both, and-made, le-leb, eqb-eq, same-refl}
 use Rattle.laws.specs.OrderLaws.{nameLaws, lt≢eq, lt≢gt}
 use Rattle.laws.specs.FieldLaws.{Byte, le-four}
-use Rattle.laws.specs.ImageLaws.{number-le, node-parts, file-parts, staged-parts}
+use Rattle.laws.specs.ImageLaws.{listed, number-le, node-parts, file-parts, staged-parts}
 use Rattle.laws.specs.TreeLaws.{isDir, isFile}
 use Rattle.field.specs.Writing.{field}
 use Rattle.field.proofs.Numbers.{bytes-again}
-use Rattle.decode.specs.Listing.{listed, fileTag, own, filesOf, validAt, validFrom, Fits}
+use Rattle.decode.specs.Listing.{fileTag, own, filesOf, validAt, validFrom, Fits}
 use Rattle.decode.specs.Spots.{InDir}
 use Rattle.decode.proofs.Rows.{invalid-nil}
 

@@ -18,7 +18,7 @@ use Rattle.model.specs.Store.{ascending}
 use Rattle.laws.specs.Tests.{and-both}
 use Rattle.laws.specs.MapLaws.{Sorted}
 use Rattle.laws.specs.FieldLaws.{encode-append}
-use Rattle.laws.specs.ImageLaws.{node-parts, staged-parts}
+use Rattle.laws.specs.ImageLaws.{listed, node-parts, staged-parts}
 use Rattle.laws.specs.TreeLaws.{size, isDir, isFile, sorted-ascending}
 use Rattle.spans.specs.declared.NameRef.{NameRef}
 use Rattle.spans.specs.Spans.{nameOf, Names}
@@ -31,7 +31,7 @@ use Rattle.decode.specs.declared.Spot.{Spot}
 use Rattle.decode.specs.declared.Next.{Next}
 use Rattle.decode.specs.declared.Next.the-variants.{Is, Other, Broken}
 use Rattle.decode.specs.Reading.{Ahead, starts, Reads}
-use Rattle.decode.specs.Listing.{listed, own, filesOf, validAt, validFrom, Formed, lastKey, Fits}
+use Rattle.decode.specs.Listing.{own, filesOf, validAt, validFrom, Formed, lastKey, Fits}
 use Rattle.decode.specs.Spots.{LastDir, SoundSpot, Follows, Stops, Breaks, Comes}
 use Rattle.decode.specs.Decoding.{ReadsNodes}
 use Rattle.decode.proofs.Ahead.{one-more}

@@ -6,18 +6,20 @@ use mathlib.Core.Logic.{_↔_}
 use mathlib.Core.Option.{none, some}
 use Prim.Native.Nat.{ℕ, suc, _+_, _-_, _≤_, _<_}
 use native.Mathlib.Omega.{arith}
-use lib.ListN.{length, take, drop, getD, length-append, length-drop, take-append-drop}
-use lib.Seq.{length-take-le, take-take, drop-drop, take-at, drop-append-le}
+use lib.ListN.{length, take, drop, getD, length-drop}
+use lib.Seq.{length-take-le, take-take, drop-drop}
 use Rattle.model.specs.Limits.{dirLimit, numberLimit, imageRoom}
 use Rattle.model.specs.Order.{lt, Name, cmpName}
 use Rattle.model.specs.Map as model
 use Rattle.model.specs.Base.{Bytes, caseOption}
 use Rattle.model.specs.Name.{validName}
 use Rattle.model.specs.Field.{Field, fromLittleEndian, encodeField, fieldsFrom}
+use Rattle.laws.specs.ListLaws.{drop-take}
 use Rattle.laws.specs.Tests.{all-at}
 use Rattle.laws.specs.FieldLaws.{Byte}
 use Rattle.laws.specs.ValidNames.{valid-length}
 use Rattle.laws.specs.TreeLaws.{isDir, isFile}
+use Rattle.laws.specs.ImageLaws.{listed}
 use Rattle.field.specs.declared.Item.{Item}
 use Rattle.field.specs.Reading.{u32At, fieldOf, Stands}
 use Rattle.field.specs.Writing.{field}
@@ -28,7 +30,7 @@ use Rattle.store.specs.Tables.{keyOf, nodeOf, SoundNode}
 use Rattle.store.proofs.Lists.{all-take, all-drop}
 use Rattle.decode.specs.declared.Spot.{Spot}
 use Rattle.decode.specs.Reading.{Ahead, starts}
-use Rattle.decode.specs.Listing.{listed, fileTag, own, filesOf, isBelow}
+use Rattle.decode.specs.Listing.{fileTag, own, filesOf, isBelow}
 use Rattle.decode.specs.Spots.{LastDir, SoundSpot, FitsAt, Follows, Breaks, AtField, InDir}
 use Rattle.decode.proofs.Ahead.{valueOf, value-length, first}
 use Rattle.decode.proofs.Rows.{below}
@@ -97,12 +99,6 @@ module _ {src : Bytes} {p : Spot} {x : Item} (a : AtField false src p x 0x10) wh
       refl (dir-fits t (a .spot .filesFit)) refl (omega arith) refl
 
 -- A file: the four bytes of its number, and its name behind them.
-rest-of : (k n : ℕ) (l : Bytes) → k ≤ n → n ≤ length l → take (n - k) (drop k l) ≡ drop k (take n l)
-rest-of k n l h w =
-    let e : length (take n l) ≡ n = length-take-le n l w in
-    let d : drop k l ≡ drop k (take n l) ++ drop n l = ap (drop k) (sym (take-append-drop n l)) ∙ drop-append-le k (take n l) (drop n l) (omega arith) in
-    ap (take (n - k)) d ∙ take-at (drop k (take n l)) (drop n l) (n - k) (length-drop k (take n l) ∙ omega arith)
-
 abbrev nameIn : Bytes → Item → Bytes
 nameIn src x = take (x .end - (x .start + 4)) (drop (x .start + 4) src)
 
@@ -120,12 +116,10 @@ module _ {staged : Bool} {src : Bytes} {p : Spot} {x : Item} (a : AtField staged
       let w : x .end ≤ length src = a .stands .within in
       number-there src (x .start) (omega arith) ∙ ap fromLittleEndian (sym (take-take 4 (x .end - x .start) (drop (x .start) src) h))
 
-  name-value : 4 ≤ x .end - x .start → nameIn src x ≡ drop 4 (valueOf src x)
-  name-value h =
-      let w : x .end ≤ length src = a .stands .within in
-      let l : length (drop (x .start) src) ≡ length src - x .start = length-drop (x .start) src in
+  name-value : nameIn src x ≡ drop 4 (valueOf src x)
+  name-value =
       let e : x .end - (x .start + 4) ≡ x .end - x .start - 4 = omega arith in
-      rw (e, ← drop-drop 4 (x .start) src) (rest-of 4 (x .end - x .start) (drop (x .start) src) h (omega arith))
+      rw (e, ← drop-drop 4 (x .start) src) (sym (drop-take 4 (x .end - x .start) (drop (x .start) src)))
 
   abbrev Passes : Type 0
   Passes = FilePasses staged (keyOf src (p .node .dir) (p .node .file)) (p .files) (valueOf src x)
@@ -133,13 +127,13 @@ module _ {staged : Bool} {src : Bytes} {p : Spot} {x : Item} (a : AtField staged
   tests : Passes → FileTests staged src p x
   tests t =
       let h : 4 ≤ x .end - x .start = rw (value-length (a .stands)) at (t .long) in
-      let n : nameIn src x ≡ drop 4 (valueOf src x) = name-value h in
+      let n : nameIn src x ≡ drop 4 (valueOf src x) = name-value in
       let m : u32At src (x .start) ≡ numberOf (valueOf src x) = number-value h in
       record { room = t .room; long = h; number = rw m (t .number); small = rw m (t .small); valid = rw n (t .valid); above = rw n (t .above) }
 
   passes : FileTests staged src p x → Passes
   passes t =
-      let n : nameIn src x ≡ drop 4 (valueOf src x) = name-value (t .long) in
+      let n : nameIn src x ≡ drop 4 (valueOf src x) = name-value in
       let m : u32At src (x .start) ≡ numberOf (valueOf src x) = number-value (t .long) in
       record { room = t .room; long = rw (value-length (a .stands)) (t .long); number = rw m at (t .number); small = rw m at (t .small); valid = rw n at (t .valid); above = rw n at (t .above) }
 
@@ -155,7 +149,7 @@ module _ {staged : Bool} {src : Bytes} {p : Spot} {x : Item} (a : AtField staged
     file-followed {name} {n} b t d e =
         let q = passes t in
         let c = is-file (nameOf src (p .node .dir)) (drop 4 (valueOf src x)) (q .valid) in
-        followed a _ (λ i. ((nameOf src (p .node .dir), (d .same ∙ name-value (t .long)) i), (e ∙ number-value (t .long)) i))
+        followed a _ (λ i. ((nameOf src (p .node .dir), (d .same ∙ name-value) i), (e ∙ number-value (t .long)) i))
         record {
           node = record { dir = a .spot .node .dir; file = d .sound };
           within = a .stands .within;

@@ -16,10 +16,10 @@ use Rattle.model.specs.Store.{validNumber, validNode, validStaged}
 use Rattle.laws.specs.Tests.{All, and-both, and-made, leb-le, le-leb, same-refl}
 use Rattle.laws.specs.OrderLaws.{nameLaws, lt≢eq, lt≢gt}
 use Rattle.laws.specs.FieldLaws.{Byte}
-use Rattle.laws.specs.ImageLaws.{node-parts}
+use Rattle.laws.specs.ImageLaws.{listed, node-parts}
 use Rattle.laws.specs.TreeLaws.{isDir, isFile}
 use Rattle.field.specs.Writing.{field}
-use Rattle.decode.specs.Listing.{listed, fileTag, filesOf, validAt, Fits}
+use Rattle.decode.specs.Listing.{fileTag, filesOf, validAt, Fits}
 use Rattle.decode.specs.Spots.{InDir}
 use Rattle.decode.proofs.Rows.{invalid-nil}
 use Rattle.decode.proofs.Nodes.{numberOf, value-again, file-filed, dir-filed}

@@ -16,7 +16,7 @@ use Rattle.model.specs.Store as model
 use Rattle.model.specs.Store.{dirs, fileCount, wellFormed}
 use Rattle.model.specs.Image.{nodeField, stagedField, logField, markField, imageFields, encode, decode}
 use Rattle.laws.specs.Tests.{and-both, and-made, le-leb}
-use Rattle.laws.specs.ImageLaws.{Parts, parts, of-parts, regroup, encode-parts, tail, split-encode, decode-encode, decode-only}
+use Rattle.laws.specs.ImageLaws.{listed, Parts, parts, of-parts, regroup, encode-parts, tail, split-encode, decode-encode, decode-only}
 use Rattle.laws.specs.TreeLaws.{size, isDir, isFile, one, dir-size, file-size, length-size}
 use Rattle.laws.specs.StoreLaws.{LogFits, Good, good}
 use Rattle.laws.specs.ValidNames.{Valid, validNaming}
@@ -30,7 +30,7 @@ use Rattle.decode.specs.declared.NodesPart.{NodesPart}
 use Rattle.decode.specs.declared.LogPart.{LogPart}
 use Rattle.decode.specs.declared.MarkPart.{MarkPart}
 use Rattle.decode.specs.Reading.{Ahead, starts}
-use Rattle.decode.specs.Listing.{listed, own, Formed}
+use Rattle.decode.specs.Listing.{own, Formed}
 use Rattle.decode.specs.Decoding.{ReadsNodes, ReadsLog, ReadsMark, Decodes}
 use Rattle.decode.proofs.Ahead.{ended}
 use Rattle.decode.proofs.Rows.{valid-tree, valid-staging, count, staged-files}

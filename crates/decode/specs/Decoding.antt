@@ -9,6 +9,7 @@ use Rattle.model.specs.Base.{Bytes}
 use Rattle.model.specs.Store as model
 use Rattle.model.specs.Image.{logField, markField, decode}
 use Rattle.laws.specs.StoreLaws.{LogFits}
+use Rattle.laws.specs.ImageLaws.{listed}
 use Rattle.store.specs.Tables.{mapOf, SoundTable}
 use Rattle.store.specs.Stores.{logBytes, storeOf, SoundLog, SoundStore}
 use Rattle.decode.specs.declared.NodesPart.{NodesPart}
@@ -16,7 +17,7 @@ use Rattle.decode.specs.declared.LogPart.{LogPart}
 use Rattle.decode.specs.declared.MarkPart.{MarkPart}
 use Rattle.decode.specs.declared.Decoded.{Decoded}
 use Rattle.decode.specs.Reading.{Reads}
-use Rattle.decode.specs.Listing.{listed, own, Formed}
+use Rattle.decode.specs.Listing.{own, Formed}
 
 pub record ReadsNodes (staged : Bool) (src : Bytes) (at : ℕ) (r : NodesPart) : Type 0 where
   pub sound : SoundTable src (r .table)

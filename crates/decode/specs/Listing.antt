@@ -7,15 +7,8 @@ use lib.Dec.{eqb}
 use Rattle.model.specs.Limits.{dirLimit, fileLimit, stagingLimit}
 use Rattle.model.specs.Order.{lt, Name, Key, cmpName, cmpKey, caseCmp}
 use Rattle.model.specs.Map.{Map, Node}
-use Rattle.model.specs.Field.{Field}
 use Rattle.model.specs.Store.{validNode, validStaged, ascending}
-use Rattle.model.specs.Image.{nodeField, stagedField}
 use Rattle.laws.specs.TreeLaws.{size, isDir, isFile}
-
--- The field of a node.
-abbrev pub listed : Bool → Node → Field
-listed false n = nodeField n
-listed true n = stagedField n
 
 -- The tag of a file's field, and the tags of all fields of the listing.
 abbrev pub fileTag : Bool → ℕ

@@ -12,6 +12,7 @@ use Rattle.model.specs.Base.{Bytes, caseOption}
 use Rattle.model.specs.Name.{validName}
 use Rattle.model.specs.Field.{Field, encodeField, fieldsFrom}
 use Rattle.laws.specs.TreeLaws.{isDir, isFile}
+use Rattle.laws.specs.ImageLaws.{listed}
 use Rattle.field.specs.declared.Item.{Item}
 use Rattle.field.specs.Reading.{Stands}
 use Rattle.spans.specs.Spans.{nameOf}
@@ -20,7 +21,7 @@ use Rattle.decode.specs.declared.Spot.{Spot}
 use Rattle.decode.specs.declared.Next.{Next}
 use Rattle.decode.specs.declared.Next.the-variants.{Is, Other, Broken}
 use Rattle.decode.specs.Reading.{Ahead, starts}
-use Rattle.decode.specs.Listing.{listed, own, filesOf, Fits}
+use Rattle.decode.specs.Listing.{own, filesOf, Fits}
 
 -- The directory of the last node: none yet or a valid name; a staging file has none.
 abbrev pub LastDir : Bool → Name → Type 0

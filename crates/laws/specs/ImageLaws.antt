@@ -178,6 +178,11 @@ pub regroup : (s : Store) → imageFields s ≡ map nodeField (s .tree) ++ (map 
 unfolding imageFields
 regroup s = simp append-assoc
 
+-- The field of a node in one of the two listings: the directories with their files, or the staging files.
+abbrev pub listed : Bool → Node → Field
+listed false n = nodeField n
+listed true n = stagedField n
+
 -- "A store image is, in this order": the bytes of its parts.
 pub encode-parts : (s : Store) → encode s ≡ encodeFields (map nodeField (s .tree)) ++ (encodeFields (map stagedField (s .staging)) ++ (encodeFields (logField (s .log)) ++ encodeFields (markField (s .openMark))))
 unfolding encode

@@ -7,7 +7,7 @@ use lib.ListN.{take, drop}
 use lib.Seq.{take-nil, drop-nil}
 
 module _ {A : Type 0} where
-  take-zero : (l : List A) → take 0 l ≡ []
+  pub take-zero : (l : List A) → take 0 l ≡ []
   take-zero [] = refl
   take-zero (x ∷ l) = refl
 

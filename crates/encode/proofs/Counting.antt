@@ -1,16 +1,14 @@
 -- How many bytes the parts of an image have.
-use mathlib.Core.Path.{_≡_, refl, sym, ap, _∙_}
+use mathlib.Core.Path.{_≡_, sym, ap, _∙_}
 use mathlib.Core.Bool.{Bool, true, false}
-use mathlib.Core.List.{List, [], _∷_, _++_, map}
-use mathlib.Core.Option.{none, some}
+use mathlib.Core.List.{[], _++_, map}
 use Prim.Native.Nat.{ℕ, _+_, _*_, _-_, _≤_, _<_}
 use native.Mathlib.Omega.{arith}
 use lib.ListN.{length, take, drop, getD, length-append}
 use Rattle.model.specs.Map as model
 use Rattle.model.specs.Base.{Bytes}
-use Rattle.model.specs.Field.{Field, littleEndian, encodeField, encodeFields}
+use Rattle.model.specs.Field.{encodeField, encodeFields}
 use Rattle.model.specs.Log.{markCommitting}
-use Rattle.model.specs.Image.{logField}
 use Rattle.laws.specs.ImageLaws.{listed}
 use Rattle.field.specs.Writing.{field}
 use Rattle.field.proofs.Written.{encoded-length}
@@ -19,9 +17,8 @@ use Rattle.spans.proofs.Parts.{length-name}
 use Rattle.store.specs.declared.Node.{Node}
 use Rattle.store.specs.declared.Table.{Table}
 use Rattle.store.specs.declared.LogRef.{LogRef}
-use Rattle.store.specs.Places.{tableRoom}
 use Rattle.store.specs.Tables.{nodeOf, mapOf, SoundNode, Sized, SoundTable}
-use Rattle.store.specs.Stores.{logBytes, SoundLog}
+use Rattle.store.specs.Stores.{SoundLog}
 use Rattle.store.proofs.Lists.{drop-zero}
 use Rattle.store.proofs.Live.{rest, finished, sound-at}
 use Rattle.encode.specs.Sizes.{nodeBound, NodeSize, NodesSize, LogSize}

@@ -1,5 +1,5 @@
 -- The four parts of an image, one behind the other.
-use mathlib.Core.Path.{_≡_, refl, sym, ap, _∙_}
+use mathlib.Core.Path.{_≡_, sym, ap, _∙_}
 use mathlib.Core.Bool.{true, false}
 use mathlib.Core.List.{_++_, append-assoc}
 use Prim.Native.Nat.{ℕ, _+_, _≤_, _<_}

@@ -1,22 +1,19 @@
 -- Parts of an image written one behind the other.
 use mathlib.Core.Path.{_≡_, refl, sym, ap, _∙_}
 use mathlib.Core.Bool.{Bool, true, false}
-use mathlib.Core.List.{List, [], _∷_, _++_, map, append-assoc}
+use mathlib.Core.List.{_∷_, _++_}
 use Prim.Native.Nat.{ℕ, _+_, _-_, _≤_, _<_}
 use native.Mathlib.Omega.{arith}
 use lib.ListN.{length, take, drop, getD, length-append, length-drop}
 use lib.Seq.{drop-drop}
 use native.Mathlib.Decide.{decLe}
-use lib.Dec.{leb}
-use borrow.Author.Tests.{le-leb, lt-leb}
 use Rattle.model.specs.Map as model
-use Rattle.model.specs.Base.{Bytes, if_then_else_}
-use Rattle.model.specs.Field.{Field, littleEndian, encodeField, encodeFields}
+use Rattle.model.specs.Base.{Bytes}
+use Rattle.model.specs.Field.{littleEndian, encodeField, encodeFields}
 use Rattle.model.specs.Log.{header, markCommitting}
-use Rattle.model.specs.Image.{logField, markField, encode}
+use Rattle.model.specs.Image.{logField}
 use Rattle.model.specs.Store as stores
 use Rattle.laws.specs.ListLaws.{take-zero, drop-take}
-use Rattle.laws.specs.ImageLaws.{listed, encode-parts}
 use Rattle.field.specs.Writing.{written, field, writtenField}
 use Rattle.field.proofs.Written.{written-none, written-nil, length-written, written-written, written-then, encoded-length, field-short, field-written}
 use Rattle.spans.specs.declared.NameRef.{NameRef}
@@ -25,12 +22,11 @@ use Rattle.spans.proofs.Parts.{length-name}
 use Rattle.store.specs.declared.LogRef.{LogRef}
 use Rattle.store.specs.declared.Node.{Node}
 use Rattle.store.specs.declared.Table.{Table}
-use Rattle.store.specs.Tables.{nodeOf, mapOf, SoundTable}
+use Rattle.store.specs.Tables.{mapOf, SoundTable}
 use Rattle.store.specs.Stores.{logBytes}
 use Rattle.store.proofs.Lists.{drop-zero}
 use Rattle.store.proofs.Live.{sound-at}
 use Rattle.encode.specs.Sizes.{NodeSize}
-use Rattle.encode.specs.Encoding.{writtenCount, Encodes}
 use Rattle.encode.proofs.Shapes.{part-length, header-length, log-absent, log-plain, log-marked, log-field}
 use Rattle.encode.proofs.Counting.{bytesOf, bytesAt, bytesFrom, next-bytes, next-length, last-bytes}
 

@@ -1,5 +1,4 @@
 -- `encode::put_log` meets its contract: no log, one with the header rewritten, or the log.
-use native.Mathlib.Omega.{arith}
 use borrow.Author.Needs.{needs}
 use borrow.Author.Tests.{not-true, not-false}
 use Rattle.encode.proofs.Placing.{log-none, log-rewritten, log-copied}

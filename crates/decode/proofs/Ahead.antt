@@ -7,11 +7,11 @@ use Prim.Native.Nat.{ℕ, _+_, _-_, _≤_}
 use native.Mathlib.Omega.{arith}
 use native.Mathlib.Decide.{decLe}
 use lib.ListN.{length, take, drop, length-drop}
-use lib.Seq.{length-take-le}
 use types.Run.{OneOf}
 use denote.Enum.Declared.{tagOf}
 use Rattle.model.specs.Base.{Bytes, caseOption}
 use Rattle.model.specs.Field.{Field, fromLittleEndian, fieldsFrom}
+use Rattle.laws.specs.ListLaws.{part-length}
 use Rattle.laws.specs.Tests.{nil≢cons}
 use Rattle.laws.specs.MapLaws.{none≢some, some-inj}
 use Rattle.field.specs.declared.Item.{Item}
@@ -26,10 +26,7 @@ abbrev pub valueOf : Bytes → Item → Bytes
 valueOf src x = take (x .end - x .start) (drop (x .start) src)
 
 pub value-length : {src : Bytes} {at : ℕ} {x : Item} → Stands src at x → length (valueOf src x) ≡ x .end - x .start
-value-length {src} {at} {x} s =
-    let l : length (drop (x .start) src) ≡ length src - x .start = length-drop (x .start) src in
-    let w : x .end ≤ length src = s .within in
-    length-take-le (x .end - x .start) (drop (x .start) src) (omega arith)
+value-length {src} {at} {x} s = part-length src (x .start) (x .end - x .start) (omega (arith, s .ordered, s .within))
 
 pub no-bytes : (l : Bytes) → length l ≡ 0 → l ≡ []
 no-bytes [] e = refl

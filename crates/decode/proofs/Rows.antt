@@ -1,11 +1,11 @@
 -- A listing with one node more, and a listing's node behind those before it.
 use mathlib.Core.Path.{_≡_, refl, sym}
-use mathlib.Core.Bool.{Bool, true, false, false≢true}
+use mathlib.Core.Bool.{Bool, true, false}
 use mathlib.Core.List.{[], _∷_, _++_}
 use Prim.Native.Nat.{ℕ, suc, _+_}
 use native.Mathlib.Omega.{arith}
 use lib.ListN.{length}
-use Rattle.model.specs.Order.{Cmp, lt, eq, gt, Name, Key, cmpKey, caseCmp}
+use Rattle.model.specs.Order.{lt, Name, Key, cmpKey}
 use Rattle.model.specs.Map.{Map, Node}
 use Rattle.model.specs.Base.{allOf}
 use Rattle.model.specs.Name.{validName}
@@ -13,7 +13,7 @@ use Rattle.model.specs.Store.{validNodes, validStaged}
 use Rattle.laws.specs.Tests.{nil≢cons, and-both, and-made}
 use Rattle.laws.specs.ImageLaws.{staged-parts}
 use Rattle.laws.specs.ValidNames.{valid-named}
-use Rattle.laws.specs.TreeLaws.{size, isDir, isFile, dir-size, file-size}
+use Rattle.laws.specs.TreeLaws.{below-lt, size, isDir, isFile, dir-size, file-size}
 use Rattle.store.specs.Places.{aboveLast}
 use Rattle.store.proofs.Tally.{dirs-files}
 use Rattle.decode.specs.Listing.{validAt, validFrom, lastKey}
@@ -27,11 +27,6 @@ pub last-more : (k : Key) (m : Map) (n : Node) → lastKey k (m ++ n ∷ []) ≡
 last-more k [] n = refl
 last-more k (x ∷ m) n = last-more (x .0) m n
 
-pub below : (c : Cmp) → caseCmp c true false false ≡ true → c ≡ lt
-below lt e = refl
-below eq e = absurd (false≢true e)
-below gt e = absurd (false≢true e)
-
 pub above-last : (k j : Key) (m : Map) → cmpKey (lastKey j m) k ≡ lt → aboveLast k m ≡ true
 unfolding aboveLast
 above-last k j [] h = refl
@@ -41,7 +36,7 @@ above-last k j (n ∷ x ∷ m) h = above-last k (n .0) (x ∷ m) h
 pub last-below : (k j : Key) (m : Map) → aboveLast k m ≡ true → (m ≡ [] → cmpKey j k ≡ lt) → cmpKey (lastKey j m) k ≡ lt
 unfolding aboveLast
 last-below k j [] a h = h refl
-last-below k j (n ∷ []) a h = below (cmpKey (n .0) k) a
+last-below k j (n ∷ []) a h = below-lt (cmpKey (n .0) k) a
 last-below k j (n ∷ x ∷ m) a h = last-below k (n .0) (x ∷ m) a (λ e. nil≢cons (sym e))
 
 -- Valid nodes.

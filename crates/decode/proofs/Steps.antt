@@ -6,19 +6,19 @@ use mathlib.Core.Logic.{_↔_}
 use mathlib.Core.Option.{none}
 use Prim.Native.Nat.{ℕ, _+_, _-_, _≤_, _<_}
 use native.Mathlib.Omega.{arith}
-use lib.ListN.{length, take, drop, getD, length-drop}
-use lib.Seq.{length-take-le, take-take, drop-drop}
+use lib.ListN.{length, take, drop, getD}
+use lib.Seq.{take-take, drop-drop}
 use Rattle.model.specs.Limits.{dirLimit, numberLimit, imageRoom}
 use Rattle.model.specs.Order.{lt, Name, cmpName}
 use Rattle.model.specs.Map as model
 use Rattle.model.specs.Base.{Bytes}
 use Rattle.model.specs.Name.{validName}
 use Rattle.model.specs.Field.{fromLittleEndian}
-use Rattle.laws.specs.ListLaws.{drop-take}
+use Rattle.laws.specs.ListLaws.{part-length, drop-take}
 use Rattle.laws.specs.Tests.{all-at}
 use Rattle.laws.specs.FieldLaws.{Byte}
 use Rattle.laws.specs.ValidNames.{valid-length}
-use Rattle.laws.specs.TreeLaws.{isDir, isFile}
+use Rattle.laws.specs.TreeLaws.{below-lt, isDir, isFile}
 use Rattle.laws.specs.ImageLaws.{listed}
 use Rattle.field.specs.declared.Item.{Item}
 use Rattle.field.specs.Reading.{u32At, fieldOf}
@@ -32,20 +32,18 @@ use Rattle.decode.specs.declared.Spot.{Spot}
 use Rattle.decode.specs.Listing.{fileTag, own, filesOf, isBelow}
 use Rattle.decode.specs.Spots.{SoundSpot, FitsAt, Follows, Breaks, AtField, InDir}
 use Rattle.decode.proofs.Ahead.{valueOf, value-length, first}
-use Rattle.decode.proofs.Rows.{below}
 use Rattle.decode.proofs.Nodes.{numberOf, own-file}
 use Rattle.decode.proofs.Tests.{DirPasses, dir-passes, dir-fits, FilePasses, file-passes, file-fits, file-again, is-file}
 
 -- A valid name can be held.
 pub name-fits : (src : Bytes) (b e : ℕ) → length src ≤ imageRoom → b ≤ e → e ≤ length src → validName (take (e - b) (drop b src)) ≡ true → (b < 65536) × (e - b ≤ 64) × (b + (e - b) ≤ length src)
 name-fits src b e h o w v =
-    let l : length (drop b src) ≡ length src - b = length-drop b src in
-    let m : length (take (e - b) (drop b src)) ≡ e - b = length-take-le (e - b) (drop b src) (omega arith) in
+    let m : length (take (e - b) (drop b src)) ≡ e - b = part-length src b (e - b) (omega arith) in
     (omega arith, omega (arith, valid-length (take (e - b) (drop b src)) v .1), omega arith)
 
 -- What a comparison found.
 found : {src : Bytes} {name : NameRef} {r : Bool} (k f : Name) → Names src name f → r ≡ isBelow k (nameOf src name) → (r ≡ true) ↔ (cmpName k f ≡ lt)
-found {src} {name} {r} k f n e = let z : r ≡ isBelow k f = e ∙ ap (isBelow k) (n .same) in (λ t. below (cmpName k f) (sym z ∙ t), λ l. z ∙ rw l)
+found {src} {name} {r} k f n e = let z : r ≡ isBelow k f = e ∙ ap (isBelow k) (n .same) in (λ t. below-lt (cmpName k f) (sym z ∙ t), λ l. z ∙ rw l)
 
 module _ {staged : Bool} {src : Bytes} {p : Spot} {x : Item} {t : ℕ} (a : AtField staged src p x t) where
   is-field : fieldOf src x ≡ field t (valueOf src x)

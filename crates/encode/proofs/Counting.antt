@@ -9,6 +9,7 @@ use Rattle.model.specs.Map as model
 use Rattle.model.specs.Base.{Bytes}
 use Rattle.model.specs.Field.{encodeField, encodeFields}
 use Rattle.model.specs.Log.{markCommitting}
+use Rattle.laws.specs.ListLaws.{part-length}
 use Rattle.laws.specs.ImageLaws.{listed}
 use Rattle.field.specs.Writing.{field}
 use Rattle.field.proofs.Written.{encoded-length}
@@ -22,7 +23,7 @@ use Rattle.store.specs.Stores.{SoundLog}
 use Rattle.store.proofs.Lists.{drop-zero}
 use Rattle.store.proofs.Live.{rest, finished, sound-at}
 use Rattle.encode.specs.Sizes.{nodeBound, NodeSize, NodesSize, LogSize}
-use Rattle.encode.proofs.Shapes.{staged-field, dir-field, file-field, numbered-length, part-length, marked-length, log-absent, log-plain, log-marked, log-length}
+use Rattle.encode.proofs.Shapes.{staged-field, dir-field, file-field, numbered-length, marked-length, log-absent, log-plain, log-marked, log-length}
 
 -- One node.
 module _ {x : Node} {n : ℕ} (e : n ≡ lengthOf (x .file)) (b : n < 2_048) where

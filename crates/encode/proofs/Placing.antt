@@ -13,7 +13,7 @@ use Rattle.model.specs.Field.{littleEndian, encodeField, encodeFields}
 use Rattle.model.specs.Log.{header, markCommitting}
 use Rattle.model.specs.Image.{logField}
 use Rattle.model.specs.Store as stores
-use Rattle.laws.specs.ListLaws.{take-zero, drop-take}
+use Rattle.laws.specs.ListLaws.{take-zero, part-length, drop-take}
 use Rattle.field.specs.Writing.{written, field, writtenField}
 use Rattle.field.proofs.Written.{written-none, written-nil, length-written, written-written, written-then, encoded-length, field-short, field-written}
 use Rattle.spans.specs.declared.NameRef.{NameRef}
@@ -27,7 +27,7 @@ use Rattle.store.specs.Stores.{logBytes}
 use Rattle.store.proofs.Lists.{drop-zero}
 use Rattle.store.proofs.Live.{sound-at}
 use Rattle.encode.specs.Sizes.{NodeSize}
-use Rattle.encode.proofs.Shapes.{part-length, header-length, log-absent, log-plain, log-marked, log-field}
+use Rattle.encode.proofs.Shapes.{header-length, log-absent, log-plain, log-marked, log-field}
 use Rattle.encode.proofs.Counting.{bytesOf, bytesAt, bytesFrom, next-bytes, next-length, last-bytes}
 
 -- A field whose value is written in two parts: a number and a name, a header and the entries.

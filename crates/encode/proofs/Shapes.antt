@@ -3,10 +3,9 @@ use mathlib.Core.Path.{_≡_, refl, sym, ap, _∙_}
 use mathlib.Core.Bool.{Bool, true, false}
 use mathlib.Core.List.{[], _∷_, _++_, append-nil}
 use mathlib.Core.Option.{Option, none, some}
-use Prim.Native.Nat.{ℕ, _+_, _-_, _≤_}
+use Prim.Native.Nat.{ℕ, _+_, _-_}
 use native.Mathlib.Omega.{arith}
 use lib.ListN.{length, take, drop, length-append, length-drop}
-use lib.Seq.{length-take-le}
 use Rattle.model.specs.Order.{Name}
 use Rattle.model.specs.Map as model
 use Rattle.model.specs.Base.{Bytes, ifEmpty}
@@ -48,11 +47,6 @@ unfolding littleEndian
 numbered-length tag x f = encoded-length (field tag (littleEndian 4 x ++ f)) ∙ omega arith
 
 -- A log, and one with the header rewritten.
-pub part-length : (src : Bytes) (start len : ℕ) → start + len ≤ length src → length (take len (drop start src)) ≡ len
-part-length src start len h =
-    let l : length (drop start src) ≡ length src - start = length-drop start src in
-    length-take-le len (drop start src) (omega arith)
-
 pub header-length : length (header 1) ≡ 8
 unfolding header littleEndian
 header-length = refl

@@ -15,11 +15,13 @@ use Rattle.model.specs.Operation.{Op}
 use Rattle.model.specs.Log.{Journal, absent, recording, committing, journal, whole}
 use Rattle.model.specs.Store.{Store, dirs, files}
 use Rattle.model.specs.Plan.{removeStandingLog, removeStagingFiles, inTurn, run, undoSteps, removeBackupFile, removeBackupsIn, restoreBackups, removeBackups, recoverParts, recoverPlan, recovered, withoutMark}
-use Rattle.cut_rule.specs.Words.{settled, Plain}
+use Rattle.cut_rule.specs.Demand.{settled}
+use Rattle.cut_rule.specs.StoreRule.{Plain}
 use Rattle.laws.specs.StoreLaws.{Bare}
-use Rattle.laws.specs.NameLaws.{original-nil}
-use Rattle.cut_rule.specs.Names.{key-apart, dirs-in, dirs-has, files-has, any-map}
-use Rattle.cut_rule.specs.Walk.{runOver, applyAll-seqOver, applyAll-busy, applyAll-bare, staging-gone, withStaging, Clears, walk, Each, Runs, runs-over}
+use Rattle.laws.specs.NameLaws.{original-nil, key-apart}
+use Rattle.laws.specs.Listings.{dirs-in, dirs-has, files-has, any-map}
+use Rattle.laws.specs.Runs.{Runs, runs-over}
+use Rattle.cut_rule.specs.Walk.{runOver, applyAll-seqOver, applyAll-busy, applyAll-bare, staging-gone, withStaging, Clears, walk, Each}
 use Rattle.cut_rule.specs.Inv.{Inv, Nothing}
 use Rattle.cut_rule.specs.Recover.{restore-all}
 

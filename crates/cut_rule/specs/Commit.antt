@@ -13,17 +13,19 @@ use Rattle.model.specs.Map.{Map, look, put, del, Has}
 use Rattle.laws.specs.MapLaws.{Sorted, key-dec, none≢some, some-inj, look-put-same, look-put-other, look-del-same, look-del-other, look-del-some, sorted-put, sorted-del}
 use Rattle.model.specs.Name.{backupName, originalName}
 use Rattle.model.specs.Base.{Bytes, Any, In, caseOption, isSome, ifPresent, ifMissing}
-use Rattle.cut_rule.specs.Words.{Distinct, allWritesDone, settled, expectedFiles, Plain, Transaction, NoneWaits, CutRule}
+use Rattle.cut_rule.specs.Demand.{Distinct, allWritesDone, settled, expectedFiles}
+use Rattle.cut_rule.specs.StoreRule.{Plain, Transaction, AllRenamed, StoreCutRule}
 use Rattle.model.specs.Operation.{Write, target, backup, Op, write}
 use Rattle.model.specs.Log.{Journal, absent, recording, committing, journal, whole, opsOf}
 use Rattle.model.specs.Plan.{removeStagingFiles, inTurn, run, opSteps, undoSteps, removeBackups, syncExisting, firstNamings, collectionOf, firstFault, commitFault, operationSteps, commitParts, commitPlan, withoutMark, withoutMarkAtEnd, committedAt, recovered, recoverPlan, recoverFault}
 use Rattle.model.specs.Store.{Store, stagingNames}
 use Rattle.model.specs.Step.{Step, rewriteHeader, syncStaging, syncLog, removeLog, syncJournal, syncCollections, makeDirectory, renameFile, moveStaged, removeStaging, syncDirectory, apply, applyAll, Fault, fails, stepFault}
-use Rattle.cut_rule.specs.LogLaws.{mark-journal, recorded-stands, committed-stands}
+use Rattle.laws.specs.LogLaws.{mark-journal, recorded-stands, committed-stands}
 use Rattle.laws.specs.StoreLaws.{Bare}
-use Rattle.laws.specs.NameLaws.{original-backup, original-some, original-nil, original-named}
-use Rattle.cut_rule.specs.Names.{key-apart, any-map, any-append, any-reverse, any-unreverse, any-of-map, any-to-map, any-find}
-use Rattle.cut_rule.specs.Walk.{runOver, applyAll-append, applyAll-seqOver, applyAll-bare, Runs, runs-take, runs-end, runs-append, runs-over}
+use Rattle.laws.specs.NameLaws.{original-backup, original-some, original-nil, original-named, key-apart}
+use Rattle.laws.specs.Listings.{any-map, any-append, any-reverse, any-unreverse, any-of-map, any-to-map, any-find}
+use Rattle.laws.specs.Runs.{applyAll-append, Runs, runs-take, runs-end, runs-append, runs-over, runs-map, fault-append}
+use Rattle.cut_rule.specs.Walk.{runOver, applyAll-seqOver, applyAll-bare}
 use Rattle.cut_rule.specs.Inv.{Kept, kept, new, backed, Inv, Nothing, inv-rename, inv-move, inv-dir}
 use Rattle.cut_rule.specs.Recover.{Hits, GoodOp, undo-all, rename-tree}
 use Rattle.cut_rule.specs.Clean.{End, clean-runs, recover-recording, recover-end, recover-committing}
@@ -44,19 +46,6 @@ isRename (Step.removeFile d f) = 0
 isRename (Step.removeDirectory d) = 0
 isRename (removeStaging k) = 0
 isRename (syncDirectory d) = 0
-
-runs-map : (P Q : List Step → Store → Type 0) → ((x : List Step) (u : Store) → P x u → Q x u) → (pre xs : List Step) (s : Store) → Runs P pre xs s → Runs Q pre xs s
-runs-map P Q f pre [] s h = f pre s h
-runs-map P Q f pre (x ∷ xs) s h = (f pre s (h .0), runs-map P Q f (pre ++ x ∷ []) xs (apply x s) (h .1))
-
--- A plan without a failing step.
-pub fault-append : (xs ys : List Step) (u : Store) → firstFault (xs ++ ys) u ≡ none → (firstFault xs u ≡ none) × (firstFault ys (applyAll xs u) ≡ none)
-fault-append [] ys u h = (refl, h)
-fault-append (x ∷ xs) ys u h = go (stepFault x u) (λ k. fault-append xs ys (apply x u) k) h
-  where
-    go : (q : Option Fault) → (firstFault (xs ++ ys) (apply x u) ≡ none → (firstFault xs (apply x u) ≡ none) × (firstFault ys (applyAll xs (apply x u)) ≡ none)) → caseOption q (firstFault (xs ++ ys) (apply x u)) some ≡ none → (caseOption q (firstFault xs (apply x u)) some ≡ none) × (firstFault ys (applyAll xs (apply x u)) ≡ none)
-    go none ih h = ih h
-    go (some n) ih h = none≢some (sym h)
 
 move-stands : (f d k : Name) (xs : List Step) (u : Store) → firstFault (moveStaged f d k ∷ xs) u ≡ none → Has ([], f) (u .staging)
 unfolding stepFault
@@ -471,8 +460,8 @@ module _ (s : Store) (ws : List Write) (T : Transaction s ws) where
           let i : In w ws = rw (write-inj w (f .0) (f .2)) (f .1) in
           m .marks (w .collection) (w .key) (backupName (w .key)) (w .key) (original-backup (w .key) (T .named w i)) (h w i z)
 
-  recover-at : (n : ℕ) → (n ≡ 0) ⊎ NoneWaits n s ws → recovered (applyAll (take n (commitPlan s)) s) ≡ settled (expectedFiles (isSome (applyAll (take n (commitPlan s)) s .log)) s ws)
-  unfolding NoneWaits
+  recover-at : (n : ℕ) → (n ≡ 0) ⊎ AllRenamed n s ws → recovered (applyAll (take n (commitPlan s)) s) ≡ settled (expectedFiles (isSome (applyAll (take n (commitPlan s)) s .log)) s ws)
+  unfolding AllRenamed
   recover-at zero z = recover-recording s (map write ws) (T .bare) (T .logged) ∙ ap settled (sym (ap (λ (l : Bool). expectedFiles l s ws) (recorded-stands (s .log) (map write ws) whole (T .logged))))
   recover-at (suc n) z = go (at-suc n)
     where
@@ -508,9 +497,9 @@ pub close-log : (m : ℕ) (u : Store) → withoutMarkAtEnd m u .log ≡ u .log
 close-log zero u = refl
 close-log (suc m) u = refl
 
-pub cut-rule : CutRule
+pub store-cut-rule : StoreCutRule
 unfolding committedAt
-cut-rule s ws n T le h =
+store-cut-rule s ws n T le h =
     let u : Store = applyAll (take n (commitPlan s)) s in
     let m : ℕ = length (commitPlan s) - n in
     close-recover m u ∙ recover-at s ws T n h ∙ ap settled (sym (ap (λ (l : Option Bytes). expectedFiles (isSome l) s ws) (close-log m u)))

@@ -1,51 +1,90 @@
--- Demand 3 over images, in the words of 01's section "The words of demand 3".
+-- Demand 3, the cut rule, over images: 01, 'The words of demand 3'. Quotes are from there. Theorem.antt proves it.
 use mathlib.Core.Path.{_≡_}
-use Prim.Native.Nat.{ℕ}
+use Prim.Native.Nat.{ℕ, _≤_}
 use mathlib.Core.List.{List, [], _∷_, _++_, map}
-use mathlib.Core.Option.{Option, some}
+use mathlib.Core.Option.{Option, none, some}
+use mathlib.Core.Bool.{Bool, false}
 use mathlib.Core.Logic.{_⊎_}
 use Rattle.model.specs.Limits.{imageRoom, stepRoom}
 use Rattle.model.specs.Order.{Name}
-use Rattle.model.specs.Map.{Has}
-use Rattle.model.specs.Base.{Bytes, In}
-use Rattle.model.specs.Name.{backupExtension, stagingExtension}
+use Rattle.model.specs.Map.{Map, look, put, Has}
+use Rattle.model.specs.Base.{Bytes, caseOption, if_then_else_, In}
+use Rattle.model.specs.Name.{backupExtension, stagingExtension, backupName}
 use Rattle.model.specs.Field.{hasTag}
-use Rattle.model.specs.Operation.{Write, write}
+use Rattle.model.specs.Operation.{Write, write, target}
 use Rattle.model.specs.Log.{journal, opsOf}
-use Rattle.model.specs.Store.{Store}
+use Rattle.model.specs.Store.{Store, stagingKey}
 use Rattle.model.specs.Image.{decode}
+use Rattle.model.specs.Step.{Step, renameFile, stepField}
 use Rattle.model.specs.Answers.{Answer, answer, commit, commitStep, recover}
-use Rattle.cut_rule.specs.Words.{Distinct, NoneWaits, expectedFiles, settled}
 
--- A name ends in .bak, or in .tmp, as text.
-pub record EndsIn (e n : Name) : Type 0 where
+-- A name ends in .bak, or in .tmp: as text, whatever stands before the dot.
+pub record EndsIn (extension n : Name) : Type 0 where
   pub front : Name
-  pub joined : n ≡ front ++ 0x2E ∷ e
+  pub joined : n ≡ front ++ 0x2E ∷ extension
 
 pub record NoExtension (n : Name) : Type 0 where
   pub noBak : EndsIn backupExtension n → ⊥
   pub noTmp : EndsIn stagingExtension n → ⊥
 
--- The image b holds the store s, and its log the Writes ws alone. No name of a directory or file, and no key, ends in .bak or
--- .tmp. The keys are distinct, in collections that exist. Commit's answer is 0: so it isn't given 1 or 4, and no step fails.
+-- "Keys are distinct if no two Writes have the same collection and key."
+abbrev pub Distinct : List Write → Type 0
+Distinct [] = Unit {0}
+Distinct (w ∷ l) = ((v : Write) → In v l → target v ≡ target w → ⊥) × Distinct l
+
+-- The conditions on a transaction: the image b, the store s that it holds, the Writes ws of its log.
 pub record Conditions (b : Bytes) (s : Store) (ws : List Write) : Type 0 where
+  -- "A transaction is an image for which commit, lent enough output, isn't given 1 or 4"; its commit meets no failing step, 14 or 15.
+  pub committed : commit b imageRoom .number ≡ 0
+  -- ""Before" is that image's directories and files."
   pub holds : decode b ≡ some s
+  -- "Its Writes and their keys are those of its log": its operations are Writes alone.
   pub writesAlone : opsOf (journal (s .log)) ≡ map write ws
+  -- No name of a directory or file before, and no key, ends in .bak or .tmp; "a staging name may end in .tmp".
   pub names : (d f : Name) → Has (d, f) (s .tree) → NoExtension d × NoExtension f
   pub keys : (w : Write) → In w ws → NoExtension (w .key)
-  pub firstNamings : Distinct ws
+  -- The keys are distinct, in collections that exist.
+  pub distinctKeys : Distinct ws
   pub collections : (w : Write) → In w ws → Has (w .collection, []) (s .tree)
-  pub committed : commit b imageRoom .number ≡ 0
+
+-- A key's "rename to the backup name, the key with .bak behind it".
+abbrev pub backupRename : Write → Step
+backupRename w = renameFile (w .collection) (w .key) (backupName (w .key))
+
+-- That rename is "among the first n steps": its field is one of those that commit's step entry hands back up to n.
+pub record Renamed (n : ℕ) (b : Bytes) (w : Write) : Type 0 where
+  pub place : ℕ
+  pub early : place ≤ n
+  pub given : commitStep place b imageRoom stepRoom .step ≡ stepField (backupRename w)
+
+-- "A written key existed if its collection holds a file of that name before. It waits at n if its rename […] isn't among the first n steps."
+abbrev pub NoneWaits : ℕ → Bytes → Store → List Write → Type 0
+NoneWaits n b s ws = (w : Write) → In w ws → Has (target w) (s .tree) → Renamed n b w
 
 -- "Recovery gets exactly that image": what commit's step entry hands back at n.
 abbrev pub cutAt : ℕ → Bytes → Bytes
 cutAt n b = commitStep n b imageRoom stepRoom .image
 
--- "One claim over every image, list of Writes and n", n from 0 to the plan's length, where n = 0 or no written key that existed
--- waits at n: "unless given 2, recovery answers 0, and its image has exactly the directories and files, numbers included, from
--- before if the log stood" (the cut image has a 0x13 field), "else those with all writes done, and no 0x12, 0x13 or 0x14".
-abbrev pub CutRuleOverImages : Type 0
-CutRuleOverImages =
-    (b : Bytes) (s : Store) (ws : List Write) (n out : ℕ) → Conditions b s ws →
-    commitStep n b imageRoom stepRoom .number ≡ 0 → (n ≡ 0) ⊎ NoneWaits n s ws → (recover (cutAt n b) out .number ≡ 2 → ⊥) →
+-- "All writes done: start from the directories and files before, and take the Writes in log order. Each puts into its collection a file with
+-- its key as name and the number that its staging file has in the transaction's image, in place of a file of that name."
+unfoldable pub allWritesDone : Map → List Write → Map → Map
+allWritesDone staging [] t = t
+allWritesDone staging (w ∷ l) t = allWritesDone staging l (caseOption (look (stagingKey (w .staged)) staging) t (λ x. put (target w) x t))
+
+-- "from before if the log stood, else those with all writes done"
+abbrev pub expectedFiles : Bool → Store → List Write → Map
+expectedFiles stood s ws = if stood then s .tree else allWritesDone (s .staging) ws (s .tree)
+
+-- A store with "no 0x12, 0x13 or 0x14".
+abbrev pub settled : Map → Store
+settled t = record { tree = t; staging = []; log = none; openMark = false }
+
+-- "That is one claim over every image, list of Writes and n, and not one for each step or Write." The cut comes at any n of the plan (the step
+-- entry's number is 0), where n = 0 or no written key that existed waits at n. "Unless given 2, recovery answers 0, and its image has exactly the
+-- directories and files, numbers included, from before if the log stood" ("that image has a 0x13 field"), "else those with all writes done, and no
+-- 0x12, 0x13 or 0x14."
+abbrev pub CutRule : Type 0
+CutRule =
+    (b : Bytes) (s : Store) (ws : List Write) (n out : ℕ) →
+    Conditions b s ws → commitStep n b imageRoom stepRoom .number ≡ 0 → (n ≡ 0) ⊎ NoneWaits n b s ws → (recover (cutAt n b) out .number ≡ 2 → ⊥) →
     recover (cutAt n b) out ≡ answer 0 (settled (expectedFiles (hasTag 0x13 (cutAt n b)) s ws))

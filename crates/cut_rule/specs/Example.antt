@@ -17,17 +17,17 @@ use Rattle.model.specs.Base.{Bytes, caseOption, if_then_else_, isSome, In}
 use Rattle.model.specs.Name.{lastDot, extension, stripExtension, backupExtension, stagingExtension, backupName, originalName, stripTmp, isNameByte, refusedNames, validName, lowerByte, lower}
 use Rattle.model.specs.Crc32.{crc32, register, feedByte, shifts, shift, addPolynomial}
 use Rattle.model.specs.Field.{littleEndian, fromLittleEndian, encodeField, encodeFields, fieldsFrom, decodeFields, hasTag}
+use Rattle.model.specs.Operation as Operation
 use Rattle.model.specs.Operation.{Op, Write, fieldTable, fieldTags, kind, values, tagged, encodePayload, makers, validValue, opOfFields, decodePayload}
-use Rattle.model.specs.Log.{header, entry, validHeader, firstPayload, walk, entries, readJournal, markCommitting, appendOperation, Journal, absent, recording, committing, journal, Ending, whole, truncated, undecodable, tooMany}
+use Rattle.model.specs.Log.{header, entry, validHeader, firstPayload, walk, entries, readJournal, markCommitting, appendOperation, Journal, absent, recording, committing, journal, Ending, whole, truncated, undecodable, tooMany, opsOf}
 use Rattle.model.specs.Store.{Store, dirs, files, validNode, validNodes, validStaged, ascending, wellFormed, hasBackupFiles, hasPendingWork}
 use Rattle.model.specs.Image.{imageFields, encode, treeOf, stagingOf, logOf, storeOf, decode}
 use Rattle.model.specs.Step.{removeDir, renameDir, apply, zeroSeparated, tagAndNames, stepField, stepFault}
 use Rattle.model.specs.Plan.{opSteps, undoSteps, restoreFile, restoreDirectory, removeBackupFile, removeBackupsIn, firstNamings, syncExisting, commitFault, commitPlan, committedAt, isNewArtifact, recoverPlan, recoveredAt, recovered}
 use Rattle.model.specs.Record.{transaction, beginTransaction, discard, recordWrite, otherCase, caseRenamed, recordDelete, recordDeleteAll, recordCreate, recordDeleteCollection, recordCopy, keyList}
-use Rattle.model.specs.Answers.{Answer, begin, rollback, write, delete, deleteAll, createCollection, deleteCollection, copyCollection, commitStore, commit, recoverStore, recover, commitStep, recoverStep, pending, listKeys, decimal, listingLine, listing}
-use Rattle.cut_rule.specs.Words.{NoneWaits, settled}
-use Rattle.cut_rule.specs.Demand.{EndsIn, NoExtension, Conditions, cutAt}
-use Rattle.cut_rule.specs.Theorem.{image-cut-rule}
+use Rattle.model.specs.Answers.{Answer, answer, begin, rollback, write, delete, deleteAll, createCollection, deleteCollection, copyCollection, commitStore, commit, recoverStore, recover, commitStep, recoverStep, pending, listKeys, decimal, listingLine, listing}
+use Rattle.cut_rule.specs.Demand.{EndsIn, NoExtension, Conditions, backupRename, NoneWaits, cutAt, settled, allWritesDone}
+use Rattle.cut_rule.specs.Theorem.{cut-rule}
 
 db : Name
 db = 0x64 ∷ 0x62 ∷ []
@@ -68,7 +68,22 @@ known d f h = go (key-dec (d, f) (db, [])) (key-dec (d, f) (db, a))
     go (no p) (yes q) = let x : length d ≡ 2 = ap (λ (k : Key). length (k .0)) q in let y : length f ≡ 1 = ap (λ (k : Key). length (k .1)) q in (omega arith, omega arith)
     go (no p) (no q) = none≢some (sym (look-tail (d, f) ((db, []), 0) (((db, a), 7) ∷ []) p ∙ look-tail (d, f) ((db, a), 7) [] q) ∙ h .1)
 
-met : Conditions ten store (write9 ∷ [])
+-- What is computed of it.
+record Computed : Type 0 where
+  holds : decode ten ≡ some store
+  writes : opsOf (journal (store .log)) ≡ map Operation.write (write9 ∷ [])
+  commits : commit ten imageRoom .number ≡ 0
+  stands : look (db, []) tree7 ≡ some 0
+  fourth : commitStep 4 ten imageRoom stepRoom .step ≡ stepField (backupRename write9)
+  steps4 : commitStep 4 ten imageRoom stepRoom .number ≡ 0
+  steps8 : commitStep 8 ten imageRoom stepRoom .number ≡ 0
+  log4 : hasTag 0x13 (cutAt 4 ten) ≡ true
+  log8 : hasTag 0x13 (cutAt 8 ten) ≡ false
+  recovers4 : recover (cutAt 4 ten) imageRoom .number ≡ 0
+  recovers8 : recover (cutAt 8 ten) imageRoom .number ≡ 0
+  written : allWritesDone (store .staging) (write9 ∷ []) tree7 ≡ ((db, []), 0) ∷ ((db, a), 9) ∷ []
+
+computed : Computed
 unfolding ten store tree7 write9 db a crc32 register feedByte shifts shift addPolynomial littleEndian fromLittleEndian encodeField encodeFields fieldsFrom decodeFields hasTag
     lastDot extension stripExtension backupExtension stagingExtension backupName originalName stripTmp isNameByte refusedNames validName lowerByte lower
     fieldTable fieldTags kind values tagged encodePayload makers validValue opOfFields decodePayload
@@ -78,15 +93,33 @@ unfolding ten store tree7 write9 db a crc32 register feedByte shifts shift addPo
     removeDir renameDir apply zeroSeparated tagAndNames stepField stepFault
     opSteps undoSteps restoreFile restoreDirectory removeBackupFile removeBackupsIn firstNamings syncExisting commitFault commitPlan committedAt isNewArtifact recoverPlan recoveredAt recovered
     transaction beginTransaction discard recordWrite otherCase caseRenamed recordDelete recordDeleteAll recordCreate recordDeleteCollection recordCopy keyList
-    begin rollback write delete deleteAll createCollection deleteCollection copyCollection commitStore commit recoverStore recover commitStep recoverStep pending listKeys decimal listingLine listing
-met = record {
+    begin rollback write delete deleteAll createCollection deleteCollection copyCollection commitStore commit recoverStore recover commitStep recoverStep pending listKeys decimal listingLine listing allWritesDone
+computed = record {
   holds = refl;
-  writesAlone = refl;
+  writes = refl;
+  commits = refl;
+  stands = refl;
+  fourth = refl;
+  steps4 = refl;
+  steps8 = refl;
+  log4 = refl;
+  log8 = refl;
+  recovers4 = refl;
+  recovers8 = refl;
+  written = refl;
+}
+
+-- It meets every condition of the cut rule.
+met : Conditions ten store (write9 ∷ [])
+unfolding store write9 a
+met = record {
+  committed = computed .commits;
+  holds = computed .holds;
+  writesAlone = computed .writes;
   names = λ d f h. let k = known d f h in (short-name d (k .0), short-name f (k .1));
   keys = λ w i. keys w i;
-  firstNamings = (λ v p e. p, tt);
+  distinctKeys = (λ v p e. p, tt);
   collections = λ w i. collections w i;
-  committed = refl;
 }
   where
     keys : (w : Write) → In w (write9 ∷ []) → NoExtension (w .key)
@@ -94,5 +127,22 @@ met = record {
     keys w (inr p) = absurd p
 
     collections : (w : Write) → In w (write9 ∷ []) → Has (w .collection, []) tree7
-    collections w (inl p) = rw p (0, refl)
+    collections w (inl p) = rw p (0, computed .stands)
     collections w (inr p) = absurd p
+
+-- From 4 steps on no written key that existed waits: the field of a's rename is the fourth.
+none-waits : (n : ℕ) → 4 ≤ n → NoneWaits n ten store (write9 ∷ [])
+none-waits n h w (inl p) x = record { place = 4; early = h; given = rw p (computed .fourth) }
+none-waits n h w (inr p) x = absurd p
+
+not-2 : (x : ℕ) → x ≡ 0 → x ≡ 2 → ⊥
+not-2 x p q = omega arith
+
+-- So the cut rule speaks of it: recovery after 4 steps gives a=7, and after 8 steps a=9.
+after-4 : recover (cutAt 4 ten) imageRoom ≡ answer 0 (settled tree7)
+unfolding store
+after-4 = rw (computed .log4) at (cut-rule ten store (write9 ∷ []) 4 imageRoom met (computed .steps4) (inr (none-waits 4 (omega arith))) (not-2 _ (computed .recovers4)))
+
+after-8 : recover (cutAt 8 ten) imageRoom ≡ answer 0 (settled (((db, []), 0) ∷ ((db, a), 9) ∷ []))
+unfolding store
+after-8 = rw (computed .log8, computed .written) at (cut-rule ten store (write9 ∷ []) 8 imageRoom met (computed .steps8) (inr (none-waits 8 (omega arith))) (not-2 _ (computed .recovers8)))

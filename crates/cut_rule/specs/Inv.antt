@@ -11,8 +11,7 @@ use Rattle.model.specs.Map.{Map, look, put, del, Has}
 use Rattle.laws.specs.MapLaws.{Sorted, key-dec, none≢some, some-inj, ext, look-put-same, look-put-other, look-del-same, look-del-other, sorted-put, sorted-del}
 use Rattle.model.specs.Name.{backupName, originalName, stripTmp}
 use Rattle.model.specs.Base.{Any, In}
-use Rattle.laws.specs.NameLaws.{original-backup, original-some, original-nil, original-named}
-use Rattle.cut_rule.specs.Names.{key-apart}
+use Rattle.laws.specs.NameLaws.{original-backup, original-some, original-nil, original-named, key-apart}
 
 pub data Kept (o : Map) (R : Key → Type 0) (t : Map) (d f : Name) : Type 0 where
   kept : look (d, f) t ≡ look (d, f) o → Kept o R t d f

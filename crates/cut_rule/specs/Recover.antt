@@ -16,9 +16,10 @@ use Rattle.model.specs.Log.{Journal, absent, recording, committing}
 use Rattle.model.specs.Store.{Store, dirs, files}
 use Rattle.model.specs.Step.{Step, removeFile, renameFile, removeDirectory, renameDirectory, apply, applyAll}
 use Rattle.model.specs.Plan.{inTurn, run, undoSteps, restoreFile, restoreDirectory, removeBackupFile, removeBackupsIn, restoreBackups, removeBackups, recoverParts, recoverPlan, recovered, withoutMark}
-use Rattle.cut_rule.specs.Words.{settled, Plain}
-use Rattle.laws.specs.NameLaws.{original-backup, original-some, original-nil, original-named}
-use Rattle.cut_rule.specs.Names.{key-apart, dirs-in, dirs-has, files-has, files-in, files-once, Once, any-map}
+use Rattle.cut_rule.specs.Demand.{settled}
+use Rattle.cut_rule.specs.StoreRule.{Plain}
+use Rattle.laws.specs.NameLaws.{original-backup, original-some, original-nil, original-named, key-apart}
+use Rattle.laws.specs.Listings.{dirs-in, dirs-has, files-has, files-in, files-once, Once, any-map}
 use Rattle.cut_rule.specs.Walk.{runOver, applyAll-seqOver, applyAll-busy, staging-gone, withStaging, Clears, walk, Each}
 use Rattle.cut_rule.specs.Inv.{Kept, kept, new, backed, Inv, Nothing, inv-undo, inv-leave, inv-restore, inv-dir, inv-final}
 

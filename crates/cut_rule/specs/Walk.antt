@@ -1,26 +1,19 @@
--- Running plans: appended pieces, walks over a list, and what holds after every step of a plan.
-use mathlib.Core.Path.{_≡_, refl, sym, _∙_, ap, ap₂, subst}
-use Prim.Native.Nat.{ℕ, zero, suc}
-use mathlib.Core.List.{List, [], _∷_, _++_, map, append-nil, append-assoc}
-use mathlib.Core.Option.{Option, none, some}
-use mathlib.Core.Bool.{Bool}
+-- Walks over a list, by what they leave: the open mark, the staging files, the backups.
+use mathlib.Core.Path.{_≡_, refl, _∙_, ap}
+use mathlib.Core.List.{List, [], _∷_, map}
+use mathlib.Core.Option.{none, some}
 use mathlib.Core.Logic.{_⊎_, inl, inr}
-use lib.ListN.{take}
-use lib.Seq.{append-snoc}
 use Rattle.model.specs.Step
 use Rattle.model.specs.Order.{Name, Key}
-use Rattle.model.specs.Map.{Map, look, del}
+use Rattle.model.specs.Map.{Map, look}
 use Rattle.model.specs.Store.{Store, stagingKey, stagingNames}
 use Rattle.model.specs.Step.{Step, apply, applyAll, removeStaging}
 use Rattle.model.specs.Plan.{inTurn, removeStagingFiles}
 use Rattle.model.specs.Name.{originalName}
 use Rattle.model.specs.Base.{Any, In}
 use Rattle.laws.specs.StoreLaws.{Bare, bare-del}
-use Rattle.cut_rule.specs.Names.{dels, dels-all}
-
-pub applyAll-append : (xs ys : List Step) (s : Store) → applyAll (xs ++ ys) s ≡ applyAll ys (applyAll xs s)
-applyAll-append [] ys s = refl
-applyAll-append (x ∷ xs) ys s = applyAll-append xs ys (apply x s)
+use Rattle.laws.specs.Listings.{dels, dels-all}
+use Rattle.laws.specs.Runs.{applyAll-append}
 
 abbrev pub runOver : {A : Type 0} → (A → Store → List Step) → List A → Store → Store
 runOver g [] s = s
@@ -119,32 +112,3 @@ module _ {A : Type 0} (g : A → Store → List Step) (Ready : List A → Store 
 -- What is asked of each element alone.
 abbrev pub Each : {A : Type 0} → (A → Type 0) → List A → Store → Type 0
 Each G l s = (a : _) → In a l → G a
-
--- What holds of the steps done and the store after each step of a plan.
-abbrev pub Runs : (List Step → Store → Type 0) → List Step → List Step → Store → Type 0
-Runs P pre [] s = P pre s
-Runs P pre (x ∷ xs) s = P pre s × Runs P (pre ++ x ∷ []) xs (apply x s)
-
-module _ (P : List Step → Store → Type 0) where
-  pub runs-take : (pre xs : List Step) (s : Store) → Runs P pre xs s → (n : ℕ) → P (pre ++ take n xs) (applyAll (take n xs) s)
-  runs-take pre [] s h zero = rw append-nil h
-  runs-take pre [] s h (suc n) = rw append-nil h
-  runs-take pre (x ∷ xs) s h zero = rw append-nil (h .0)
-  runs-take pre (x ∷ xs) s h (suc n) = rw append-snoc at (runs-take (pre ++ x ∷ []) xs (apply x s) (h .1) n)
-
-  pub runs-end : (pre xs : List Step) (s : Store) → Runs P pre xs s → P (pre ++ xs) (applyAll xs s)
-  runs-end pre [] s h = rw append-nil h
-  runs-end pre (x ∷ xs) s h = rw append-snoc at (runs-end (pre ++ x ∷ []) xs (apply x s) (h .1))
-
-  pub runs-append : (pre xs ys : List Step) (s : Store) → Runs P pre xs s → Runs P (pre ++ xs) ys (applyAll xs s) → Runs P pre (xs ++ ys) s
-  runs-append pre [] ys s h k = rw append-nil at k
-  runs-append pre (x ∷ xs) ys s h k = (h .0, runs-append (pre ++ x ∷ []) xs ys (apply x s) (h .1) (rw append-snoc k))
-
-  module _ {A : Type 0} (g : A → Store → List Step) (G : A → Type 0)
-      (each : (a : A) (pre : List Step) (s : Store) → G a → P pre s → Runs P pre (g a s) s) where
-    pub runs-over : (l : List A) (pre : List Step) (s : Store) → ((a : A) → In a l → G a) → P pre s → Runs P pre (inTurn g l s) s
-    runs-over [] pre s good p = p
-    runs-over (a ∷ l) pre s good p =
-        let h : Runs P pre (g a s) s = each a pre s (good a (inl refl)) p in
-        runs-append pre (g a s) (inTurn g l (applyAll (g a s) s)) s h
-        (runs-over l (pre ++ g a s) (applyAll (g a s) s) (λ b q. good b (inr q)) (runs-end pre (g a s) s h))

@@ -18,7 +18,7 @@ use Rattle.model.specs.Operation.{Op, Write, write, delete, deleteAll, createCo
 use Rattle.model.specs.Log.{Entries, Ending, whole, truncated, undecodable, tooMany, entry, walk, entries, firstPayload, stop, after, Journal, absent, recording, committing, byStatus, validHeader, readJournal, appendOperation}
 use Rattle.laws.specs.Tests.{and-both, and-made, leb-le, le-leb, same-eq, same-refl}
 use Rattle.laws.specs.FieldLaws.{le-four}
-use Rattle.laws.specs.ImageLaws.{valid-length}
+use Rattle.laws.specs.ValidNames.{valid-length}
 use Rattle.laws.specs.OperationLaws.{ValidOp, payload-back}
 
 -- "At most 6,824 log bytes": a header and 32 entries of at most 8 + 205 bytes.

@@ -1,30 +1,23 @@
 -- An image is read back: decode (encode s) is s for every well-formed s, and decode b is s only where encode s is b.
-use mathlib.Core.Path.{_≡_, refl, sym, _∙_, ap, ap₂, subst}
-use Prim.Native.Nat.{ℕ, zero, suc, _+_, _≤_, _<_}
+use mathlib.Core.Path.{_≡_, refl, sym, _∙_, ap, ap₂}
+use Prim.Native.Nat.{ℕ, _≤_}
 use native.Mathlib.Omega.{arith}
-use mathlib.Core.List.{List, [], _∷_, _++_, map, append-nil, append-assoc}
+use mathlib.Core.List.{List, [], _∷_, _++_, map, append-assoc}
 use mathlib.Core.Option.{Option, none, some}
-use mathlib.Core.Bool.{Bool, true, false, not, _&&_, _||_, false≢true}
-use lib.ListN.{length, take, drop, length-append}
+use mathlib.Core.Bool.{Bool, true, false, _&&_, false≢true}
+use lib.ListN.{length}
 use lib.Dec.{leb, eqb}
-use Rattle.model.specs.Limits.{nameLimit, numberLimit}
-use Rattle.model.specs.Order.{Name, Key}
+use Rattle.model.specs.Limits.{numberLimit}
+use Rattle.model.specs.Order.{Name}
 use Rattle.model.specs.Map.{Map, Node}
-use Rattle.model.specs.Base.{Bytes, caseOption, if_then_else_, ifEmpty, isSome, sameBytes, allOf, anyOf, isIn, flatMap}
-use Rattle.model.specs.Name.{validName, isNameByte, refusedNames}
-use Rattle.model.specs.Field.{littleEndian, fromLittleEndian, Field, encodeFields, decodeFields, hasTag}
+use Rattle.model.specs.Base.{Bytes, caseOption, if_then_else_, ifEmpty, isSome, sameBytes, allOf, anyOf}
+use Rattle.model.specs.Name.{validName}
+use Rattle.model.specs.Field.{littleEndian, Field, decodeFields, hasTag}
 use Rattle.model.specs.Store.{Store, dirs, fileCount, validNumber, validNode, validNodes, validStaged, ascending, wellFormed}
-use Rattle.model.specs.Image.{nodeField, stagedField, logField, markField, imageFields, encode, numbered, treeOf, stagingOf, logOf, storeOf, decode}
-use Rattle.laws.specs.Tests.{and-both, and-made, leb-le, le-leb, eqb-eq, same-eq, same-refl, All, all-append, all-of, of-all, all-map}
+use Rattle.model.specs.Image.{nodeField, stagedField, logField, markField, imageFields, encode, treeOf, stagingOf, logOf, storeOf, decode}
+use Rattle.laws.specs.Tests.{and-both, and-made, leb-le, eqb-eq, same-eq, same-refl, All, all-append, all-of, all-map}
+use Rattle.laws.specs.ValidNames.{valid-length}
 use Rattle.laws.specs.FieldLaws.{le-four, Short, split-join}
-
-pub valid-length : (n : Name) → validName n ≡ true → (1 ≤ length n) × (length n ≤ 64)
-unfolding validName
-valid-length n e =
-    let h = and-both _ (not (isIn n refusedNames)) e in
-    let k = and-both _ (allOf isNameByte n) (h .0) in
-    let l = and-both (leb 1 (length n)) (leb (length n) nameLimit) (k .0) in
-    (leb-le 1 (length n) (l .0), leb-le (length n) 64 (l .1))
 
 pub number-le : (x : ℕ) → validNumber x ≡ true → x ≤ 4294967295
 number-le x e = leb-le x numberLimit (and-both (leb 1 x) (leb x numberLimit) e .1)

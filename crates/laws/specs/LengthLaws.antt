@@ -1,30 +1,29 @@
 -- "So at most 19,262 bytes", and how long a log of so many operations is.
-use mathlib.Core.Path.{_≡_, refl, sym, _∙_, ap, ap₂, subst}
-use Prim.Native.Nat.{ℕ, zero, suc, _+_, _*_, _-_, _≤_, _<_}
+use mathlib.Core.Path.{_≡_, refl, sym, ap}
+use Prim.Native.Nat.{ℕ, zero, suc, _+_, _*_, _≤_, _<_}
 use native.Mathlib.Omega.{arith}
 use mathlib.Core.List.{List, [], _∷_, _++_, map}
 use mathlib.Core.Option.{Option, none, some}
-use mathlib.Core.Bool.{Bool, true, false, _&&_, false≢true}
-use lib.ListN.{length, take, drop, getD, length-append, length-drop}
+use mathlib.Core.Bool.{Bool, true, false}
+use lib.ListN.{length, take, drop, length-append, length-drop}
 use lib.Seq.{length-take-le}
-use lib.Dec.{leb, eqb}
 use Rattle.model.specs.Order.{Name}
-use Rattle.model.specs.Map.{Map, Node}
-use Rattle.laws.specs.MapLaws.{none≢some, some-inj}
-use Rattle.model.specs.Base.{Bytes, caseOption, if_then_else_, ifEmpty, sameBytes, atLeast, flatMap}
-use Rattle.model.specs.Name.{validName}
+use Rattle.model.specs.Map.{Map}
+use Rattle.laws.specs.MapLaws.{none≢some, some-inj, look-all}
+use Rattle.model.specs.Base.{Bytes, caseOption, ifEmpty, flatMap}
 use Rattle.model.specs.Field.{littleEndian, fromLittleEndian, Field, encodeField, encodeFields, fieldsFrom, decodeFields}
-use Rattle.model.specs.Operation.{Op, fieldTable, fieldTags, kind, values, tagged, encodePayload, opOfFields, decodePayload}
-use Rattle.model.specs.Log.{Entries, Ending, whole, truncated, undecodable, tooMany, entry, walk, entries, firstPayload, stop, after, Journal, recording, validHeader, readJournal, appendOperation}
-use Rattle.model.specs.Store.{Store, validNumber, validNode, validNodes, validStaged, wellFormed}
+use Rattle.model.specs.Operation.{Op, fieldTags, kind, values, tagged, encodePayload, opOfFields, decodePayload}
+use Rattle.model.specs.Log.{whole, truncated, undecodable, tooMany, entry, walk, entries, firstPayload, stop, after, recording, readJournal, appendOperation}
+use Rattle.model.specs.Store.{Store}
 use Rattle.model.specs.Image.{nodeField, stagedField, logField, markField, imageFields, encode}
-use Rattle.laws.specs.Tests.{and-both, leb-le, All, all-of}
-use Rattle.laws.specs.ImageLaws.{valid-length, node-parts, file-parts, staged-parts, Parts, parts, regroup}
-use Rattle.laws.specs.TreeLaws.{size, isFile, isDir, one}
-use Rattle.laws.specs.StoreLaws.{Good, good, LogFits}
+use Rattle.laws.specs.Tests.{All, nil≢cons}
+use Rattle.laws.specs.ValidNames.{valid-length, Naming}
+use Rattle.laws.specs.ImageLaws.{regroup}
+use Rattle.laws.specs.TreeLaws.{NodeGood, size, isFile, isDir, one}
+use Rattle.laws.specs.StoreLaws.{Good, StagedGood, LogFits}
 use Rattle.laws.specs.OperationLaws.{ValidOp, decoded-valid, op-forth}
 use Rattle.laws.specs.AppendLaws.{payload-length, not-whole, journal-parts, entry-length}
-use mathlib.Core.Logic.{_⊎_, inl, inr}
+use mathlib.Core.Logic.{inl, inr}
 
 -- How long fields are when joined.
 abbrev pub bulk : List Field → ℕ
@@ -40,23 +39,19 @@ bulk-append : (l r : List Field) → bulk (l ++ r) ≡ bulk l + bulk r
 bulk-append [] r = omega arith
 bulk-append (f ∷ l) r = let h = bulk-append l r in omega arith
 
-nodes-bulk : (d : Name) (t : Map) → validNodes d t ≡ true → bulk (map nodeField t) ≤ 67 * size isDir t + 71 * size isFile t
-unfolding validNodes
-nodes-bulk d [] e = omega arith
-nodes-bulk d (n ∷ t) e =
-    let k = and-both (validNode d n) (validNodes (n .0 .0) t) e in
-    let h = node-parts d n (k .0) in
-    go (n .0 .1) (nodes-bulk (n .0 .0) t (k .1)) (valid-length (n .0 .0) (h .0)) (h .1)
+nodes-bulk : {N : Name → Type 0} → Naming N → (u t : Map) → All (λ n. NodeGood N u (n .0 .0) (n .0 .1) (n .1)) t → bulk (map nodeField t) ≤ 67 * size isDir t + 71 * size isFile t
+nodes-bulk nm u [] h = omega arith
+nodes-bulk {N} nm u (n ∷ t) h = go (n .0 .1) (nodes-bulk nm u t (h .1)) (nm .sized (n .0 .0) (h .0 .dir)) (h .0 .name)
   where
-    go : (f : Name) → bulk (map nodeField t) ≤ 67 * size isDir t + 71 * size isFile t → (1 ≤ length (n .0 .0)) × (length (n .0 .0) ≤ 64) → ifEmpty f (eqb (n .1) 0) (sameBytes (n .0 .0) d && validName f && validNumber (n .1)) ≡ true →
+    go : (f : Name) → bulk (map nodeField t) ≤ 67 * size isDir t + 71 * size isFile t → (1 ≤ length (n .0 .0)) × (length (n .0 .0) ≤ 64) → ((f ≡ [] → ⊥) → N f) →
         bulk (ifEmpty f (record { tag = 0x10; value = n .0 .0 }) (record { tag = 0x11; value = littleEndian 4 (n .1) ++ f }) ∷ map nodeField t) ≤ 67 * (ifEmpty f 1 0 + size isDir t) + 71 * (ifEmpty f 0 1 + size isFile t)
     go [] ih v p = omega arith
-    go (y ∷ ys) ih v p = let w = valid-length (y ∷ ys) (file-parts d (n .0 .0) (y ∷ ys) (n .1) p .1) in unfold littleEndian in (omega arith)
+    go (y ∷ ys) ih v p = let w = nm .sized (y ∷ ys) (p (λ z. nil≢cons (sym z))) in unfold littleEndian in (omega arith)
 
-staged-bulk : (m : Map) → All (λ n. validStaged n ≡ true) m → bulk (map stagedField m) ≤ 71 * size one m
+staged-bulk : (m : Map) → All (λ n. StagedGood (n .0) (n .1)) m → bulk (map stagedField m) ≤ 71 * size one m
 unfolding littleEndian
 staged-bulk [] h = omega arith
-staged-bulk (n ∷ m) h = let v = valid-length (n .0 .1) (staged-parts n (h .0) .1) in let k = staged-bulk m (h .1) in omega arith
+staged-bulk (n ∷ m) h = let v = valid-length (n .0 .1) (h .0 .name) in let k = staged-bulk m (h .1) in omega arith
 
 tail-bulk : (l : Option Bytes) (b : Bool) → LogFits l → bulk (logField l ++ markField b) ≤ 6830
 tail-bulk none true h = omega arith
@@ -64,13 +59,11 @@ tail-bulk none false h = omega arith
 tail-bulk (some l) true h = omega arith
 tail-bulk (some l) false h = omega arith
 
-pub encode-length : (s : Store) → wellFormed s ≡ true → length (encode s) ≤ 19262
+pub encode-length : {N : Name → Type 0} → Naming N → (s : Store) → Good N s → length (encode s) ≤ 19262
 unfolding encode
-encode-length s e =
-    let p = parts s e in
-    let g = good s e in
-    let a = nodes-bulk [] (s .tree) (p .nodes) in
-    let b = staged-bulk (s .staging) (all-of validStaged (s .staging) (p .staged)) in
+encode-length {N} nm s g =
+    let a = nodes-bulk nm (s .tree) (s .tree) (look-all (λ k x. NodeGood N (s .tree) (k .0) (k .1) x) (s .tree) (g .tree .sorted) (λ k x l. g .tree .node (k .0) (k .1) x l)) in
+    let b = staged-bulk (s .staging) (look-all StagedGood (s .staging) (g .staging .sorted) (g .staging .node)) in
     let c = tail-bulk (s .log) (s .openMark) (g .log) in
     let d = g .tree .dirsFit in
     let f = g .tree .filesFit in

@@ -1,30 +1,52 @@
 -- What a payload decodes to, and that every operation of a log has valid names.
-use mathlib.Core.Path.{_≡_, refl, sym, _∙_, ap, ap₂, subst}
-use Prim.Native.Nat.{ℕ, zero, suc, _+_, _-_, _≤_, _<_}
+use mathlib.Core.Path.{_≡_, refl, sym, _∙_, ap, ap₂}
+use Prim.Native.Nat.{ℕ, zero, suc, _+_, _-_}
 use native.Mathlib.Omega.{arith}
-use mathlib.Core.List.{List, [], _∷_, _++_, map}
+use mathlib.Core.List.{List, [], _∷_, map}
 use mathlib.Core.Option.{Option, none, some}
-use mathlib.Core.Bool.{Bool, true, false, not, _&&_, _||_, false≢true}
-use lib.ListN.{length, take, drop, getD, getElem?}
-use lib.Dec.{leb, eqb}
+use mathlib.Core.Bool.{Bool, true, false, _&&_, _||_, false≢true}
+use lib.ListN.{length, drop, getD, getElem?}
+use lib.Dec.{eqb}
 use Rattle.laws.specs.MapLaws.{none≢some, some-inj}
 use Rattle.model.specs.Base.{Bytes, caseOption, if_then_else_, sameBytes, allOf}
+use Rattle.model.specs.Order.{Name}
 use Rattle.model.specs.Name.{validName}
-use Rattle.model.specs.Field.{Field, encodeField, encodeFields, fieldsFrom, decodeFields}
-use Rattle.model.specs.Operation.{Op, Write, write, delete, deleteAll, createCollection, deleteCollection, copyCollection, fieldTable, fieldTags, kind, values, tagged, encodePayload, makers, validValue, opOfFields, decodePayload}
-use Rattle.model.specs.Log.{Entries, Ending, walk, entries, firstPayload, Journal, absent, recording, committing, byStatus, readJournal, journal, stop, after, truncated, undecodable, validHeader, opsOf}
-use Rattle.laws.specs.Tests.{and-both, and-made, eqb-eq, same-eq, same-refl, All, all-of, of-all}
+use Rattle.model.specs.Field.{Field, encodeFields, fieldsFrom, decodeFields}
+use Rattle.model.specs.Operation.{Op, write, delete, deleteAll, createCollection, deleteCollection, copyCollection, fieldTable, fieldTags, kind, values, tagged, encodePayload, makers, validValue, opOfFields, decodePayload}
+use Rattle.model.specs.Log.{walk, entries, firstPayload, absent, byStatus, readJournal, journal, stop, after, truncated, undecodable, validHeader, opsOf}
+use Rattle.laws.specs.Tests.{and-both, eqb-eq, same-eq, All, all-of}
 use Rattle.laws.specs.FieldLaws.{Short, split-join, Byte, split-only}
-use Rattle.laws.specs.ImageLaws.{valid-length}
+use Rattle.laws.specs.ValidNames.{Valid, valid-length}
 
 -- All names of an operation are valid.
 abbrev pub ValidOp : Op → Type 0
-ValidOp (write w) = (validName (w .collection) ≡ true) × (validName (w .key) ≡ true) × (validName (w .staged) ≡ true)
-ValidOp (delete c k) = (validName c ≡ true) × (validName k ≡ true)
-ValidOp (deleteAll c) = validName c ≡ true
-ValidOp (createCollection c) = validName c ≡ true
-ValidOp (deleteCollection c) = validName c ≡ true
-ValidOp (copyCollection a b x) = (validName a ≡ true) × (validName b ≡ true)
+ValidOp (write w) = Valid (w .collection) × Valid (w .key) × Valid (w .staged)
+ValidOp (delete c k) = Valid c × Valid k
+ValidOp (deleteAll c) = Valid c
+ValidOp (createCollection c) = Valid c
+ValidOp (deleteCollection c) = Valid c
+ValidOp (copyCollection a b x) = Valid a × Valid b
+
+-- The names that an operation gives to what it makes, backups apart.
+abbrev pub madeNames : Op → List Name
+madeNames (write w) = w .collection ∷ w .key ∷ []
+madeNames (delete c k) = []
+madeNames (deleteAll c) = []
+madeNames (createCollection c) = c ∷ []
+madeNames (deleteCollection c) = []
+madeNames (copyCollection a b x) = b ∷ []
+
+-- All of them have a property.
+abbrev pub Makes : (Name → Type 0) → Op → Type 0
+Makes N o = All N (madeNames o)
+
+pub made-valid : (o : Op) → ValidOp o → Makes Valid o
+made-valid (write w) v = (v .0, (v .1, tt))
+made-valid (delete c k) v = tt
+made-valid (deleteAll c) v = tt
+made-valid (createCollection c) v = (v, tt)
+made-valid (deleteCollection c) v = tt
+made-valid (copyCollection a b x) v = (v .1, tt)
 
 tags-cons : (f : Field) (fs : List Field) (t : ℕ) (ts : List ℕ) → map (λ g. g .tag) (f ∷ fs) ≡ t ∷ ts → (f .tag ≡ t) × (map (λ g. g .tag) fs ≡ ts)
 tags-cons f fs t ts e = ((let z : f .tag ≡ t = cc in z), (let z : map (λ g. g .tag) fs ≡ ts = cc in z))

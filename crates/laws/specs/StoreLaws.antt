@@ -1,37 +1,39 @@
 -- Well-formed stores by their looks; which changes keep a store well-formed.
-use mathlib.Core.Path.{_≡_, refl, sym, _∙_, ap, ap₂, subst}
-use Prim.Native.Nat.{ℕ, zero, suc, _+_, _-_, _≤_, _<_}
+use mathlib.Core.Path.{_≡_, refl, sym, _∙_, ap}
+use Prim.Native.Nat.{ℕ, _+_, _≤_}
 use native.Mathlib.Omega.{arith}
-use mathlib.Core.List.{List, [], _∷_, _++_, map}
+use mathlib.Core.List.{[], _∷_}
 use mathlib.Core.Option.{Option, none, some}
-use mathlib.Core.Bool.{Bool, true, false, not, _&&_, false≢true}
+use mathlib.Core.Bool.{true}
 use mathlib.Core.Logic.{_⊎_, inl, inr}
-use lib.ListN.{length, drop, length-append, length-drop}
-use lib.Dec.{leb, eqb}
+use lib.ListN.{length, length-drop}
+use lib.Dec.{leb}
 use Rattle.model.specs.Order.{Cmp, lt, eq, gt, Name, Key, cmpName, cmpKey}
-use Rattle.laws.specs.OrderLaws.{nameLaws, keyLaws, lt≢gt, lt≢eq, gt≢eq}
+use Rattle.laws.specs.OrderLaws.{nameLaws, keyLaws, lt≢eq, gt≢eq}
 use Rattle.model.specs.Order.{caseCmp}
 use Rattle.model.specs.Map.{Map, Node, look, put, del, Has}
-use Rattle.laws.specs.MapLaws.{Above, Sorted, key-dec, none≢some, some-inj, look-head, look-tail, look-put-same, look-put-other, look-del-same, look-del-other, look-del-some, sorted-put, sorted-del, above-none}
-use Rattle.model.specs.Base.{Bytes, caseOption, ifEmpty, sameBytes, allOf}
+use Rattle.laws.specs.MapLaws.{Sorted, key-dec, none≢some, some-inj, look-head, look-tail, look-put-same, look-put-other, look-del-same, look-del-other, look-del-some, sorted-put, sorted-del, above-none, all-look, look-all}
+use Rattle.model.specs.Base.{Bytes, caseOption, sameBytes}
 use Rattle.model.specs.Name.{validName}
 use Rattle.model.specs.Field.{littleEndian}
 use Rattle.model.specs.Log.{header, markCommitting}
 use Rattle.model.specs.Store.{Store, dirs, fileCount, validNumber, validStaged, wellFormed}
 use Rattle.model.specs.Step.{removeDir, renameDir, marked}
-use Rattle.laws.specs.Tests.{and-both, and-made, leb-le, le-leb, same-eq, same-refl, All, all-of, of-all}
-use Rattle.laws.specs.ImageLaws.{Parts, parts, of-parts, staged-parts}
-use Rattle.laws.specs.TreeLaws.{NodeGood, nodes-good, good-nodes, ascending-sorted, sorted-ascending, invalid-nil, size, isFile, isDir, one, file-size, dir-size, length-size, size-put-le, size-put-has, size-del-le, size-del-has}
+use Rattle.laws.specs.Tests.{and-made, leb-le, le-leb, All, all-of, of-all, all-imp}
+use Rattle.laws.specs.ValidNames.{Valid}
+use Rattle.laws.specs.ImageLaws.{parts, of-parts, staged-parts}
+use Rattle.laws.specs.TreeLaws.{NodeGood, nodes-good, good-nodes, ascending-sorted, sorted-ascending, size, isFile, isDir, one, file-size, dir-size, length-size, size-put-le, size-del-le, size-del-has}
 
-pub record Tree (t : Map) : Type 0 where
+-- A tree whose names have the property N; the names of staging files are valid.
+pub record Tree (N : Name → Type 0) (t : Map) : Type 0 where
   pub sorted : Sorted t
-  pub node : (d f : Name) (x : ℕ) → look (d, f) t ≡ some x → NodeGood t d f x
+  pub node : (d f : Name) (x : ℕ) → look (d, f) t ≡ some x → NodeGood N t d f x
   pub dirsFit : size isDir t ≤ 16
   pub filesFit : size isFile t ≤ 128
 
 pub record StagedGood (k : Key) (x : ℕ) : Type 0 where
   pub bare : k .0 ≡ []
-  pub name : validName (k .1) ≡ true
+  pub name : Valid (k .1)
   pub number : validNumber x ≡ true
 
 pub record Staging (m : Map) : Type 0 where
@@ -43,31 +45,19 @@ abbrev pub LogFits : Option Bytes → Type 0
 LogFits none = Unit {0}
 LogFits (some l) = length l ≤ 6824
 
-pub record Good (s : Store) : Type 0 where
-  pub tree : Tree (s .tree)
+-- Good Valid s is well-formedness; Good Restored s allows two names more.
+pub record Good (N : Name → Type 0) (s : Store) : Type 0 where
+  pub tree : Tree N (s .tree)
   pub staging : Staging (s .staging)
   pub log : LogFits (s .log)
 
 -- Both readings of well-formedness.
-staged-look : (m : Map) → All (λ n. validStaged n ≡ true) m → (k : Key) (x : ℕ) → look k m ≡ some x → StagedGood k x
-staged-look [] h k x e = unfold look in (none≢some e)
-staged-look (n ∷ r) h k x e = go (λ e. staged-look r (h .1) k x e) (key-dec k (n .0))
-  where
-    go : (look k r ≡ some x → StagedGood k x) → Dec (k ≡ n .0) → StagedGood k x
-    go ih (yes z) =
-        let p = staged-parts n (h .0) in
-        let c : x ≡ n .1 = some-inj (sym e ∙ rw z (look-head n r)) in
-        rw (z, c) record { bare = p .0; name = p .1; number = p .2 }
-    go ih (no z) = ih (sym (look-tail k n r z) ∙ e)
+staged-good : (n : Node) → validStaged n ≡ true → StagedGood (n .0) (n .1)
+staged-good n e = let p = staged-parts n e in record { bare = p .0; name = p .1; number = p .2 }
 
-staged-back : (m : Map) → Sorted m → ((k : Key) (x : ℕ) → look k m ≡ some x → StagedGood k x) → All (λ n. validStaged n ≡ true) m
+good-staged : (n : Node) → StagedGood (n .0) (n .1) → validStaged n ≡ true
 unfolding validStaged
-staged-back [] s h = tt
-staged-back (n ∷ r) s h =
-    let g = h (n .0) (n .1) (look-head n r) in (
-      and-made _ (validNumber (n .1)) (and-made (sameBytes (n .0 .0) []) (validName (n .0 .1)) (rw (g .bare)) (g .name)) (g .number),
-      staged-back r (s .1) (λ k x e. h k x (look-tail k n r (λ z. lt≢eq (sym (s .0 k x e) ∙ rw z (keyLaws .reflexive (n .0)))) ∙ e)),
-    )
+good-staged n g = and-made _ (validNumber (n .1)) (and-made (sameBytes (n .0 .0) []) (validName (n .0 .1)) (rw (g .bare)) (g .name)) (g .number)
 
 log-fits : (l : Option Bytes) → caseOption l true (λ l. leb (length l) 6824) ≡ true → LogFits l
 log-fits none e = tt
@@ -77,7 +67,7 @@ fits-log : (l : Option Bytes) → LogFits l → caseOption l true (λ l. leb (le
 fits-log none e = refl
 fits-log (some l) e = le-leb (length l) 6824 e
 
-pub good : (s : Store) → wellFormed s ≡ true → Good s
+pub good : (s : Store) → wellFormed s ≡ true → Good Valid s
 good s e =
     let p = parts s e in
     record {
@@ -89,28 +79,39 @@ good s e =
       };
       staging = record {
         sorted = ascending-sorted (s .staging) (p .stagingAscends);
-        node = staged-look (s .staging) (all-of validStaged (s .staging) (p .staged));
+        node = all-look StagedGood (s .staging) (all-imp staged-good (s .staging) (all-of validStaged (s .staging) (p .staged)));
         fits = rw length-size at (leb-le (length (s .staging)) 32 (p .stagingFits));
       };
       log = log-fits (s .log) (p .logFits);
     }
 
-pub well-formed : (s : Store) → Good s → wellFormed s ≡ true
+pub well-formed : (s : Store) → Good Valid s → wellFormed s ≡ true
 well-formed s g = of-parts s record {
   treeAscends = sorted-ascending (s .tree) (g .tree .sorted);
   nodes = good-nodes (s .tree) (g .tree .sorted) (g .tree .node);
   dirsFit = le-leb (length (dirs (s .tree))) 16 (rw dir-size (g .tree .dirsFit));
   filesFit = le-leb (fileCount (s .tree)) 128 (rw file-size (g .tree .filesFit));
   stagingAscends = sorted-ascending (s .staging) (g .staging .sorted);
-  staged = of-all validStaged (s .staging) (staged-back (s .staging) (g .staging .sorted) (g .staging .node));
+  staged = of-all validStaged (s .staging) (all-imp good-staged (s .staging) (look-all StagedGood (s .staging) (g .staging .sorted) (g .staging .node)));
   stagingFits = le-leb (length (s .staging)) 32 (rw length-size (g .staging .fits));
   logFits = fits-log (s .log) (g .log);
 }
 
+-- The names of a store by another property.
+pub good-names : {M N : Name → Type 0} (s : Store) → ((d f : Name) → Has (d, f) (s .tree) → (M d → N d) × (M f → N f)) → Good M s → Good N s
+good-names {M} {N} s h g = record {
+  tree = record { sorted = g .tree .sorted; node = λ d f x l. at d f x (h d f (x, l)) (g .tree .node d f x l); dirsFit = g .tree .dirsFit; filesFit = g .tree .filesFit };
+  staging = g .staging;
+  log = g .log;
+}
+  where
+    at : (d f : Name) (x : ℕ) → (M d → N d) × (M f → N f) → NodeGood M (s .tree) d f x → NodeGood N (s .tree) d f x
+    at d f x i o = record { dir = i .0 (o .dir); zeroed = o .zeroed; name = λ z. i .1 (o .name z); number = o .number; inside = o .inside }
+
 -- Changes of a tree.
-pub tree-put : (t : Map) (d f : Name) (x : ℕ) → Tree t → validName d ≡ true → (f ≡ [] → x ≡ 0) → ((f ≡ [] → ⊥) → (validName f ≡ true) × (validNumber x ≡ true) × Has (d, []) t) →
-    size isDir (put (d, f) x t) ≤ 16 → size isFile (put (d, f) x t) ≤ 128 → Tree (put (d, f) x t)
-tree-put t d f x g v z h a b = record {
+pub tree-put : {N : Name → Type 0} (t : Map) (d f : Name) (x : ℕ) → Tree N t → N d → (f ≡ [] → x ≡ 0) → ((f ≡ [] → ⊥) → N f × (validNumber x ≡ true) × Has (d, []) t) →
+    size isDir (put (d, f) x t) ≤ 16 → size isFile (put (d, f) x t) ≤ 128 → Tree N (put (d, f) x t)
+tree-put {N} t d f x g v z h a b = record {
   sorted = sorted-put (d, f) x t (g .sorted);
   node = λ c k y l. at c k y l (key-dec (c, k) (d, f));
   dirsFit = a;
@@ -121,7 +122,7 @@ tree-put t d f x g v z h a b = record {
     keep c w (yes p) = (x, rw p (look-put-same (d, f) x t))
     keep c w (no p) = (w .0, look-put-other (d, f) (c, []) x t p ∙ w .1)
 
-    at : (c k : Name) (y : ℕ) → look (c, k) (put (d, f) x t) ≡ some y → Dec (_≡_ {A = Key} (c, k) (d, f)) → NodeGood (put (d, f) x t) c k y
+    at : (c k : Name) (y : ℕ) → look (c, k) (put (d, f) x t) ≡ some y → Dec (_≡_ {A = Key} (c, k) (d, f)) → NodeGood N (put (d, f) x t) c k y
     at c k y l (yes p) =
         let e : c ≡ d = ap (λ (j : Key). j .0) p in
         let e′ : k ≡ f = ap (λ (j : Key). j .1) p in
@@ -131,8 +132,8 @@ tree-put t d f x g v z h a b = record {
         let o = g .node c k y (sym (look-put-other (d, f) (c, k) x t p) ∙ l) in
         record { dir = o .dir; zeroed = o .zeroed; name = o .name; number = o .number; inside = λ q. keep c (o .inside q) (key-dec (c, []) (d, f)) }
 
-pub tree-del : (t : Map) (d f : Name) → Tree t → (f ≡ [] → ⊥) → Tree (del (d, f) t)
-tree-del t d f g h = record {
+pub tree-del : {N : Name → Type 0} (t : Map) (d f : Name) → Tree N t → (f ≡ [] → ⊥) → Tree N (del (d, f) t)
+tree-del {N} t d f g h = record {
   sorted = sorted-del (d, f) t (g .sorted);
   node = λ c k y l. at c k y (g .node c k y (look-del-some (d, f) (c, k) t y l));
   dirsFit = let p = size-del-le isDir (d, f) t in let q = g .dirsFit in omega arith;
@@ -142,7 +143,7 @@ tree-del t d f g h = record {
     keep : (c : Name) → Has (c, []) t → Has (c, []) (del (d, f) t)
     keep c w = (w .0, look-del-other (d, f) (c, []) t (λ p. h (sym (ap (λ (j : Key). j .1) p))) ∙ w .1)
 
-    at : (c k : Name) (y : ℕ) → NodeGood t c k y → NodeGood (del (d, f) t) c k y
+    at : (c k : Name) (y : ℕ) → NodeGood N t c k y → NodeGood N (del (d, f) t) c k y
     at c k y o = record { dir = o .dir; zeroed = o .zeroed; name = o .name; number = o .number; inside = λ q. keep c (o .inside q) }
 
 -- A directory removed with its files.
@@ -169,7 +170,7 @@ look-drop-same d j (n ∷ r) h = go (look-drop-same d j r h) (cmpName d (n .0 .0
     go ih eq e = ih
     go ih gt e = look-tail j n (removeDir d r) (off gt e (λ q. gt≢eq q)) ∙ ih
 
-name-dec : (a b : Name) → Dec (a ≡ b)
+pub name-dec : (a b : Name) → Dec (a ≡ b)
 name-dec a b = go (cmpName a b) refl
   where
     go : (c : Cmp) → cmpName a b ≡ c → Dec (a ≡ b)
@@ -177,14 +178,14 @@ name-dec a b = go (cmpName a b) refl
     go eq e = yes (nameLaws .equal a b e)
     go gt e = no (λ p. gt≢eq (sym e ∙ rw p (nameLaws .reflexive b)))
 
-look-drop-some : (d : Name) (j : Key) (m : Map) (x : ℕ) → look j (removeDir d m) ≡ some x → look j m ≡ some x
+pub look-drop-some : (d : Name) (j : Key) (m : Map) (x : ℕ) → look j (removeDir d m) ≡ some x → look j m ≡ some x
 look-drop-some d j m x h = go (name-dec d (j .0))
   where
     go : Dec (d ≡ j .0) → look j m ≡ some x
     go (yes p) = none≢some (sym (look-drop-same d j m p) ∙ h)
     go (no p) = sym (look-drop-other d j m p) ∙ h
 
-sorted-drop : (d : Name) (m : Map) → Sorted m → Sorted (removeDir d m)
+pub sorted-drop : (d : Name) (m : Map) → Sorted m → Sorted (removeDir d m)
 unfolding removeDir
 sorted-drop d [] s = s
 sorted-drop d (n ∷ r) s = go (sorted-drop d r (s .1)) (cmpName d (n .0 .0))
@@ -204,15 +205,15 @@ size-drop-le w d (n ∷ r) = go (size-drop-le w d r) (cmpName d (n .0 .0))
     go ih eq = omega arith
     go ih gt = omega arith
 
-pub tree-drop : (t : Map) (d : Name) → Tree t → Tree (removeDir d t)
-tree-drop t d g = record {
+pub tree-drop : {N : Name → Type 0} (t : Map) (d : Name) → Tree N t → Tree N (removeDir d t)
+tree-drop {N} t d g = record {
   sorted = sorted-drop d t (g .sorted);
   node = λ c k y l. at c k y l (g .node c k y (look-drop-some d (c, k) t y l)) (name-dec d c);
   dirsFit = let p = size-drop-le isDir d t in let q = g .dirsFit in omega arith;
   filesFit = let p = size-drop-le isFile d t in let q = g .filesFit in omega arith;
 }
   where
-    at : (c k : Name) (y : ℕ) → look (c, k) (removeDir d t) ≡ some y → NodeGood t c k y → Dec (d ≡ c) → NodeGood (removeDir d t) c k y
+    at : (c k : Name) (y : ℕ) → look (c, k) (removeDir d t) ≡ some y → NodeGood N t c k y → Dec (d ≡ c) → NodeGood N (removeDir d t) c k y
     at c k y l o (yes p) = none≢some (sym (look-drop-same d (c, k) t p) ∙ l)
     at c k y l o (no p) = record {
       dir = o .dir;
@@ -275,7 +276,7 @@ module _ (a b : Name) (apart : a ≡ b → ⊥) where
   first : {j k : Key} → j ≡ k → j .0 ≡ k .0
   first e = ap (λ (k : Key). k .0) e
 
-  look-move-other : (c f : Name) (r t : Map) → (c ≡ a → ⊥) → (c ≡ b → ⊥) → look (c, f) (renameDir a b r t) ≡ look (c, f) t
+  pub look-move-other : (c f : Name) (r t : Map) → (c ≡ a → ⊥) → (c ≡ b → ⊥) → look (c, f) (renameDir a b r t) ≡ look (c, f) t
   unfolding renameDir moved
   look-move-other c f [] t p q = refl
   look-move-other c f (n ∷ r) t p q = look-move-other c f r (moved n t) p q ∙ go (moved-as n t)
@@ -298,7 +299,7 @@ module _ (a b : Name) (apart : a ≡ b → ⊥) where
       go (inr k) (no e) (inl h) = inl (ap (look (a, f)) (k .1) ∙ look-put-other (b, n .0 .1) (a, f) (n .1) (del (n .0) t) (λ z. apart (first z)) ∙ look-del-other (n .0) (a, f) t e ∙ h)
       go (inr k) (no e) (inr h) = inr (h .0, sym (look-tail (a, f) n r e) ∙ h .1)
 
-  look-move-to : (f : Name) (r t : Map) → Sorted r → look (b, f) (renameDir a b r t) ≡ caseOption (look (a, f) r) (look (b, f) t) some
+  pub look-move-to : (f : Name) (r t : Map) → Sorted r → look (b, f) (renameDir a b r t) ≡ caseOption (look (a, f) r) (look (b, f) t) some
   unfolding renameDir moved
   look-move-to f [] t s = unfold look in refl
   look-move-to f (n ∷ r) t s = look-move-to f r (moved n t) (s .1) ∙ go (moved-as n t) (key-dec (a, f) (n .0))
@@ -357,8 +358,8 @@ module _ (a b : Name) (apart : a ≡ b → ⊥) where
           let z = ih (λ f z. let g = up f z in (g .0, ap (look (a, f)) (k .1) ∙ look-put-other (b, n .0 .1) (a, f) (n .1) (del (n .0) t) (λ i. apart (first i)) ∙ look-del-other (n .0) (a, f) t (low f z) ∙ g .1)) in
           omega arith
 
-  pub tree-move : (t : Map) → Tree t → validName b ≡ true → Tree (renameDir a b t t)
-  tree-move t g v = record {
+  pub tree-move : {N : Name → Type 0} (t : Map) → Tree N t → N b → Tree N (renameDir a b t t)
+  tree-move {N} t g v = record {
     sorted = sorted-move t t (g .sorted);
     node = λ c f x l. at c f x l (name-dec c a) (name-dec c b);
     dirsFit = let p = size-move-le isDir (λ c d f. refl) t t (g .sorted) (λ f h. h) in let q = g .dirsFit in omega arith;
@@ -377,7 +378,7 @@ module _ (a b : Name) (apart : a ≡ b → ⊥) where
           go none e (inl h) = none≢some (sym e ∙ h .1)
           go none e (inr h) = (h .0, look-move-to [] t t (g .sorted) ∙ rw e (h .1))
 
-      to : (f : Name) (x : ℕ) (q : Option ℕ) → look (a, f) t ≡ q → caseOption q (look (b, f) t) some ≡ some x → NodeGood u b f x
+      to : (f : Name) (x : ℕ) (q : Option ℕ) → look (a, f) t ≡ q → caseOption q (look (b, f) t) some ≡ some x → NodeGood N u b f x
       to f x none e l = let o = g .node b f x l in record { dir = v; zeroed = o .zeroed; name = o .name; number = o .number; inside = λ z. stands (inr (o .inside z)) }
       to f x (some y) e l = let o = g .node a f x (e ∙ l) in record { dir = v; zeroed = o .zeroed; name = o .name; number = o .number; inside = λ z. stands (inl (o .inside z)) }
 
@@ -385,7 +386,7 @@ module _ (a b : Name) (apart : a ≡ b → ⊥) where
       gone f none e = look-move-from f t t (inl e)
       gone f (some x) e = look-move-from f t t (inr (x, e))
 
-      at : (c f : Name) (x : ℕ) → look (c, f) u ≡ some x → Dec (c ≡ a) → Dec (c ≡ b) → NodeGood u c f x
+      at : (c f : Name) (x : ℕ) → look (c, f) u ≡ some x → Dec (c ≡ a) → Dec (c ≡ b) → NodeGood N u c f x
       at c f x l (yes p) q = none≢some (sym (gone f (look (a, f) t) refl) ∙ ap (λ (d : Name). look (d, f) u) (sym p) ∙ l)
       at c f x l (no p) (yes q) = rw q (to f x (look (a, f) t) refl (sym (look-move-to f t t (g .sorted)) ∙ ap (λ (d : Name). look (d, f) u) (sym q) ∙ l))
       at c f x l (no p) (no q) =

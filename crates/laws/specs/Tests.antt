@@ -1,11 +1,12 @@
 -- What a test that passed says, and back.
-use mathlib.Core.Path.{_≡_, refl, sym, _∙_, ap, ap₂, subst}
-use Prim.Native.Nat.{ℕ, zero, suc, _+_, _≤_, _<_}
+use mathlib.Core.Path.{_≡_, refl, sym, subst}
+use Prim.Native.Nat.{ℕ, _≤_}
 use native.Mathlib.Omega.{arith}
 use mathlib.Core.List.{List, [], _∷_, _++_, map}
-use mathlib.Core.Bool.{Bool, true, false, not, _&&_, false≢true}
+use mathlib.Core.Bool.{Bool, true, false, not, _&&_, _||_, false≢true}
 use lib.Dec.{T, leb, eqb, leb→le, le→leb, eqb→eq}
-use Rattle.model.specs.Base.{Bytes, if_then_else_, sameBytes, allOf}
+use mathlib.Core.Logic.{inl, inr}
+use Rattle.model.specs.Base.{Bytes, sameBytes, allOf, isIn, In}
 use Rattle.model.specs.Order.{Cmp, lt, eq, gt, cmpName}
 use Rattle.laws.specs.OrderLaws.{nameLaws}
 use Rattle.model.specs.Order.{caseCmp}
@@ -48,6 +49,30 @@ same-eq a b p = go (cmpName a b) refl p
 pub same-refl : (a : Bytes) → sameBytes a a ≡ true
 same-refl a = rw (nameLaws .reflexive a)
 
+pub not-true : (b : Bool) → (b ≡ true → ⊥) → not b ≡ true
+not-true true h = absurd (h refl)
+not-true false h = refl
+
+pub true-not : (b : Bool) → not b ≡ true → b ≡ true → ⊥
+true-not true e p = false≢true e
+true-not false e p = false≢true p
+
+pub in-of : (n : Bytes) (l : List Bytes) → isIn n l ≡ true → In n l
+in-of n [] e = absurd (false≢true e)
+in-of n (a ∷ l) e = go (sameBytes n a) refl e (λ z. in-of n l z)
+  where
+    go : (t : Bool) → sameBytes n a ≡ t → (t || isIn n l) ≡ true → (isIn n l ≡ true → In n l) → In n (a ∷ l)
+    go true p e ih = inl (same-eq n a p)
+    go false p e ih = inr (ih e)
+
+pub of-in : (n : Bytes) (l : List Bytes) → In n l → isIn n l ≡ true
+of-in n (a ∷ l) (inl p) = rw (p, same-refl a)
+of-in n (a ∷ l) (inr i) = go (sameBytes n a) (of-in n l i)
+  where
+    go : (t : Bool) → isIn n l ≡ true → (t || isIn n l) ≡ true
+    go true e = refl
+    go false e = e
+
 -- What holds of every element of a list.
 abbrev pub All : {A : Type 0} → (A → Type 0) → List A → Type 0
 All P [] = Unit {0}
@@ -57,6 +82,14 @@ pub all-append : {A : Type 0} (P : A → Type 0) (l r : List A) → All P l → 
 all-append P [] r p q = q
 all-append P (a ∷ l) r p q = (p .0, all-append P l r (p .1) q)
 
+pub all-in : {A : Type 0} (P : A → Type 0) (l : List A) → All P l → (a : A) → In a l → P a
+all-in P (b ∷ l) h a (inl e) = subst P (sym e) (h .0)
+all-in P (b ∷ l) h a (inr i) = all-in P l (h .1) a i
+
+pub in-all : {A : Type 0} (P : A → Type 0) (l : List A) → ((a : A) → In a l → P a) → All P l
+in-all P [] h = tt
+in-all P (a ∷ l) h = (h a (inl refl), in-all P l (λ b i. h b (inr i)))
+
 pub all-of : {A : Type 0} (p : A → Bool) (l : List A) → allOf p l ≡ true → All (λ a. p a ≡ true) l
 all-of p [] e = tt
 all-of p (a ∷ l) e = let h = and-both (p a) (allOf p l) e in (h .0, all-of p l (h .1))
@@ -65,6 +98,25 @@ pub of-all : {A : Type 0} (p : A → Bool) (l : List A) → All (λ a. p a ≡ t
 of-all p [] h = refl
 of-all p (a ∷ l) h = and-made (p a) (allOf p l) (h .0) (of-all p l (h .1))
 
+pub all-every : {A : Type 0} {P : A → Type 0} → ((a : A) → P a) → (l : List A) → All P l
+all-every h [] = tt
+all-every h (a ∷ l) = (h a, all-every h l)
+
+pub all-both : {A : Type 0} (P Q : A → Type 0) (l : List A) → All P l → All Q l → All (λ a. P a × Q a) l
+all-both P Q [] p q = tt
+all-both P Q (a ∷ l) p q = ((p .0, q .0), all-both P Q l (p .1) (q .1))
+
+pub all-imp : {A : Type 0} {P Q : A → Type 0} → ((a : A) → P a → Q a) → (l : List A) → All P l → All Q l
+all-imp h [] p = tt
+all-imp h (a ∷ l) p = (h a (p .0), all-imp h l (p .1))
+
 pub all-map : {A B : Type 0} (P : A → Type 0) (Q : B → Type 0) (f : A → B) → ((a : A) → P a → Q (f a)) → (l : List A) → All P l → All Q (map f l)
 all-map P Q f h [] p = tt
 all-map P Q f h (a ∷ l) p = (h a (p .0), all-map P Q f h l (p .1))
+
+pub all-of-append : {A : Type 0} (p : A → Bool) (l r : List A) → allOf p l ≡ true → allOf p r ≡ true → allOf p (l ++ r) ≡ true
+all-of-append p l r h k = of-all p (l ++ r) (all-append (λ a. p a ≡ true) l r (all-of p l h) (all-of p r k))
+
+pub all-of-front : {A : Type 0} (p : A → Bool) (l r : List A) → allOf p (l ++ r) ≡ true → allOf p l ≡ true
+all-of-front p [] r h = refl
+all-of-front p (a ∷ l) r h = let k = and-both (p a) (allOf p (l ++ r)) h in and-made (p a) (allOf p l) (k .0) (all-of-front p l r (k .1))

@@ -1,8 +1,7 @@
 -- What a `NameRef` stands for: a part of the lent bytes with ".bak" behind it some times.
 use mathlib.Core.Path.{_≡_}
 use Prim.Native.Nat.{ℕ, zero, suc, _+_, _*_, _≤_, _<_}
-use mathlib.Core.List.{List, [], _∷_}
-use mathlib.Core.Option.{Option, none, some}
+use mathlib.Core.Option.{none, some}
 use lib.ListN.{length, take, drop}
 use Rattle.model.specs.Limits.{nameLimit}
 use Rattle.model.specs.Order.{Cmp, lt, eq, gt, Name}

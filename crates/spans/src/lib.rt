@@ -1,8 +1,9 @@
 ghost use mathlib.Core.Path.{_≡_};
-ghost use mathlib.Core.List.{List, []};
+ghost use mathlib.Core.List.{List, [], _∷_};
 ghost use Prim.Native.Nat.{ℕ, _≤_, _<_, _+_, _*_};
 ghost use lib.ListN.{length, getD, take, drop};
 ghost use Rattle.model.specs.Order.{cmpName};
+ghost use Rattle.model.specs.Base.{sameBytes};
 ghost use Rattle.model.specs.Name.{isBackup, isTmp};
 ghost use Rattle.laws.specs.NameLaws.{endsIn};
 ghost use Rattle.spans.specs.Spans.{nameOf, lengthOf, orderOf, Sound, Names, Backup, Original};
@@ -52,14 +53,16 @@ fn fewer(a: usize, b: usize) -> usize
 }
 
 // The empty name: a directory's own file name, and the directory name of a staging file.
+pub const EMPTY: NameRef = NameRef {
+    start: 0,
+    len: 0,
+    baks: 0,
+};
+
 pub fn empty() -> NameRef
     ensures { λ r. ⌜ ((s : List ℕ) → Names s r []) ⌝ }
 {
-    NameRef {
-        start: 0,
-        len: 0,
-        baks: 0,
-    }
+    EMPTY
 }
 
 // A part of the bytes as a name.
@@ -118,7 +121,7 @@ pub fn compare(src: &[u8], a: NameRef, b: NameRef) -> Order
         }
         i += 1;
     }
-    compare_from(src, a, b, m)
+    compare_from(src, a, b, i)
 }
 
 // The order of two names whose bytes before `at` are equal.
@@ -146,10 +149,23 @@ fn compare_from(src: &[u8], a: NameRef, b: NameRef, at: usize) -> Order
     if i < m { Order::Less } else { Order::Equal }
 }
 
+// Whether two names are the same.
+pub fn same(src: &[u8], a: NameRef, b: NameRef) -> bool
+    requires { ⌜ Sound (now src) a × Sound (now src) b ⌝ }
+    ensures { λ r. ⌜ r ≡ sameBytes (nameOf (now (src .entry)) a) (nameOf (now (src .entry)) b) ⌝ }
+{
+    let o = compare(src, a, b);
+    match o {
+        Order::Equal => true,
+        Order::Less => false,
+        Order::Greater => false,
+    }
+}
+
 // Whether a name ends in a dot and three given bytes, behind at least one byte.
 fn ends_in(src: &[u8], r: NameRef, x: u8, y: u8, z: u8) -> bool
     requires { ⌜ Sound (now src) r ⌝ }
-    ensures { λ b. ⌜ b ≡ endsIn x y z (nameOf (now (src .entry)) r) ⌝ }
+    ensures { λ b. ⌜ b ≡ endsIn (0x2E ∷ x ∷ y ∷ z ∷ []) (nameOf (now (src .entry)) r) ⌝ }
 {
     let n = length_of(r);
     if n <= 4 {

@@ -1,6 +1,5 @@
 -- What a `Store` stands for: the model's store.
-use mathlib.Core.Path.{_≡_}
-use Prim.Native.Nat.{ℕ, _+_, _≤_}
+use Prim.Native.Nat.{_+_, _≤_}
 use mathlib.Core.Option.{Option, none, some}
 use lib.ListN.{length, take, drop}
 use Rattle.model.specs.Base.{Bytes, if_then_else_}
@@ -11,8 +10,8 @@ use Rattle.store.specs.declared.LogRef.{LogRef}
 use Rattle.store.specs.declared.Store.{Store}
 
 -- The log's bytes, with the header that 0x20 writes where it did.
-unfoldable pub logOf : Bytes → LogRef → Option Bytes
-logOf src l =
+unfoldable pub logBytes : Bytes → LogRef → Option Bytes
+logBytes src l =
     let bytes : Bytes = take (l .len) (drop (l .start) src) in
     if l .stands then some (if l .marked then markCommitting bytes else bytes) else none
 
@@ -20,7 +19,7 @@ abbrev pub storeOf : Bytes → Store → model.Store
 storeOf src s = record {
   tree = mapOf src (s .tree);
   staging = mapOf src (s .staging);
-  log = logOf src (s .log);
+  log = logBytes src (s .log);
   openMark = s .open_mark;
 }
 

@@ -54,9 +54,9 @@ pub record Holds (src : Bytes) (t : Table) (m : model.Map) : Type 0 where
   pub same : mapOf src t ≡ m
 
 -- What `find` answers.
-abbrev pub Finds : Key → model.Map → Found → Type 0
-Finds k m (At i) = (v : ℕ) × Hit k v m i
-Finds k m (Missing i) = Gap k m i
+pub record Finds (k : Key) (m : model.Map) (r : Found) : Type 0 where
+  pub at : (i : ℕ) → r ≡ At i → (v : ℕ) × Hit k v m i
+  pub missing : (i : ℕ) → r ≡ Missing i → Gap k m i
 
 -- The number that `look` answers.
 abbrev pub heldOf : Held → Option ℕ

@@ -2,16 +2,18 @@ ghost use mathlib.Core.Path.{_≡_};
 ghost use mathlib.Core.List.{List, [], _∷_, _++_};
 ghost use mathlib.Core.Bool.{true};
 ghost use Prim.Native.Nat.{ℕ, _≤_, _<_, _+_};
-ghost use lib.ListN.{length, take, drop};
+ghost use lib.ListN.{take, drop};
 ghost use Rattle.model.specs.Order.{cmpKey};
 ghost use Rattle.model.specs.Map.{look, del};
-ghost use Rattle.model.specs.Base.{sameBytes};
 ghost use Rattle.model.specs.Step.{removeDir, renameDir};
 ghost use Rattle.spans.specs.Spans.{nameOf, orderOf, Sound};
-ghost use Rattle.store.specs.Places.{putIn, aboveLast};
+ghost use Rattle.store.specs.Places.{tableRoom, putIn, aboveLast};
 ghost use Rattle.store.specs.Tables.{keyOf, nodeOf, live, mapOf, SoundNode, Sized, SoundTable, Holds, Finds, heldOf, Counted};
 use spans::NameRef;
 use spans::Order;
+
+// 16 directories and 128 files, and one node more.
+const ROOM: usize = 145;
 
 // A directory's own node has the empty file name and number 0; a staging file's has the empty directory name.
 pub struct Node {
@@ -22,7 +24,7 @@ pub struct Node {
 
 // Nodes ascending by directory and file: those before `len` are in use.
 pub struct Table {
-    pub nodes: [Node; 145],
+    pub nodes: [Node; ROOM],
     pub len: usize,
 }
 
@@ -56,15 +58,9 @@ pub struct Store {
     pub open_mark: bool,
 }
 
-const NO_NAME: NameRef = NameRef {
-    start: 0,
-    len: 0,
-    baks: 0,
-};
-
 const NO_NODE: Node = Node {
-    dir: NO_NAME,
-    file: NO_NAME,
+    dir: spans::EMPTY,
+    file: spans::EMPTY,
     number: 0,
 };
 
@@ -72,7 +68,7 @@ pub fn empty() -> Table
     ensures { λ r. ⌜ ((s : List ℕ) → Holds s r []) ⌝ }
 {
     Table {
-        nodes: [NO_NODE; 145],
+        nodes: [NO_NODE; ROOM],
         len: 0,
     }
 }
@@ -90,6 +86,13 @@ fn compare_keys(src: &[u8], d: NameRef, f: NameRef, e: NameRef, g: NameRef) -> O
     }
 }
 
+fn middle(lo: usize, hi: usize) -> usize
+    requires { ⌜ lo < hi ⌝ }
+    ensures { λ r. ⌜ (lo ≤ r) × (r < hi) ⌝ }
+{
+    lo + (hi - lo) / 2
+}
+
 // Where a key stands, or the place that it has among the others.
 pub fn find(src: &[u8], t: Table, dir: NameRef, file: NameRef) -> Found
     requires { ⌜ SoundTable (now src) t × (Sound (now src) dir × Sound (now src) file) ⌝ }
@@ -98,7 +101,7 @@ pub fn find(src: &[u8], t: Table, dir: NameRef, file: NameRef) -> Found
     let mut lo: usize = 0;
     let mut hi: usize = t.len;
     while lo < hi {
-        let mid = lo + (hi - lo) / 2;
+        let mid = middle(lo, hi);
         let x = t.nodes[mid];
         let xd = x.dir;
         let xf = x.file;
@@ -135,7 +138,7 @@ pub fn look(src: &[u8], t: Table, dir: NameRef, file: NameRef) -> Held
 
 // The table with a node put in at a place.
 fn insert_at(t: Table, p: usize, x: Node) -> Table
-    requires { ⌜ Sized t × ((p ≤ t .len) × (t .len < 145)) ⌝ }
+    requires { ⌜ Sized t × ((p ≤ t .len) × (t .len < tableRoom)) ⌝ }
     ensures { λ r. ⌜ Sized r × (live r ≡ take p (live t) ++ x ∷ drop p (live t)) ⌝ }
 {
     let mut u = t;
@@ -174,7 +177,7 @@ pub fn put(src: &[u8], t: Table, x: Node) -> Table
     ensures { λ r. ⌜ Holds (now (src .entry)) r (putIn (keyOf (now (src .entry)) (x .dir) (x .file)) (x .number) (mapOf (now (src .entry)) t)) ⌝ }
 {
     let n = t.len;
-    if n >= 145 {
+    if n >= ROOM {
         return t;
     }
     let dir = x.dir;
@@ -202,18 +205,6 @@ pub fn del(src: &[u8], t: Table, dir: NameRef, file: NameRef) -> Table
     }
 }
 
-pub fn same_name(src: &[u8], a: NameRef, b: NameRef) -> bool
-    requires { ⌜ Sound (now src) a × Sound (now src) b ⌝ }
-    ensures { λ r. ⌜ r ≡ sameBytes (nameOf (now (src .entry)) a) (nameOf (now (src .entry)) b) ⌝ }
-{
-    let o = spans::compare(src, a, b);
-    match o {
-        Order::Equal => true,
-        Order::Less => false,
-        Order::Greater => false,
-    }
-}
-
 // The table without a directory and its files.
 pub fn remove_dir(src: &[u8], t: Table, dir: NameRef) -> Table
     requires { ⌜ SoundTable (now src) t × Sound (now src) dir ⌝ }
@@ -226,8 +217,7 @@ pub fn remove_dir(src: &[u8], t: Table, dir: NameRef) -> Table
     while i < n {
         let x = t.nodes[i];
         let xd = x.dir;
-        let of = same_name(src, dir, xd);
-        if of {} else {
+        if !spans::same(src, dir, xd) {
             u.nodes[j] = x;
             j += 1;
         }
@@ -249,8 +239,7 @@ pub fn rename_dir(src: &[u8], t: Table, from: NameRef, to: NameRef) -> Table
         let x = t.nodes[i];
         let xd = x.dir;
         let xf = x.file;
-        let of = same_name(src, from, xd);
-        if of {
+        if spans::same(src, from, xd) {
             u = put(
                 src,
                 u,
@@ -310,7 +299,7 @@ pub fn follows(src: &[u8], t: Table, dir: NameRef, file: NameRef) -> bool
 
 // The table with one more node at its end. An image's nodes come in ascending order.
 pub fn append(src: &[u8], t: Table, x: Node) -> Table
-    requires { ⌜ (SoundTable (now src) t × SoundNode (now src) x) × ((t .len < 145) × (aboveLast (keyOf (now src) (x .dir) (x .file)) (mapOf (now src) t) ≡ true)) ⌝ }
+    requires { ⌜ (SoundTable (now src) t × SoundNode (now src) x) × ((t .len < tableRoom) × (aboveLast (keyOf (now src) (x .dir) (x .file)) (mapOf (now src) t) ≡ true)) ⌝ }
     ensures { λ r. ⌜ Holds (now (src .entry)) r (mapOf (now (src .entry)) t ++ nodeOf (now (src .entry)) x ∷ []) ⌝ }
 {
     let mut u = t;

@@ -1,0 +1,41 @@
+-- Little-endian numbers: what crate laws has no law for.
+use mathlib.Core.Path.{_≡_, refl, sym, ap, ap₂, _∙_}
+use mathlib.Core.List.{List, [], _∷_, _++_}
+use Prim.Native.Nat.{ℕ, zero, suc, _+_, _*_, _/_, _%_, _≤_, _<_}
+use native.Mathlib.Omega.{arith}
+use native.Mathlib.Nat.{div-add-mod'}
+use lib.ListN.{length}
+use Rattle.model.specs.Base.{Bytes}
+use Rattle.model.specs.Field.{littleEndian, fromLittleEndian}
+use Rattle.laws.specs.Tests.{All}
+use Rattle.laws.specs.FieldLaws.{Byte}
+
+-- The bytes of the number of some bytes are these bytes.
+pub bytes-again : (l : Bytes) → All Byte l → littleEndian (length l) (fromLittleEndian l) ≡ l
+unfolding littleEndian fromLittleEndian
+bytes-again [] h = refl
+bytes-again (b ∷ r) h = go (fromLittleEndian r) (bytes-again r (h .1))
+  where
+    go : (n : ℕ) → littleEndian (length r) n ≡ r → (b + 256 * n) % 256 ∷ littleEndian (length r) ((b + 256 * n) / 256) ≡ b ∷ r
+    go n e =
+        let p : b < 256 = h .0 in
+        let low : (b + 256 * n) % 256 ≡ b = omega arith in
+        let high : (b + 256 * n) / 256 ≡ n = omega arith in
+        rw (low, high, e)
+
+-- Two bytes, the higher without a remainder taken.
+pub two-bytes : (n : ℕ) → n < 0x1_0000 → n % 0x100 ∷ n / 0x100 ∷ [] ≡ littleEndian 2 n
+unfolding littleEndian
+two-bytes n h = let e : n / 0x100 % 0x100 ≡ n / 0x100 = omega arith in rw e
+
+middle : (q w : ℕ) → (q * 0x1_0000 + w) / 0x100 % 0x100 ≡ w / 0x100 % 0x100
+middle q w = let e : (q * 0x1_0000 + w) / 0x100 ≡ q * 0x100 + w / 0x100 = omega arith in rw e (omega arith)
+
+-- Four bytes are two and two.
+pub four-bytes : (n : ℕ) → littleEndian 2 (n % 0x1_0000) ++ littleEndian 2 (n / 0x1_0000) ≡ littleEndian 4 n
+unfolding littleEndian
+four-bytes n =
+    let a : n % 0x1_0000 % 0x100 ≡ n % 0x100 = omega arith in
+    let b : n % 0x1_0000 / 0x100 % 0x100 ≡ n / 0x100 % 0x100 = sym (middle (n / 0x1_0000) (n % 0x1_0000)) ∙ ap (λ (m : ℕ). m / 0x100 % 0x100) (div-add-mod' n 0x1_0000) in
+    let c : n / 0x1_0000 ≡ n / 0x100 / 0x100 = omega arith in
+    rw (a, b, c)

@@ -1,0 +1,4 @@
+pub mod Prefix
+pub mod Checks
+pub mod Endings
+pub mod Lower

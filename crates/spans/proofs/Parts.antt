@@ -1,0 +1,72 @@
+-- The length and the bytes of what a `NameRef` stands for.
+use mathlib.Core.Path.{_≡_, refl, sym, ap, _∙_}
+use mathlib.Core.List.{[], _∷_, _++_}
+use mathlib.Core.Bool.{Bool, true, false}
+use Prim.Native.Nat.{ℕ, zero, suc, _+_, _*_, _-_, _%_, _≤_, _<_}
+use native.Mathlib.Omega.{arith}
+use lib.ListN.{length, take, drop, getD, length-append, length-drop, List·getD-append}
+use lib.Dec.{ltb}
+use lib.Seq.{length-take-le, getD-take, getD-drop, getD-append-add}
+use borrow.Author.Tests.{ltb-true, ltb-false}
+use Rattle.model.specs.Order.{Name}
+use Rattle.model.specs.Base.{Bytes}
+use Rattle.model.specs.Name.{backupName, backupExtension}
+use Rattle.spans.specs.Spans.{backups, nameOf, lengthOf, Sound}
+use Rattle.spans.specs.declared.NameRef.{NameRef}
+
+abbrev pub dotBak : Name
+dotBak = 0x2E ∷ 0x62 ∷ 0x61 ∷ 0x6B ∷ []
+
+pub length-backup : (n : Name) → length (backupName n) ≡ length n + 4
+unfolding backupName backupExtension
+length-backup n = length-append n dotBak
+
+length-backups : (k : ℕ) (n : Name) → length (backups k n) ≡ length n + k * 4
+length-backups zero n = omega arith
+length-backups (suc k) n = length-backup (backups k n) ∙ omega (arith, length-backups k n)
+
+first-bytes : (k : ℕ) (n : Name) (i : ℕ) → i < length n → getD (backups k n) i 0 ≡ getD n i 0
+unfolding backupName backupExtension
+first-bytes zero n i h = refl
+first-bytes (suc k) n i h =
+    let l : length (backups k n) ≡ length n + k * 4 = length-backups k n in
+    List·getD-append (backups k n) dotBak 0 i (omega arith) ∙ first-bytes k n i h
+
+last-bytes : (k : ℕ) (n : Name) (i : ℕ) → length n ≤ i → i < length n + k * 4 → getD (backups k n) i 0 ≡ getD dotBak ((i - length n) % 4) 0
+unfolding backupName backupExtension
+last-bytes zero n i h g = absurd (omega arith)
+last-bytes (suc k) n i h g = go (ltb i (length (backups k n))) refl (length-backups k n) (λ g. last-bytes k n i h g)
+  where
+    go : (t : Bool) → ltb i (length (backups k n)) ≡ t → length (backups k n) ≡ length n + k * 4
+        → (i < length n + k * 4 → getD (backups k n) i 0 ≡ getD dotBak ((i - length n) % 4) 0) → getD (backups k n ++ dotBak) i 0 ≡ getD dotBak ((i - length n) % 4) 0
+    go true t l ih =
+        let a : i < length (backups k n) = ltb-true _ _ t in
+        List·getD-append (backups k n) dotBak 0 i a ∙ ih (omega arith)
+    go false t l ih =
+        let a : length (backups k n) ≤ i = ltb-false _ _ t in
+        let b : i ≡ length (backups k n) + (i - length (backups k n)) = omega arith in
+        let c : (i - length n) % 4 ≡ i - length (backups k n) = omega arith in
+        rw c (ap (λ (j : ℕ). getD (backups k n ++ dotBak) j 0) b ∙ getD-append-add (backups k n) dotBak (i - length (backups k n)) 0)
+
+module _ {src : Bytes} {r : NameRef} (s : Sound src r) where
+  span : length (take (r .len) (drop (r .start) src)) ≡ r .len
+  span =
+      let e : length (drop (r .start) src) ≡ length src - r .start = length-drop (r .start) src in
+      let h : r .start + r .len ≤ length src = s .inside in
+      length-take-le (r .len) (drop (r .start) src) (omega arith)
+
+  pub length-name : length (nameOf src r) ≡ lengthOf r
+  unfolding nameOf
+  length-name = length-backups (r .baks) (take (r .len) (drop (r .start) src)) ∙ omega (arith, span)
+
+  pub in-span : (p i : ℕ) → p ≡ r .start → i < r .len → getD src (p + i) 0 ≡ getD (nameOf src r) i 0
+  unfolding nameOf
+  in-span p i e h =
+      let l : length (take (r .len) (drop (r .start) src)) ≡ r .len = span in
+      rw e (sym (first-bytes (r .baks) (take (r .len) (drop (r .start) src)) i (omega arith) ∙ getD-take (r .len) (drop (r .start) src) i 0 h ∙ getD-drop (r .start) src i 0))
+
+  pub past-span : (n i : ℕ) → n ≡ r .len → n ≤ i → i < lengthOf r → getD dotBak ((i - n) % 4) 0 ≡ getD (nameOf src r) i 0
+  unfolding nameOf
+  past-span n i e h g =
+      let l : n ≡ length (take (r .len) (drop (r .start) src)) = e ∙ sym span in
+      rw l (sym (last-bytes (r .baks) (take (r .len) (drop (r .start) src)) i (omega arith) (omega arith)))

@@ -1,0 +1,11 @@
+pub mod Lists
+pub mod Shift
+pub mod Live
+pub mod Places
+pub mod Search
+pub mod Tally
+pub mod Room
+pub mod Change
+pub mod End
+pub mod Sweep
+pub mod Rename

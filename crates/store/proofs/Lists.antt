@@ -1,0 +1,46 @@
+-- Laws of `map` and `All` with `take`, `drop` and `getD`.
+use mathlib.Core.Path.{_≡_, refl, ap}
+use mathlib.Core.List.{List, [], _∷_, map}
+use Prim.Native.Nat.{ℕ, zero, suc, _<_}
+use native.Mathlib.Nat.{le-of-suc-le-suc, not-suc-le-zero}
+use lib.ListN.{length, take, drop, getD}
+use Rattle.laws.specs.Tests.{All}
+
+module _ {A : Type 0} {B : Type 0} (f : A → B) where
+  pub map-take : (n : ℕ) (l : List A) → map f (take n l) ≡ take n (map f l)
+  map-take zero [] = refl
+  map-take zero (x ∷ l) = refl
+  map-take (suc n) [] = refl
+  map-take (suc n) (x ∷ l) = ap (λ (r : List B). f x ∷ r) (map-take n l)
+
+  pub map-drop : (n : ℕ) (l : List A) → map f (drop n l) ≡ drop n (map f l)
+  map-drop zero [] = refl
+  map-drop zero (x ∷ l) = refl
+  map-drop (suc n) [] = refl
+  map-drop (suc n) (x ∷ l) = map-drop n l
+
+pub drop-zero : {A : Type 0} (l : List A) → drop zero l ≡ l
+drop-zero [] = refl
+drop-zero (x ∷ l) = refl
+
+module _ {A : Type 0} (P : A → Type 0) where
+  pub all-zero : (l : List A) → All P (take zero l)
+  all-zero [] = tt
+  all-zero (x ∷ l) = tt
+
+  pub all-take : (n : ℕ) (l : List A) → All P l → All P (take n l)
+  all-take zero [] h = tt
+  all-take zero (x ∷ l) h = tt
+  all-take (suc n) [] h = tt
+  all-take (suc n) (x ∷ l) h = (h .0, all-take n l (h .1))
+
+  pub all-drop : (n : ℕ) (l : List A) → All P l → All P (drop n l)
+  all-drop zero [] h = tt
+  all-drop zero (x ∷ l) h = h
+  all-drop (suc n) [] h = tt
+  all-drop (suc n) (x ∷ l) h = all-drop n l (h .1)
+
+  pub all-getD : (l : List A) (i : ℕ) (d : A) → All P l → i < length l → P (getD l i d)
+  all-getD [] i d h k = absurd (not-suc-le-zero k)
+  all-getD (x ∷ l) zero d h k = h .0
+  all-getD (x ∷ l) (suc i) d h k = all-getD l i d (h .1) (le-of-suc-le-suc k)

@@ -1,0 +1,191 @@
+-- A directory renamed: it is removed, and then its nodes are put in under the new name.
+use mathlib.Core.Path.{_≡_, refl, sym, ap, _∙_}
+use mathlib.Core.List.{[], _∷_}
+use mathlib.Core.Bool.{Bool, true, false}
+use Prim.Native.Nat.{ℕ, suc, _+_, _≤_, _<_}
+use native.Mathlib.Omega.{arith}
+use lib.ListN.{length, drop, getD}
+use Rattle.model.specs.Order.{Cmp, lt, eq, gt, Name, Key, cmpName, caseCmp}
+use Rattle.model.specs.Map as model
+use Rattle.model.specs.Map.{Map, put, del, look}
+use Rattle.model.specs.Base.{Bytes, if_then_else_, sameBytes}
+use Rattle.model.specs.Step.{removeDir, renameDir}
+use Rattle.laws.specs.OrderLaws.{nameLaws, keyLaws, lt≢eq}
+use Rattle.laws.specs.MapLaws.{Sorted, key-dec, ext, look-put-same, look-put-other, look-del-same, look-del-other, sorted-put, sorted-del}
+use Rattle.laws.specs.TreeLaws.{one, length-size, size-put-le}
+use Rattle.laws.specs.Tests.{All}
+use Rattle.spans.specs.Spans.{nameOf, Sound}
+use Rattle.spans.specs.declared.NameRef.{NameRef}
+use Rattle.store.specs.declared.Node.{Node}
+use Rattle.store.specs.declared.Table.{Table}
+use Rattle.store.specs.Places.{Over, putIn}
+use Rattle.store.specs.Tables.{keyOf, nodeOf, mapOf, SoundTable, Holds}
+use Rattle.store.proofs.Lists.{drop-zero}
+use Rattle.store.proofs.Live.{length-table, rest, finished}
+use Rattle.store.proofs.Places.{above-all, flipped, del-over}
+use Rattle.store.proofs.Room.{room-put}
+use Rattle.store.proofs.Sweep.{by-same}
+
+commute : (k j : Key) (v : ℕ) (t : Map) → Sorted t → (j ≡ k → ⊥) → del j (put k v t) ≡ put k v (del j t)
+commute k j v t s h = ext _ _ (sorted-del j (put k v t) (sorted-put k v t s)) (sorted-put k v (del j t) (sorted-del j t s)) λ i. go i (key-dec i k) (key-dec i j)
+  where
+    go : (i : Key) → Dec (i ≡ k) → Dec (i ≡ j) → look i (del j (put k v t)) ≡ look i (put k v (del j t))
+    go i (yes p) q = rw p (look-del-other j k (put k v t) (λ e. h (sym e)) ∙ look-put-same k v t ∙ sym (look-put-same k v (del j t)))
+    go i (no p) (yes q) = rw q (look-del-same j (put k v t) ∙ sym (look-put-other k j v (del j t) h ∙ look-del-same j t))
+    go i (no p) (no q) = look-del-other j i (put k v t) q ∙ look-put-other k i v t p ∙ sym (look-put-other k i v (del j t) p ∙ look-del-other j i t q)
+
+module _ (a : Name) where
+  -- The map t without what the listing holds of directory a.
+  unfoldable delAll : Map → Map → Map
+  delAll [] t = t
+  delAll (n ∷ r) t = delAll r (caseCmp (cmpName a (n .0 .0)) t (del (n .0) t) t)
+
+  -- How many nodes of directory a a map holds.
+  unfoldable pub nodesIn : Map → ℕ
+  nodesIn [] = 0
+  nodesIn (n ∷ r) = let rest = nodesIn r in caseCmp (cmpName a (n .0 .0)) rest (suc rest) rest
+
+  delAll-put : (k : Key) (v : ℕ) (r t : Map) → Sorted t → All (λ n. a ≡ n .0 .0 → n .0 ≡ k → ⊥) r → delAll r (put k v t) ≡ put k v (delAll r t)
+  unfolding delAll
+  delAll-put k v [] t s h = refl
+  delAll-put k v (n ∷ r) t s h = go (cmpName a (n .0 .0)) refl (λ u z. delAll-put k v r u z (h .1))
+    where
+      go : (c : Cmp) → cmpName a (n .0 .0) ≡ c → ((u : Map) → Sorted u → delAll r (put k v u) ≡ put k v (delAll r u)) → delAll r (caseCmp c (put k v t) (del (n .0) (put k v t)) (put k v t)) ≡ put k v (delAll r (caseCmp c t (del (n .0) t) t))
+      go lt e ih = ih t s
+      go eq e ih = ap (delAll r) (commute k (n .0) v t s (h .0 (nameLaws .equal a (n .0 .0) e))) ∙ ih (del (n .0) t) (sorted-del (n .0) t s)
+      go gt e ih = ih t s
+
+  delAll-cons : (n : model.Node) (r t : Map) → All (Over (n .0)) r → delAll r (n ∷ t) ≡ n ∷ delAll r t
+  unfolding del delAll
+  delAll-cons n [] t h = refl
+  delAll-cons n (x ∷ r) t h = go (cmpName a (x .0 .0)) (λ u. delAll-cons n r u (h .1))
+    where
+      go : (c : Cmp) → ((u : Map) → delAll r (n ∷ u) ≡ n ∷ delAll r u) → delAll r (caseCmp c (n ∷ t) (del (x .0) (n ∷ t)) (n ∷ t)) ≡ n ∷ delAll r (caseCmp c t (del (x .0) t) t)
+      go lt ih = ih t
+      go eq ih = rw (flipped (n .0) (x .0) (h .0)) (ih (del (x .0) t))
+      go gt ih = ih t
+
+  removed : (m : Map) → Sorted m → delAll m m ≡ removeDir a m
+  unfolding removeDir del delAll
+  removed [] s = refl
+  removed (n ∷ r) s = go (cmpName a (n .0 .0)) (removed r (s .1)) (above-all (n .0) r (s .1) (s .0))
+    where
+      go : (c : Cmp) → delAll r r ≡ removeDir a r → All (Over (n .0)) r → delAll r (caseCmp c (n ∷ r) (del (n .0) (n ∷ r)) (n ∷ r)) ≡ caseCmp c (n ∷ removeDir a r) (removeDir a r) (n ∷ removeDir a r)
+      go lt ih o = delAll-cons n r r o ∙ ap (n ∷_) ih
+      go eq ih o = rw (keyLaws .reflexive (n .0), del-over (n .0) r o) ih
+      go gt ih o = delAll-cons n r r o ∙ ap (n ∷_) ih
+
+  length-removed : (m : Map) → length (removeDir a m) + nodesIn m ≡ length m
+  unfolding removeDir nodesIn
+  length-removed [] = refl
+  length-removed (n ∷ r) = go (cmpName a (n .0 .0)) (length-removed r)
+    where
+      go : (c : Cmp) → length (removeDir a r) + nodesIn r ≡ length r → length (caseCmp c (n ∷ removeDir a r) (removeDir a r) (n ∷ removeDir a r)) + caseCmp c (nodesIn r) (suc (nodesIn r)) (nodesIn r) ≡ suc (length r)
+      go lt ih = omega arith
+      go eq ih = omega arith
+      go gt ih = omega arith
+
+module _ (a b : Name) where
+  -- The map t with what the listing holds of directory a put in under b.
+  unfoldable pub putAll : Map → Map → Map
+  putAll [] t = t
+  putAll (n ∷ r) t = putAll r (caseCmp (cmpName a (n .0 .0)) t (put (b, n .0 .1) (n .1) t) t)
+
+  split : (r t : Map) → Sorted r → Sorted t → renameDir a b r t ≡ putAll r (delAll a r t)
+  unfolding renameDir putAll delAll
+  split [] t s z = refl
+  split (n ∷ r) t s z = go (cmpName a (n .0 .0)) refl (λ u z. split r u (s .1) z)
+    where
+      k : Key
+      k = (b, n .0 .1)
+
+      apart : (l : Map) → a ≡ n .0 .0 → All (Over (n .0)) l → All (λ x. a ≡ x .0 .0 → x .0 ≡ k → ⊥) l
+      apart [] e h = tt
+      apart (x ∷ l) e h = (λ p q. lt≢eq (sym (h .0) ∙ rw (same p q) (keyLaws .reflexive (n .0))), apart l e (h .1))
+        where
+          same : a ≡ x .0 .0 → x .0 ≡ k → x .0 ≡ n .0
+          same p q = q ∙ λ i. ((sym (ap (λ (j : Key). j .0) q) ∙ sym p ∙ e) i, n .0 .1)
+
+      go : (c : Cmp) → cmpName a (n .0 .0) ≡ c → ((u : Map) → Sorted u → renameDir a b r u ≡ putAll r (delAll a r u)) → renameDir a b r (caseCmp c t (put k (n .1) (del (n .0) t)) t) ≡ putAll r (caseCmp c (delAll a r (caseCmp c t (del (n .0) t) t)) (put k (n .1) (delAll a r (caseCmp c t (del (n .0) t) t))) (delAll a r (caseCmp c t (del (n .0) t) t)))
+      go lt e ih = ih t z
+      go eq e ih = ih _ (sorted-put k (n .1) (del (n .0) t) (sorted-del (n .0) t z)) ∙ ap (putAll r) (delAll-put a k (n .1) r (del (n .0) t) (sorted-del (n .0) t z) (apart r (nameLaws .equal a (n .0 .0) e) (above-all (n .0) r (s .1) (s .0))))
+      go gt e ih = ih t z
+
+  pub renamed : (m : Map) → Sorted m → renameDir a b m m ≡ putAll m (removeDir a m)
+  renamed m s = split m m s s ∙ ap (putAll m) (removed a m s)
+
+-- `rename_dir`: what is left of the listing is put into u; the places that the removed nodes left are enough.
+pub record Renaming (src : Bytes) (t u : Table) (from to : NameRef) (i : ℕ) : Type 0 where
+  pub sound : SoundTable src t
+  pub sound-from : Sound src from
+  pub sound-to : Sound src to
+  pub sound-now : SoundTable src u
+  pub within : i ≤ t .len
+  pub room : u .len + nodesIn (nameOf src from) (drop i (mapOf src t)) ≤ t .len
+  pub same : putAll (nameOf src from) (nameOf src to) (drop i (mapOf src t)) (mapOf src u) ≡ renameDir (nameOf src from) (nameOf src to) (mapOf src t) (mapOf src t)
+
+pub start : {src : Bytes} {t u : Table} {from to : NameRef} → SoundTable src t → Sound src from → Sound src to → Holds src u (removeDir (nameOf src from) (mapOf src t)) → Renaming src t u from to 0
+start {src} {t} {u} {from} {to} s f g h =
+    let a : Name = nameOf src from in
+    let l = length-removed a (mapOf src t) in
+    let p : u .len ≡ length (removeDir a (mapOf src t)) = sym (length-table src (h .sound .sized)) ∙ ap length (h .same) in
+    record {
+      sound = s;
+      sound-from = f;
+      sound-to = g;
+      sound-now = h .sound;
+      within = omega arith;
+      room = rw (drop-zero (mapOf src t)) (omega (arith, length-table src (s .sized)));
+      same = rw (drop-zero (mapOf src t), h .same) (sym (renamed a (nameOf src to) (mapOf src t) (s .sorted)));
+    }
+
+-- The node at i.
+module _ {src : Bytes} {t u : Table} {from to : NameRef} {i : ℕ} (w : Renaming src t u from to i) (d : Node) (h : i < t .len) where
+  abbrev x : Node
+  x = getD (t .nodes) i d
+
+  abbrev Of : Bool → Type 0
+  Of b = sameBytes (nameOf src from) (nameOf src (x .dir)) ≡ b
+
+  listed : drop i (mapOf src t) ≡ nodeOf src x ∷ drop (i + 1) (mapOf src t)
+  listed = rest src (w .sound .sized) i d h
+
+  counted : {b : Bool} → Of b → nodesIn (nameOf src from) (drop i (mapOf src t)) ≡ (if b then suc (nodesIn (nameOf src from) (drop (i + 1) (mapOf src t))) else nodesIn (nameOf src from) (drop (i + 1) (mapOf src t)))
+  unfolding nodesIn
+  counted e = rw listed (by-same (nameOf src from) (nameOf src (x .dir)) _ _ e)
+
+  next : {b : Bool} → Of b → putAll (nameOf src from) (nameOf src to) (drop i (mapOf src t)) (mapOf src u) ≡ putAll (nameOf src from) (nameOf src to) (drop (i + 1) (mapOf src t)) (if b then put (keyOf src to (x .file)) (x .number) (mapOf src u) else mapOf src u)
+  unfolding putAll
+  next e = rw listed (ap (putAll (nameOf src from) (nameOf src to) (drop (i + 1) (mapOf src t))) (by-same (nameOf src from) (nameOf src (x .dir)) _ _ e))
+
+  pub other : {v : Table} → Of false → v ≡ u → Renaming src t v from to (i + 1)
+  other e p = record {
+    sound = w .sound;
+    sound-from = w .sound-from;
+    sound-to = w .sound-to;
+    sound-now = rw p (w .sound-now);
+    within = omega arith;
+    room = rw (p, ← counted e) (w .room);
+    same = rw p (sym (next e) ∙ w .same);
+  }
+
+  pub moved : {v r : Table} → Of true → v ≡ r → Holds src r (putIn (keyOf src to (x .file)) (x .number) (mapOf src u)) → Renaming src t v from to (i + 1)
+  moved {v} {r} e p q =
+      let k : Key = keyOf src to (x .file) in
+      let c = counted e in
+      let l : length (mapOf src u) < 145 = omega (arith, length-table src (w .sound-now .sized), w .room, w .sound .sized .room) in
+      let z : mapOf src r ≡ put k (x .number) (mapOf src u) = q .same ∙ room-put k (x .number) (mapOf src u) l in
+      let m : length (mapOf src r) ≤ 1 + length (mapOf src u) = rw (z, length-size (put k (x .number) (mapOf src u)), length-size (mapOf src u)) (size-put-le one k (x .number) (mapOf src u)) in
+      record {
+        sound = w .sound;
+        sound-from = w .sound-from;
+        sound-to = w .sound-to;
+        sound-now = rw p (q .sound);
+        within = omega arith;
+        room = rw p (omega (arith, length-table src (w .sound-now .sized), length-table src (q .sound .sized), w .room));
+        same = rw (p, z) (sym (next e) ∙ w .same);
+      }
+
+pub end : {src : Bytes} {t u : Table} {from to : NameRef} {i : ℕ} → Renaming src t u from to i → t .len ≤ i → Holds src u (renameDir (nameOf src from) (nameOf src to) (mapOf src t) (mapOf src t))
+unfolding putAll
+end {src} {t} {u} {from} {to} {i} w h = record { sound = w .sound-now; same = rw (finished src i (w .sound .sized) h) at (w .same) }

@@ -13,7 +13,7 @@ use types.Run.{OneOf}
 use denote.Enum.Declared.{tagOf}
 use Rattle.model.specs.Base.{Bytes, caseOption, if_then_else_, sameBytes, allOf}
 use Rattle.model.specs.Field.{Field, fieldsFrom, decodeFields}
-use Rattle.model.specs.Operation.{Op, fieldTags, makers, validValue, opOfFields, decodePayload}
+use Rattle.model.specs.Operation.{fieldTags, makers, validValue, opOfFields, decodePayload}
 use Rattle.laws.specs.Tests.{All}
 use Rattle.spans.specs.Spans.{backups, nameOf, Sound}
 use Rattle.spans.specs.declared.NameRef.{NameRef}
@@ -22,11 +22,12 @@ use Rattle.field.proofs.Fields.{no-field}
 use Rattle.field.specs.declared.Item.{Item}
 use Rattle.field.specs.declared.Read.{Read}
 use Rattle.field.proofs.Read.{the-type}
-use Rattle.transaction.specs.Operations.{decodedOf, inBounds, part, decodedAt, Decodes}
+use Rattle.transaction.specs.Operations.{inBounds, part, decodedAt, Decodes}
 use Rattle.transaction.specs.Rows.{matchRow, SoundParts, Matches, made, Makes}
 use Rattle.transaction.specs.declared.Decoded.{Decoded}
-use Rattle.transaction.specs.declared.Decoded.the-variants.{Is, Undecodable}
+use Rattle.transaction.specs.declared.Decoded.the-variants.{Undecodable}
 use Rattle.transaction.specs.declared.Values.{Values}
+use Rattle.transaction.proofs.Same.{and-right}
 use Rattle.transaction.proofs.Arms.{made-row}
 use Rattle.transaction.proofs.Decode.{matched, row-of-bytes}
 
@@ -93,10 +94,6 @@ module _ (e : ℕ) (src : Bytes) (k : e ≤ length src) where
   wide-parts {l} h = record { size = h .size; sound = wide-sounds l (h .sound) }
 
 -- Out of bounds.
-and-right : (a : Bool) → (a && false) ≡ false
-and-right true = refl
-and-right false = refl
-
 module _ (src : Bytes) (start end : ℕ) where
   pub end-first : end < start → inBounds src start end ≡ false
   unfolding inBounds
@@ -120,9 +117,12 @@ unfolding inBounds
 in-bounds src start end a b c = rw (le-leb start end a, le-leb end (length src) b, le-leb (length src) 0xFFFF c)
 
 module _ (src : Bytes) (start end : ℕ) (a : start ≤ end) (b : end ≤ length src) (c : length src ≤ 0xFFFF) where
-  there : decodedAt src start end ≡ decodePayload (drop start (take end src))
+  pub decoded-there : decodedAt src start end ≡ decodePayload (part src start end)
   unfolding decodedAt
-  there = rw (in-bounds src start end a b c) (ap decodePayload (part-drop start end src a))
+  decoded-there = rw (in-bounds src start end a b c)
+
+  there : decodedAt src start end ≡ decodePayload (drop start (take end src))
+  there = decoded-there ∙ ap decodePayload (part-drop start end src a)
 
   pub undecodable : decodePayload (drop start (take end src)) ≡ none → Decodes src start end Undecodable
   undecodable h = record { sound = tt; same = sym (there ∙ h) }

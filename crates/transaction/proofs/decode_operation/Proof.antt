@@ -1,5 +1,5 @@
 -- `transaction::decode_operation` meets its contract: the row of the first field's kind says what the fields must be.
-use mathlib.Core.Path.{sym, _∙_}
+use mathlib.Core.Path.{sym}
 use native.Mathlib.Omega.{arith}
 use lib.ListN.{take}
 use lib.Seq.{length-take-le}

@@ -138,6 +138,46 @@ pub fn entry_at(log: &[u8], at: usize) -> Entry
     Entry::Payload(start, end)
 }
 
+// The log walker: it borrows the log and remembers its next entry. 01, Forms that change shape: "The loop of `read_wal`".
+pub struct Walker<'a> {
+    pub log: &'a [u8],
+    pub at: usize,
+}
+
+// A walker behind the header.
+pub fn new<'a>(log: &'a [u8]) -> Walker<'a>
+    ensures { λ w. ⌜ (w .log ≡ log .entry) × (w .at ≡ 8) ⌝ }
+{
+    Walker {
+        log,
+        at: WAL_FILE_HEADER_SIZE,
+    }
+}
+
+// The walker's next entry.
+pub fn next<'a>(w: Walker<'a>) -> Entry
+    ensures { λ e. ⌜ EntryAt (now (w .entry .log)) (w .entry .at) e ⌝ }
+{
+    entry_at(w.log, w.at)
+}
+
+// The walker behind the payload that ends at `end`.
+pub fn advance<'a>(w: Walker<'a>, end: usize) -> Walker<'a>
+    ensures { λ v. ⌜ (v .log ≡ w .entry .log) × (v .at ≡ end) ⌝ }
+{
+    Walker {
+        log: w.log,
+        at: end,
+    }
+}
+
+// The entry that a walker at `at` comes to.
+pub fn entry_from(log: &[u8], at: usize) -> Entry
+    ensures { λ e. ⌜ EntryAt (now (log .entry)) at e ⌝ }
+{
+    next(advance(new(log), at))
+}
+
 // The answer of a walk.
 fn ended(ops: [Logged; 32], len: usize, ending: Ending) -> WalRead
     ensures { λ r. ⌜ (r .ops ≡ ops) × ((r .len ≡ len) × (r .ending ≡ ending)) ⌝ }

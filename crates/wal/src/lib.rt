@@ -144,30 +144,32 @@ pub struct Walker<'a> {
     pub at: usize,
 }
 
-// A walker behind the header.
-pub fn new<'a>(log: &'a [u8]) -> Walker<'a>
-    ensures { λ w. ⌜ (w .log ≡ log .entry) × (w .at ≡ 8) ⌝ }
-{
-    Walker {
-        log,
-        at: WAL_FILE_HEADER_SIZE,
+impl<'a> Walker<'a> {
+    // A walker behind the header.
+    pub fn new(log: &'a [u8]) -> Walker<'a>
+        ensures { λ w. ⌜ (w .log ≡ log .entry) × (w .at ≡ 8) ⌝ }
+    {
+        Walker {
+            log,
+            at: WAL_FILE_HEADER_SIZE,
+        }
     }
-}
 
-// The walker's next entry.
-pub fn next<'a>(w: Walker<'a>) -> Entry
-    ensures { λ e. ⌜ EntryAt (now (w .entry .log)) (w .entry .at) e ⌝ }
-{
-    entry_at(w.log, w.at)
-}
+    // The walker's next entry.
+    pub fn next(self) -> Entry
+        ensures { λ e. ⌜ EntryAt (now (self .entry .log)) (self .entry .at) e ⌝ }
+    {
+        entry_at(self.log, self.at)
+    }
 
-// The walker behind the payload that ends at `end`.
-pub fn advance<'a>(w: Walker<'a>, end: usize) -> Walker<'a>
-    ensures { λ v. ⌜ (v .log ≡ w .entry .log) × (v .at ≡ end) ⌝ }
-{
-    Walker {
-        log: w.log,
-        at: end,
+    // The walker behind the payload that ends at `end`.
+    pub fn advance(self, end: usize) -> Walker<'a>
+        ensures { λ w. ⌜ (w .log ≡ self .entry .log) × (w .at ≡ end) ⌝ }
+    {
+        Walker {
+            log: self.log,
+            at: end,
+        }
     }
 }
 
@@ -175,7 +177,7 @@ pub fn advance<'a>(w: Walker<'a>, end: usize) -> Walker<'a>
 pub fn entry_from(log: &[u8], at: usize) -> Entry
     ensures { λ e. ⌜ EntryAt (now (log .entry)) at e ⌝ }
 {
-    next(advance(new(log), at))
+    Walker::new(log).advance(at).next()
 }
 
 // The answer of a walk.
@@ -202,7 +204,7 @@ fn walk_entries(src: &[u8], first: usize, end: usize) -> WalRead
         if end <= at {
             return ended(ops, n, Ending::Whole);
         }
-        let Entry::Payload(from, to) = entry_at(log, at) else {
+        let Entry::Payload(from, to) = entry_from(log, at) else {
             return ended(ops, n, Ending::Truncated);
         };
         let Decoded::Is(op) = transaction::decode_operation(src, from, to) else {

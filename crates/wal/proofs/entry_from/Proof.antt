@@ -44,18 +44,18 @@ use Rattle.wal.proofs.Walker as T
 use Rattle.wal.proofs.Walker.Laws as T′
 use Rattle.wal.proofs.Entry as S
 use Rattle.wal.proofs.Entry.Laws as S′
-use Rattle.wal.proofs.new as new
-use Rattle.wal.proofs.new.Symbol as new-def
-use Rattle.wal.proofs.new.Symbol.{name as #wal·new}
-use Rattle.wal.proofs.new.Met as new-thm
-use Rattle.wal.proofs.advance as advance
-use Rattle.wal.proofs.advance.Symbol as advance-def
-use Rattle.wal.proofs.advance.Symbol.{name as #wal·advance}
-use Rattle.wal.proofs.advance.Met as advance-thm
-use Rattle.wal.proofs.next as next
-use Rattle.wal.proofs.next.Symbol as next-def
-use Rattle.wal.proofs.next.Symbol.{name as #wal·next}
-use Rattle.wal.proofs.next.Met as next-thm
+use Rattle.wal.proofs.Walker.new as new
+use Rattle.wal.proofs.Walker.new.Symbol as new-def
+use Rattle.wal.proofs.Walker.new.Symbol.{name as #wal·new}
+use Rattle.wal.proofs.Walker.new.Met as new-thm
+use Rattle.wal.proofs.Walker.advance as advance
+use Rattle.wal.proofs.Walker.advance.Symbol as advance-def
+use Rattle.wal.proofs.Walker.advance.Symbol.{name as #wal·advance}
+use Rattle.wal.proofs.Walker.advance.Met as advance-thm
+use Rattle.wal.proofs.Walker.next as next
+use Rattle.wal.proofs.Walker.next.Symbol as next-def
+use Rattle.wal.proofs.Walker.next.Symbol.{name as #wal·next}
+use Rattle.wal.proofs.Walker.next.Met as next-thm
 use Rattle.wal.proofs.entry_from.Key.{name as #wal·entry-from}
 use Rattle.wal.proofs.entry_from as entry-from
 use Rattle.wal.proofs.entry_from.Statement as stated
@@ -199,6 +199,6 @@ entry-from-spec 𝓤 H 𝓜 𝓖 𝓡 =
     entered 𝓤 H (tripleOf 𝓤 H (𝓖 .A) entry-from.signature (entry-from.spec 𝓤 H (𝓖 .A) (𝓜 .mem) (𝓡 .run)))
     (tables 𝓤 H 𝓜 𝓡 code.env .C) (tables 𝓤 H 𝓜 𝓡 code.env .Λ) #wal·entry-from code.function (code.unfolded 𝓤 H 𝓜 𝓡)
     (entry-from-meets 𝓤 H (𝓖 .A) (givenOf 𝓤 H 𝓜 𝓖) (𝓜 .mem) (𝓡 .run) (tablesOf 𝓤 H 𝓜 (tables 𝓤 H 𝓜 𝓡 code.env))
-    (cited 𝓤 H (New 𝓤 H (𝓖 .A) (𝓜 .mem) (𝓡 .run)) 𝓜 𝓡 code.env #wal·new new-def.routine code.calls-wal·new (new-thm.met 𝓤 H 𝓜 𝓖 𝓡))
-    (cited 𝓤 H (Advance 𝓤 H (𝓖 .A) (𝓜 .mem) (𝓡 .run)) 𝓜 𝓡 code.env #wal·advance advance-def.routine code.calls-wal·advance (advance-thm.met 𝓤 H 𝓜 𝓖 𝓡))
-    (cited 𝓤 H (Next 𝓤 H (𝓖 .A) (𝓜 .mem) (𝓡 .run)) 𝓜 𝓡 code.env #wal·next next-def.routine code.calls-wal·next (next-thm.met 𝓤 H 𝓜 𝓖 𝓡)))
+    (cited 𝓤 H (New 𝓤 H (𝓖 .A) (𝓜 .mem) (𝓡 .run)) 𝓜 𝓡 code.env #wal·new new-def.routine code.calls-wal·Walker·new (new-thm.met 𝓤 H 𝓜 𝓖 𝓡))
+    (cited 𝓤 H (Advance 𝓤 H (𝓖 .A) (𝓜 .mem) (𝓡 .run)) 𝓜 𝓡 code.env #wal·advance advance-def.routine code.calls-wal·Walker·advance (advance-thm.met 𝓤 H 𝓜 𝓖 𝓡))
+    (cited 𝓤 H (Next 𝓤 H (𝓖 .A) (𝓜 .mem) (𝓡 .run)) 𝓜 𝓡 code.env #wal·next next-def.routine code.calls-wal·Walker·next (next-thm.met 𝓤 H 𝓜 𝓖 𝓡)))

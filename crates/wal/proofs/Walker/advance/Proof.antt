@@ -1,4 +1,4 @@
--- `wal::advance` meets its contract: a walk of its MIR, by hand. A struct is made anew of the slice that the one passed holds, and another number.
+-- `wal::Walker::advance` meets its contract: a walk of its MIR, by hand. A struct is made anew of the slice that the one passed holds, and another number.
 -- The struct is Copy: what it owns is had twice, one copy is kept whole for the exit, and the other, with the facts of the number in the place of at's, is what the result owns.
 -- Assumes nothing.
 use mathlib.Core.Path.{refl}
@@ -37,10 +37,10 @@ use denote.Exit.{yes}
 use Rattle.wal.specs.declared.Walker.{Walker}
 use Rattle.wal.proofs.Walker as T
 use Rattle.wal.proofs.Walker.Laws as T′
-use Rattle.wal.proofs.advance.Key.{name as #wal·advance}
-use Rattle.wal.proofs.advance as advance
-use Rattle.wal.proofs.advance.Statement as stated
-use Rattle.wal.proofs.advance.Code as code
+use Rattle.wal.proofs.Walker.advance.Key.{name as #wal·advance}
+use Rattle.wal.proofs.Walker.advance as advance
+use Rattle.wal.proofs.Walker.advance.Statement as stated
+use Rattle.wal.proofs.Walker.advance.Code as code
 
 -- the struct's type, over the signature's lifetimes
 abbrev B : Lfts 1 → RattleType

@@ -1,4 +1,4 @@
--- `wal::new` meets its contract: a walk of its MIR, by hand. A `Walker` is made of the log passed and the place behind its header, in the result's local.
+-- `wal::Walker::new` meets its contract: a walk of its MIR, by hand. A `Walker` is made of the log passed and the place behind its header, in the result's local.
 -- A `&[u8]` is Copy, so what it owns is had twice: once for log at exit, and once inside the result, beside the facts of at.
 -- Assumes nothing.
 use mathlib.Core.Path.{refl}
@@ -38,10 +38,10 @@ use denote.Exit.{yes}
 use Rattle.wal.specs.declared.Walker.{Walker}
 use Rattle.wal.proofs.Walker as T
 use Rattle.wal.proofs.Walker.Laws as T′
-use Rattle.wal.proofs.new.Key.{name as #wal·new}
-use Rattle.wal.proofs.new as new
-use Rattle.wal.proofs.new.Statement as stated
-use Rattle.wal.proofs.new.Code as code
+use Rattle.wal.proofs.Walker.new.Key.{name as #wal·new}
+use Rattle.wal.proofs.Walker.new as new
+use Rattle.wal.proofs.Walker.new.Statement as stated
+use Rattle.wal.proofs.Walker.new.Code as code
 
 abbrev stayed : Stays (new.ended .signature .params) (new.ended .kept)
 stayed = (stay-none-slice (0 ∷ []) tt (plain (λ _. u8)) yes, tt)

@@ -1,4 +1,4 @@
--- `wal::next` meets its contract: a walk of its MIR, by hand. The struct is taken apart, and `entry_at` is called on the slice and the number. All that the proof knows of `entry_at` is that it meets its contract.
+-- `wal::Walker::next` meets its contract: a walk of its MIR, by hand. The struct is taken apart, and `entry_at` is called on the slice and the number. All that the proof knows of `entry_at` is that it meets its contract.
 -- The struct is Copy: what it owns is had twice, one copy is kept whole for the exit, and of the other what log owns goes to the callee, beside the lifetime's token, which comes back.
 -- Assumes nothing.
 use mathlib.Core.Path.{_≡_, refl}
@@ -54,10 +54,10 @@ use Rattle.wal.proofs.entry_at as step
 use Rattle.wal.proofs.entry_at.Symbol as step-def
 use Rattle.wal.proofs.entry_at.Symbol.{name as #wal·entry-at}
 use Rattle.wal.proofs.entry_at.Met as step-thm
-use Rattle.wal.proofs.next.Key.{name as #wal·next}
-use Rattle.wal.proofs.next as next
-use Rattle.wal.proofs.next.Statement as stated
-use Rattle.wal.proofs.next.Code as code
+use Rattle.wal.proofs.Walker.next.Key.{name as #wal·next}
+use Rattle.wal.proofs.Walker.next as next
+use Rattle.wal.proofs.Walker.next.Statement as stated
+use Rattle.wal.proofs.Walker.next.Code as code
 
 -- the struct's type, over the signature's lifetimes
 abbrev B : Lfts 1 → RattleType

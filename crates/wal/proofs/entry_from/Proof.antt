@@ -46,13 +46,17 @@ use Rattle.wal.proofs.Entry as S
 use Rattle.wal.proofs.Entry.Laws as S′
 use Rattle.wal.proofs.Walker.new as new
 use Rattle.wal.proofs.Walker.new.Symbol as new-def
+use Rattle.wal.proofs.Walker.new.Symbol.{name as #wal·new}
 use Rattle.wal.proofs.Walker.new.Met as new-thm
 use Rattle.wal.proofs.Walker.advance as advance
 use Rattle.wal.proofs.Walker.advance.Symbol as advance-def
+use Rattle.wal.proofs.Walker.advance.Symbol.{name as #wal·advance}
 use Rattle.wal.proofs.Walker.advance.Met as advance-thm
 use Rattle.wal.proofs.Walker.next as next
 use Rattle.wal.proofs.Walker.next.Symbol as next-def
+use Rattle.wal.proofs.Walker.next.Symbol.{name as #wal·next}
 use Rattle.wal.proofs.Walker.next.Met as next-thm
+use Rattle.wal.proofs.entry_from.Key.{name as #wal·entry-from}
 use Rattle.wal.proofs.entry_from as entry-from
 use Rattle.wal.proofs.entry_from.Statement as stated
 use Rattle.wal.proofs.entry_from.Code as code

@@ -38,6 +38,7 @@ use denote.Exit.{yes}
 use Rattle.wal.specs.declared.Walker.{Walker}
 use Rattle.wal.proofs.Walker as T
 use Rattle.wal.proofs.Walker.Laws as T′
+use Rattle.wal.proofs.Walker.new.Key.{name as #wal·new}
 use Rattle.wal.proofs.Walker.new as new
 use Rattle.wal.proofs.Walker.new.Statement as stated
 use Rattle.wal.proofs.Walker.new.Code as code

@@ -1,11 +1,9 @@
 // The log: wal.rs. 01, How a store is handed over: the header and the entries; Corners, wal.rs.
 ghost use mathlib.Core.Path.{_≡_};
-ghost use Prim.Native.Nat.{_≤_};
-ghost use lib.ListN.{length};
 ghost use Rattle.model.specs.Operation.{encodePayload};
 ghost use Rattle.model.specs.Log.{header, entry, entries, readJournal};
 ghost use Rattle.field.specs.Writing.{written};
-ghost use Rattle.transaction.specs.Operations.{opOf, SoundOp, Writes};
+ghost use Rattle.transaction.specs.Operations.{opOf, SoundOp, Bounds, Writes};
 ghost use Rattle.wal.specs.Logs.{journalOf, payloadAt, EntryAt, ReadsLog, WalksLog};
 use spans::NameRef;
 use transaction::Decoded;
@@ -193,7 +191,7 @@ fn ended(ops: [Logged; 32], len: usize, ending: Ending) -> WalRead
 
 // The entries from `first` on, up to `end`: at most 32 operations. An undecodable payload ends the walk at once.
 fn walk_entries(src: &[u8], first: usize, end: usize) -> WalRead
-    requires { ⌜ (first ≤ end) × ((end ≤ length (now src)) × (length (now src) ≤ 0xFFFF)) ⌝ }
+    requires { ⌜ Bounds (now src) first end ⌝ }
     ensures { λ r. ⌜ WalksLog (now (src .entry)) first end r ⌝ }
 {
     let mut ops = [NO_OPERATION; 32];
@@ -224,13 +222,7 @@ fn walk_entries(src: &[u8], first: usize, end: usize) -> WalRead
 pub fn read_wal(src: &[u8], start: usize, end: usize) -> WalRead
     ensures { λ r. ⌜ ReadsLog (now (src .entry)) start end r ⌝ }
 {
-    if end < start {
-        return ended([NO_OPERATION; 32], 0, Ending::Undecodable);
-    }
-    if src.len() < end {
-        return ended([NO_OPERATION; 32], 0, Ending::Undecodable);
-    }
-    if 0xFFFF < src.len() {
+    if !transaction::in_bounds(src, start, end) {
         return ended([NO_OPERATION; 32], 0, Ending::Undecodable);
     }
     if end - start < WAL_FILE_HEADER_SIZE {

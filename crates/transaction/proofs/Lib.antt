@@ -1,0 +1,5 @@
+pub mod Same
+pub mod Table
+pub mod Checks
+pub mod Arms
+pub mod Encode

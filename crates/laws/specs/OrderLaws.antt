@@ -1,6 +1,6 @@
 -- The comparisons of numbers, names and keys are strict total orders.
 use mathlib.Core.Path.{_≡_, refl, sym, _∙_, ap, ap₂, subst}
-use Prim.Native.Nat.{ℕ, zero, suc, compare·zero-suc, compare·suc-zero, compare·suc-suc}
+use Prim.Native.Nat.{ℕ, zero, suc, _<_, compare·zero-suc, compare·suc-zero, compare·suc-suc}
 use native.Mathlib.Omega.{arith}
 use mathlib.Core.List.{List, [], _∷_}
 use Rattle.model.specs.Order.{Cmp, lt, eq, gt, thenCmp, cmpNat, Name, cmpName, Key, cmpKey}
@@ -94,6 +94,15 @@ module _ {A B : Type 0} (f : A → A → Cmp) (g : B → B → Cmp) (F : Laws f)
     turn = λ a b. rw (F .turn (a .0) (b .0), G .turn (a .1) (b .1)) (then-flip (f (a .0) (b .0)) (g (a .1) (b .1)));
     trans = λ a b c p q. lex-trans a b c (then-lt _ _ p) (then-lt _ _ q);
   }
+
+-- The comparison of numbers by their order.
+pub cmp-less : (a b : ℕ) → a < b → cmpNat a b ≡ lt
+cmp-less a zero h = absurd (omega arith)
+cmp-less zero (suc b) h = rw compare·zero-suc
+cmp-less (suc a) (suc b) h = rw compare·suc-suc (cmp-less a b (omega arith))
+
+pub cmp-greater : (a b : ℕ) → b < a → cmpNat a b ≡ gt
+cmp-greater a b h = nat-turn b a ∙ ap flip (cmp-less b a h)
 
 pub natLaws : Laws cmpNat
 natLaws = record { reflexive = nat-same; equal = nat-equal; turn = nat-turn; trans = nat-trans }

@@ -4,6 +4,7 @@ use Prim.Native.Nat.{ℕ, _≤_}
 use native.Mathlib.Omega.{arith}
 use mathlib.Core.List.{List, [], _∷_, _++_, map}
 use mathlib.Core.Bool.{Bool, true, false, not, _&&_, _||_, false≢true}
+use lib.ListN.{getD}
 use lib.Dec.{T, leb, eqb, leb→le, le→leb, eqb→eq}
 use mathlib.Core.Logic.{inl, inr}
 use Rattle.model.specs.Base.{Bytes, sameBytes, allOf, isIn, In}
@@ -120,3 +121,8 @@ all-of-append p l r h k = of-all p (l ++ r) (all-append (λ a. p a ≡ true) l r
 pub all-of-front : {A : Type 0} (p : A → Bool) (l r : List A) → allOf p (l ++ r) ≡ true → allOf p l ≡ true
 all-of-front p [] r h = refl
 all-of-front p (a ∷ l) r h = let k = and-both (p a) (allOf p (l ++ r)) h in and-made (p a) (allOf p l) (k .0) (all-of-front p l r (k .1))
+
+-- What holds at every place of a list, and of what stands past its end, holds of every element.
+pub all-at : {A : Type 0} (P : A → Type 0) (d : A) (l : List A) → ((i : ℕ) → P (getD l i d)) → All P l
+all-at P d [] h = tt
+all-at P d (a ∷ l) h = (h 0, all-at P d l (λ i. h (suc i)))

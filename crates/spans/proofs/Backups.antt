@@ -1,18 +1,19 @@
 -- Backup names of spans, and their originals.
 use mathlib.Core.Path.{_≡_, refl, sym, ap, _∙_}
+use mathlib.Core.List.{[], _∷_}
 use mathlib.Core.Bool.{Bool, true, false, _&&_}
 use mathlib.Core.Option.{none, some}
-use Prim.Native.Nat.{ℕ, suc, _+_, _-_, _≤_, _<_}
+use Prim.Native.Nat.{ℕ, suc, _+_, _-_, _≤_, _<_, compare, Ordering, Ordering·lt, Ordering·eq, Ordering·gt}
 use native.Mathlib.Numerals.{add-one}
 use native.Mathlib.Omega.{arith}
-use lib.Dec.{leb, eqb}
-use lib.ListN.{length, getD, take, drop}
-use lib.Seq.{take-take, take-append-seam}
-use borrow.Author.Tests.{leb-true, le-leb, lt-leb}
-use Rattle.model.specs.Order.{Name}
-use Rattle.model.specs.Base.{Bytes, if_then_else_, isSome}
-use Rattle.model.specs.Name.{backupName, backupExtension, originalName, isBackup, isTmp}
-use Rattle.laws.specs.NameLaws.{endsIn, backup-test, tmp-test}
+use lib.Dec.{ltb, eqb, isEq}
+use lib.ListN.{length, getD, take, drop, drop-of-length-le}
+use lib.Seq.{drop-cons, take-take, take-append-seam}
+use borrow.Author.Tests.{ltb-true, lt-ltb, le-ltb}
+use Rattle.model.specs.Order.{caseCmp, thenCmp, ofOrdering, Name, cmpName}
+use Rattle.model.specs.Base.{Bytes, sameBytes}
+use Rattle.model.specs.Name.{backupName, backupExtension, originalName, isBackup}
+use Rattle.laws.specs.NameLaws.{endsIn, backup-test, backup-ends}
 use Rattle.laws.specs.Tests.{and-both}
 use Rattle.spans.specs.Spans.{backups, nameOf, lengthOf, Sound, Names, Original}
 use Rattle.spans.specs.declared.NameRef.{NameRef}
@@ -28,43 +29,57 @@ module _ {src : Bytes} {r : NameRef} (s : Sound src r) where
   pub too-long : 60 < lengthOf r → 64 < length (backupName (nameOf src r))
   too-long h = omega (arith, length-name s, length-backup (nameOf src r))
 
-  -- `ends_in`: fewer than five bytes, and the four bytes that it reads.
-  module _ (x y z : ℕ) where
-    pub short : lengthOf r ≤ 4 → false ≡ endsIn x y z (nameOf src r)
-    unfolding endsIn
-    short h =
-        let l : length (nameOf src r) < 5 = omega (arith, length-name s) in
-        sym (rw (lt-leb 5 (length (nameOf src r)) l))
+-- `ends_in`: fewer than five bytes, or the four bytes that it reads.
+same-cons : (a b : ℕ) (l m : Name) → sameBytes (a ∷ l) (b ∷ m) ≡ (eqb a b && sameBytes l m)
+same-cons a b l m = go (compare a b)
+  where
+    go : (o : Ordering) → caseCmp (thenCmp (ofOrdering o) (cmpName l m)) false true false ≡ (isEq o && sameBytes l m)
+    go Ordering·lt = refl
+    go Ordering·eq = refl
+    go Ordering·gt = refl
 
-    pub long : {a b c d : ℕ} (n : ℕ) → n ≡ lengthOf r → 4 < n
-        → a ≡ getD (nameOf src r) (n - 4) 0 → b ≡ getD (nameOf src r) (n - 3) 0 → c ≡ getD (nameOf src r) (n - 2) 0 → d ≡ getD (nameOf src r) (n - 1) 0
-        → (eqb a 46 && (eqb b x && (eqb c y && eqb d z))) ≡ endsIn x y z (nameOf src r)
-    unfolding endsIn
-    long n q h a b c d =
-        let e : length (nameOf src r) ≡ n = length-name s ∙ sym q in
-        rw (e, le-leb 5 n h, ← a, ← b, ← c, ← d)
+same-four : (a b c d w x y z : ℕ) → sameBytes (a ∷ b ∷ c ∷ d ∷ []) (w ∷ x ∷ y ∷ z ∷ []) ≡ (eqb a w && (eqb b x && (eqb c y && eqb d z)))
+same-four a b c d w x y z =
+    same-cons a w (b ∷ c ∷ d ∷ []) (x ∷ y ∷ z ∷ []) ∙ ap (eqb a w &&_) (same-cons b x (c ∷ d ∷ []) (y ∷ z ∷ []) ∙ ap (eqb b x &&_) (same-cons c y (d ∷ []) (z ∷ []) ∙ ap (eqb c y &&_) (same-cons d z [] [] ∙ and-true (eqb d z))))
+  where
+    and-true : (t : Bool) → (t && true) ≡ t
+    and-true true = refl
+    and-true false = refl
 
--- A test decides whether there is an answer.
-test-some : {A : Type 0} (t : Bool) (a : A) → isSome (if t then some a else none) ≡ t
-test-some true a = refl
-test-some false a = refl
+last-four : (n : Name) (k i j l : ℕ) → length n ≡ k + 4 → i ≡ suc k → j ≡ suc (suc k) → l ≡ suc (suc (suc k)) → drop k n ≡ getD n k 0 ∷ getD n i 0 ∷ getD n j 0 ∷ getD n l 0 ∷ []
+last-four n k i j l e p q r =
+    let a : k < length n = omega arith in
+    let b : suc k < length n = omega arith in
+    let c : suc (suc k) < length n = omega arith in
+    let d : suc (suc (suc k)) < length n = omega arith in
+    let z : length n ≤ suc (suc (suc (suc k))) = omega arith in
+    rw (p, q, r, drop-cons n k 0, drop-cons n (suc k) 0, drop-cons n (suc (suc k)) 0, drop-cons n (suc (suc (suc k))) 0, drop-of-length-le n z)
 
-pub backup-ends : (n : Name) → endsIn 0x62 0x61 0x6B n ≡ isBackup n
-backup-ends n = sym (ap isSome (backup-test n) ∙ test-some (endsIn 0x62 0x61 0x6B n) _)
+module _ {src : Bytes} {r : NameRef} (s : Sound src r) (x y z : ℕ) where
+  pub short : lengthOf r ≤ 4 → false ≡ endsIn (0x2E ∷ x ∷ y ∷ z ∷ []) (nameOf src r)
+  unfolding endsIn
+  short h = sym (rw (le-ltb 4 (length (nameOf src r)) (omega (arith, length-name s))))
 
-pub tmp-ends : (n : Name) → endsIn 0x74 0x6D 0x70 n ≡ isTmp n
-tmp-ends n = sym (ap isSome (tmp-test n) ∙ test-some (endsIn 0x74 0x6D 0x70 n) _)
+  pub long : {a b c d : ℕ} (n : ℕ) → n ≡ lengthOf r → 4 < n
+      → a ≡ getD (nameOf src r) (n - 4) 0 → b ≡ getD (nameOf src r) (n - 3) 0 → c ≡ getD (nameOf src r) (n - 2) 0 → d ≡ getD (nameOf src r) (n - 1) 0
+      → (eqb a 0x2E && (eqb b x && (eqb c y && eqb d z))) ≡ endsIn (0x2E ∷ x ∷ y ∷ z ∷ []) (nameOf src r)
+  unfolding endsIn
+  long {a} {b} {c} {d} n q h p₁ p₂ p₃ p₄ =
+      let e : length (nameOf src r) ≡ n = length-name s ∙ sym q in
+      let four : drop (n - 4) (nameOf src r) ≡ a ∷ b ∷ c ∷ d ∷ [] = last-four (nameOf src r) (n - 4) (n - 3) (n - 2) (n - 1) (omega arith) (omega arith) (omega arith) (omega arith) ∙ λ i. sym p₁ i ∷ sym p₂ i ∷ sym p₃ i ∷ sym p₄ i ∷ [] in
+      rw (e, lt-ltb 4 n h) (sym (ap (λ (l : Name). sameBytes l (0x2E ∷ x ∷ y ∷ z ∷ [])) four ∙ same-four a b c d 0x2E x y z))
 
+-- What `is_backup` found.
 pub no-original : (n : Name) → isBackup n ≡ false → originalName n ≡ none
-no-original n h = backup-test n ∙ rw (backup-ends n ∙ h)
+no-original n h = backup-test n ∙ rw (sym (backup-ends n) ∙ h)
 
 -- A backup has at least five bytes, and its original all but the last four.
 pub backup-long : (n : Name) → isBackup n ≡ true → 5 ≤ length n
 unfolding endsIn
-backup-long n h = leb-true 5 (length n) (and-both (leb 5 (length n)) _ (backup-ends n ∙ h) .0)
+backup-long n h = ltb-true 4 (length n) (and-both (ltb 4 (length n)) _ (sym (backup-ends n) ∙ h) .0)
 
 original-take : (n : Name) → isBackup n ≡ true → originalName n ≡ some (take (length n - 4) n)
-original-take n h = backup-test n ∙ rw (backup-ends n ∙ h)
+original-take n h = backup-test n ∙ rw (sym (backup-ends n) ∙ h)
 
 take-backup : (n : Name) → take (length (backupName n) - 4) (backupName n) ≡ n
 unfolding backupName backupExtension

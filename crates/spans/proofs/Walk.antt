@@ -1,27 +1,17 @@
 -- Two names compared byte by byte.
 use mathlib.Core.Path.{_≡_, sym, ap₂, _∙_}
 use mathlib.Core.List.{[], _∷_}
-use Prim.Native.Nat.{ℕ, zero, suc, _+_, _≤_, _<_, compare·zero-suc, compare·suc-zero, compare·suc-suc}
+use Prim.Native.Nat.{ℕ, _+_, _≤_, _<_}
 use native.Mathlib.Numerals.{add-one}
 use native.Mathlib.Omega.{arith}
 use lib.ListN.{length, drop, getD, drop-of-length-le}
 use lib.Seq.{drop-cons}
-use Rattle.model.specs.Order.{Cmp, lt, eq, gt, cmpNat, cmpName}
+use Rattle.model.specs.Order.{Cmp, lt, eq, gt, cmpName}
 use Rattle.model.specs.Base.{Bytes}
-use Rattle.laws.specs.OrderLaws.{natLaws}
+use Rattle.laws.specs.OrderLaws.{natLaws, cmp-less, cmp-greater}
 use Rattle.spans.specs.Spans.{nameOf, lengthOf, Sound}
 use Rattle.spans.specs.declared.NameRef.{NameRef}
 use Rattle.spans.proofs.Parts.{length-name}
-
-cmp-less : (x y : ℕ) → x < y → cmpNat x y ≡ lt
-cmp-less x zero h = absurd (omega arith)
-cmp-less zero (suc y) h = rw compare·zero-suc
-cmp-less (suc x) (suc y) h = rw compare·suc-suc (cmp-less x y (omega arith))
-
-cmp-greater : (x y : ℕ) → y < x → cmpNat x y ≡ gt
-cmp-greater zero y h = absurd (omega arith)
-cmp-greater (suc x) zero h = rw compare·suc-zero
-cmp-greater (suc x) (suc y) h = rw compare·suc-suc (cmp-greater x y (omega arith))
 
 -- What is left of both names behind their first i bytes decides.
 pub record Walk (src : Bytes) (a b : NameRef) (whole : Cmp) (i : ℕ) : Type 0 where

@@ -1,5 +1,5 @@
 ghost use mathlib.Core.Path.{_≡_};
-ghost use mathlib.Core.List.{List, []};
+ghost use mathlib.Core.List.{List, [], _∷_};
 ghost use Prim.Native.Nat.{ℕ, _≤_, _<_, _+_, _*_};
 ghost use lib.ListN.{length, getD, take, drop};
 ghost use Rattle.model.specs.Order.{cmpName};
@@ -165,7 +165,7 @@ pub fn same(src: &[u8], a: NameRef, b: NameRef) -> bool
 // Whether a name ends in a dot and three given bytes, behind at least one byte.
 fn ends_in(src: &[u8], r: NameRef, x: u8, y: u8, z: u8) -> bool
     requires { ⌜ Sound (now src) r ⌝ }
-    ensures { λ b. ⌜ b ≡ endsIn x y z (nameOf (now (src .entry)) r) ⌝ }
+    ensures { λ b. ⌜ b ≡ endsIn (0x2E ∷ x ∷ y ∷ z ∷ []) (nameOf (now (src .entry)) r) ⌝ }
 {
     let n = length_of(r);
     if n <= 4 {

@@ -3,3 +3,4 @@ pub mod Table
 pub mod Checks
 pub mod Arms
 pub mod Encode
+pub mod Decode

@@ -1,0 +1,444 @@
+// Recovery of an interrupted transaction: recovery.rs. A walk goes through the table as it stood where the walk starts: 01, Listings and
+// file steps, "A directory is listed as it stands when its walk starts, in ascending byte order".
+ghost use mathlib.Core.Path.{_≡_};
+ghost use mathlib.Core.List.{[]};
+ghost use mathlib.Core.Bool.{true, false};
+ghost use Rattle.model.specs.Base.{ifEmpty, isSome};
+ghost use Rattle.model.specs.Map.{look};
+ghost use Rattle.model.specs.Name.{backupName};
+ghost use Rattle.model.specs.Store.{files, hasBackupFiles, hasPendingWork};
+ghost use Rattle.model.specs.Plan.{undoSteps, restoreFile, restoreDirectory, restoreBackups, removeBackupFile, removeBackupsIn, removeBackups, removeStagingFiles, removeStandingLog, isNewArtifact};
+ghost use Rattle.spans.specs.Spans.{nameOf, Sound};
+ghost use Rattle.store.specs.Tables.{keyOf, nodeOf, mapOf, SoundNode, SoundTable};
+ghost use Rattle.store.specs.Stores.{storeOf, SoundStore};
+ghost use Rattle.plans.specs.ModelPlans.{plain};
+ghost use Rattle.steps.specs.CodeRuns.{SoundRun, Follows};
+ghost use Rattle.transaction.specs.Operations.{opOf, SoundOp};
+ghost use Rattle.recovery.specs.Walks.{isFileOf, isDir, clearFile, clearDir, overFiles, undoWrite, undoCreate, undoCopy};
+use spans::BackupName;
+use spans::NameRef;
+use spans::OriginalName;
+use steps::Run;
+use steps::Step;
+use store::Held;
+use store::Node;
+use store::Store;
+use store::Table;
+use transaction::Operation;
+
+// Whether a place holds something.
+fn exists(src: &[u8], t: Table, dir: NameRef, file: NameRef) -> bool
+    requires { ⌜ SoundTable (now src) t × (Sound (now src) dir × Sound (now src) file) ⌝ }
+    ensures { λ r. ⌜ r ≡ isSome (look (keyOf (now (src .entry)) dir file) (mapOf (now (src .entry)) t)) ⌝ }
+{
+    let h = store::look(src, t, dir, file);
+    match h {
+        Held::Number(_) => true,
+        Held::Nothing => false,
+    }
+}
+
+fn dir_exists(src: &[u8], t: Table, dir: NameRef) -> bool
+    requires { ⌜ SoundTable (now src) t × Sound (now src) dir ⌝ }
+    ensures { λ r. ⌜ r ≡ isSome (look (nameOf (now (src .entry)) dir, []) (mapOf (now (src .entry)) t)) ⌝ }
+{
+    exists(src, t, dir, spans::empty())
+}
+
+// Whether the backup of a file, or of a directory, stands. One whose name has over 64 bytes stands nowhere.
+fn has_backup(src: &[u8], t: Table, dir: NameRef, file: NameRef) -> bool
+    requires { ⌜ SoundTable (now src) t × (Sound (now src) dir × Sound (now src) file) ⌝ }
+    ensures { λ r. ⌜ r ≡ isSome (look (nameOf (now (src .entry)) dir, backupName (nameOf (now (src .entry)) file)) (mapOf (now (src .entry)) t)) ⌝ }
+{
+    let b = spans::backup(src, file);
+    match b {
+        BackupName::Is(q) => exists(src, t, dir, q),
+        BackupName::TooLong => false,
+    }
+}
+
+fn has_backup_dir(src: &[u8], t: Table, dir: NameRef) -> bool
+    requires { ⌜ SoundTable (now src) t × Sound (now src) dir ⌝ }
+    ensures { λ r. ⌜ r ≡ isSome (look (backupName (nameOf (now (src .entry)) dir), []) (mapOf (now (src .entry)) t)) ⌝ }
+{
+    let b = spans::backup(src, dir);
+    match b {
+        BackupName::Is(q) => dir_exists(src, t, q),
+        BackupName::TooLong => false,
+    }
+}
+
+// Whether any backup stands. 01, Listings and file steps: "The search for a backup leaves both walks at the first hit."
+pub fn has_backup_files(src: &[u8], t: Table) -> bool
+    requires { ⌜ SoundTable (now src) t ⌝ }
+    ensures { λ r. ⌜ r ≡ hasBackupFiles (mapOf (now (src .entry)) t) ⌝ }
+{
+    let n = t.len;
+    let mut found = false;
+    let mut i: usize = 0;
+    'directories: while i < n {
+        let x = t.nodes[i];
+        let dir = x.dir;
+        if spans::is_backup(src, dir) {
+            found = true;
+            break 'directories;
+        }
+        // The nodes of this directory: its own, whose file name is empty, and those of its files.
+        while i < n {
+            let y = t.nodes[i];
+            let of = y.dir;
+            let file = y.file;
+            if !spans::same(src, dir, of) {
+                break;
+            }
+            if spans::is_backup(src, file) {
+                found = true;
+                break 'directories;
+            }
+            i += 1;
+        }
+    }
+    found
+}
+
+// Whether a previous run left work to do: 01, Modules in port order, "`has_pending_work` (yes or no)".
+pub fn has_pending_work(src: &[u8], s: Store) -> bool
+    requires { ⌜ SoundStore (now src) s ⌝ }
+    ensures { λ r. ⌜ r ≡ hasPendingWork (storeOf (now (src .entry)) s) ⌝ }
+{
+    let log = s.log;
+    if log.stands {
+        return true;
+    }
+    let t = s.tree;
+    if has_backup_files(src, t) {
+        return true;
+    }
+    let staging = s.staging;
+    staging.len > 0
+}
+
+// Whether an operation seems to have been applied: `has_new_artifacts`, for one operation. 01, Corners, recovery.rs: "A Write to an
+// existing key counts as a new artifact, though nothing was done."
+pub fn is_new_artifact(src: &[u8], t: Table, op: Operation) -> bool
+    requires { ⌜ SoundTable (now src) t × SoundOp (now src) op ⌝ }
+    ensures { λ r. ⌜ r ≡ isNewArtifact (mapOf (now (src .entry)) t) (opOf (now (src .entry)) op) ⌝ }
+{
+    match op {
+        Operation::Write(c, k, _) => {
+            if exists(src, t, c, k) {
+                return !has_backup(src, t, c, k);
+            }
+            false
+        }
+        Operation::CreateCollection(c) => dir_exists(src, t, c),
+        Operation::CopyCollection(_, b, existed) => {
+            if existed {
+                return false;
+            }
+            if dir_exists(src, t, b) {
+                return !has_backup_dir(src, t, b);
+            }
+            false
+        }
+        _ => false,
+    }
+}
+
+// Whether a directory holds no file.
+fn is_dir_empty(src: &[u8], t: Table, dir: NameRef) -> bool
+    requires { ⌜ SoundTable (now src) t × Sound (now src) dir ⌝ }
+    ensures { λ r. ⌜ r ≡ ifEmpty (files (nameOf (now (src .entry)) dir) (mapOf (now (src .entry)) t)) true false ⌝ }
+{
+    let n = t.len;
+    let mut i: usize = 0;
+    while i < n {
+        let x = t.nodes[i];
+        if is_file_of(src, x, dir) {
+            return false;
+        }
+        i += 1;
+    }
+    true
+}
+
+// Whether a node is a file of a directory, or a directory's own.
+fn is_file_of(src: &[u8], x: Node, dir: NameRef) -> bool
+    requires { ⌜ SoundNode (now src) x × Sound (now src) dir ⌝ }
+    ensures { λ r. ⌜ r ≡ isFileOf (nameOf (now (src .entry)) dir) (nodeOf (now (src .entry)) x) ⌝ }
+{
+    if is_dir(src, x) {
+        return false;
+    }
+    let of = x.dir;
+    spans::same(src, dir, of)
+}
+
+fn is_dir(src: &[u8], x: Node) -> bool
+    requires { ⌜ SoundNode (now src) x ⌝ }
+    ensures { λ r. ⌜ r ≡ isDir (nodeOf (now (src .entry)) x) ⌝ }
+{
+    let file = x.file;
+    spans::length_of(file) == 0
+}
+
+// Removes the file that a Write made, unless its backup stands.
+fn undo_write(src: &[u8], run: Run, dir: NameRef, key: NameRef) -> Run
+    requires { ⌜ SoundRun (now src) run × (Sound (now src) dir × Sound (now src) key) ⌝ }
+    ensures { λ r. ⌜ Follows plain (now (src .entry)) (undoWrite (nameOf (now (src .entry)) dir) (nameOf (now (src .entry)) key)) run r ⌝ }
+{
+    let s = run.store;
+    let t = s.tree;
+    if exists(src, t, dir, key) {
+        if has_backup(src, t, dir, key) {
+            return run;
+        }
+        return steps::advance(src, run, Step::RemoveFile(dir, key));
+    }
+    run
+}
+
+// Removes the directory that a CreateCollection made, if it is empty.
+fn undo_create(src: &[u8], run: Run, dir: NameRef) -> Run
+    requires { ⌜ SoundRun (now src) run × Sound (now src) dir ⌝ }
+    ensures { λ r. ⌜ Follows plain (now (src .entry)) (undoCreate (nameOf (now (src .entry)) dir)) run r ⌝ }
+{
+    let s = run.store;
+    let t = s.tree;
+    if dir_exists(src, t, dir) {
+        if is_dir_empty(src, t, dir) {
+            return steps::advance(src, run, Step::RemoveDirectory(dir));
+        }
+        return run;
+    }
+    run
+}
+
+// Removes the destination that a CopyCollection made, unless its backup stands.
+fn undo_copy(src: &[u8], run: Run, dir: NameRef) -> Run
+    requires { ⌜ SoundRun (now src) run × Sound (now src) dir ⌝ }
+    ensures { λ r. ⌜ Follows plain (now (src .entry)) (undoCopy (nameOf (now (src .entry)) dir)) run r ⌝ }
+{
+    let s = run.store;
+    let t = s.tree;
+    if dir_exists(src, t, dir) {
+        if has_backup_dir(src, t, dir) {
+            return run;
+        }
+        return steps::advance(src, run, Step::RemoveDirectory(dir));
+    }
+    run
+}
+
+// Removes the new artifact of an operation: `remove_new_artifacts`, for one operation.
+pub fn undo_operation(src: &[u8], run: Run, op: Operation) -> Run
+    requires { ⌜ SoundRun (now src) run × SoundOp (now src) op ⌝ }
+    ensures { λ r. ⌜ Follows plain (now (src .entry)) (undoSteps (opOf (now (src .entry)) op)) run r ⌝ }
+{
+    match op {
+        Operation::Write(c, k, _) => undo_write(src, run, c, k),
+        Operation::CreateCollection(c) => undo_create(src, run, c),
+        Operation::CopyCollection(_, b, existed) => {
+            if existed {
+                return run;
+            }
+            undo_copy(src, run, b)
+        }
+        _ => run,
+    }
+}
+
+// Removes a file, or a directory with its files, if it stands.
+fn clear_file(src: &[u8], run: Run, dir: NameRef, file: NameRef) -> Run
+    requires { ⌜ SoundRun (now src) run × (Sound (now src) dir × Sound (now src) file) ⌝ }
+    ensures { λ r. ⌜ Follows plain (now (src .entry)) (clearFile (nameOf (now (src .entry)) dir) (nameOf (now (src .entry)) file)) run r ⌝ }
+{
+    let s = run.store;
+    let t = s.tree;
+    if exists(src, t, dir, file) {
+        return steps::advance(src, run, Step::RemoveFile(dir, file));
+    }
+    run
+}
+
+fn clear_dir(src: &[u8], run: Run, dir: NameRef) -> Run
+    requires { ⌜ SoundRun (now src) run × Sound (now src) dir ⌝ }
+    ensures { λ r. ⌜ Follows plain (now (src .entry)) (clearDir (nameOf (now (src .entry)) dir)) run r ⌝ }
+{
+    let s = run.store;
+    let t = s.tree;
+    if dir_exists(src, t, dir) {
+        return steps::advance(src, run, Step::RemoveDirectory(dir));
+    }
+    run
+}
+
+// A backup takes the place of its original; a file with the extension of staging files goes.
+fn restore_file(src: &[u8], run: Run, dir: NameRef, file: NameRef) -> Run
+    requires { ⌜ SoundRun (now src) run × (Sound (now src) dir × Sound (now src) file) ⌝ }
+    ensures { λ r. ⌜ Follows plain (now (src .entry)) (restoreFile (nameOf (now (src .entry)) dir) (nameOf (now (src .entry)) file)) run r ⌝ }
+{
+    let o = spans::original(src, file);
+    match o {
+        OriginalName::Is(original) => {
+            let cleared = clear_file(src, run, dir, original);
+            steps::advance(src, cleared, Step::RenameFile(dir, file, original))
+        }
+        OriginalName::NotABackup => {
+            if spans::is_tmp(src, file) {
+                return steps::advance(src, run, Step::RemoveFile(dir, file));
+            }
+            run
+        }
+    }
+}
+
+// Restores the backups in one directory.
+fn restore_bak_files_in_dir(src: &[u8], run: Run, dir: NameRef) -> Run
+    requires { ⌜ SoundRun (now src) run × Sound (now src) dir ⌝ }
+    ensures { λ r. ⌜ Follows plain (now (src .entry)) (overFiles restoreFile (nameOf (now (src .entry)) dir)) run r ⌝ }
+{
+    let s = run.store;
+    let t = s.tree;
+    let n = t.len;
+    let mut work = run;
+    let mut i: usize = 0;
+    while i < n {
+        let x = t.nodes[i];
+        if is_file_of(src, x, dir) {
+            let file = x.file;
+            work = restore_file(src, work, dir, file);
+        }
+        i += 1;
+    }
+    work
+}
+
+// A directory that is a backup takes its original's place; in any other the files are restored.
+fn restore_directory(src: &[u8], run: Run, dir: NameRef) -> Run
+    requires { ⌜ SoundRun (now src) run × Sound (now src) dir ⌝ }
+    ensures { λ r. ⌜ Follows plain (now (src .entry)) (restoreDirectory (nameOf (now (src .entry)) dir)) run r ⌝ }
+{
+    let o = spans::original(src, dir);
+    match o {
+        OriginalName::Is(original) => {
+            let cleared = clear_dir(src, run, original);
+            steps::advance(src, cleared, Step::RenameDirectory(dir, original))
+        }
+        OriginalName::NotABackup => restore_bak_files_in_dir(src, run, dir),
+    }
+}
+
+// Restores every backup.
+pub fn rollback_partial_commit(src: &[u8], run: Run) -> Run
+    requires { ⌜ SoundRun (now src) run ⌝ }
+    ensures { λ r. ⌜ Follows plain (now (src .entry)) restoreBackups run r ⌝ }
+{
+    let s = run.store;
+    let t = s.tree;
+    let n = t.len;
+    let mut work = run;
+    let mut i: usize = 0;
+    while i < n {
+        let x = t.nodes[i];
+        if is_dir(src, x) {
+            let dir = x.dir;
+            work = restore_directory(src, work, dir);
+        }
+        i += 1;
+    }
+    work
+}
+
+// Removes the backups among a directory's files, a directory that is a backup, every backup.
+fn delete_backup_file(src: &[u8], run: Run, dir: NameRef, file: NameRef) -> Run
+    requires { ⌜ SoundRun (now src) run × (Sound (now src) dir × Sound (now src) file) ⌝ }
+    ensures { λ r. ⌜ Follows plain (now (src .entry)) (removeBackupFile (nameOf (now (src .entry)) dir) (nameOf (now (src .entry)) file)) run r ⌝ }
+{
+    if spans::is_backup(src, file) {
+        return steps::advance(src, run, Step::RemoveFile(dir, file));
+    }
+    run
+}
+
+fn delete_backup_files_in_dir(src: &[u8], run: Run, dir: NameRef) -> Run
+    requires { ⌜ SoundRun (now src) run × Sound (now src) dir ⌝ }
+    ensures { λ r. ⌜ Follows plain (now (src .entry)) (overFiles removeBackupFile (nameOf (now (src .entry)) dir)) run r ⌝ }
+{
+    let s = run.store;
+    let t = s.tree;
+    let n = t.len;
+    let mut work = run;
+    let mut i: usize = 0;
+    while i < n {
+        let x = t.nodes[i];
+        if is_file_of(src, x, dir) {
+            let file = x.file;
+            work = delete_backup_file(src, work, dir, file);
+        }
+        i += 1;
+    }
+    work
+}
+
+fn delete_backups_in(src: &[u8], run: Run, dir: NameRef) -> Run
+    requires { ⌜ SoundRun (now src) run × Sound (now src) dir ⌝ }
+    ensures { λ r. ⌜ Follows plain (now (src .entry)) (removeBackupsIn (nameOf (now (src .entry)) dir)) run r ⌝ }
+{
+    if spans::is_backup(src, dir) {
+        return steps::advance(src, run, Step::RemoveDirectory(dir));
+    }
+    delete_backup_files_in_dir(src, run, dir)
+}
+
+pub fn delete_all_backup_files(src: &[u8], run: Run) -> Run
+    requires { ⌜ SoundRun (now src) run ⌝ }
+    ensures { λ r. ⌜ Follows plain (now (src .entry)) removeBackups run r ⌝ }
+{
+    let s = run.store;
+    let t = s.tree;
+    let n = t.len;
+    let mut work = run;
+    let mut i: usize = 0;
+    while i < n {
+        let x = t.nodes[i];
+        if is_dir(src, x) {
+            let dir = x.dir;
+            work = delete_backups_in(src, work, dir);
+        }
+        i += 1;
+    }
+    work
+}
+
+// Removes every staging file.
+pub fn cleanup_staging_dir(src: &[u8], run: Run) -> Run
+    requires { ⌜ SoundRun (now src) run ⌝ }
+    ensures { λ r. ⌜ Follows plain (now (src .entry)) removeStagingFiles run r ⌝ }
+{
+    let s = run.store;
+    let t = s.staging;
+    let n = t.len;
+    let mut work = run;
+    let mut i: usize = 0;
+    while i < n {
+        let x = t.nodes[i];
+        let file = x.file;
+        work = steps::advance(src, work, Step::RemoveStaging(file));
+        i += 1;
+    }
+    work
+}
+
+// Removes the log, where one stands.
+pub fn remove_log(src: &[u8], run: Run) -> Run
+    requires { ⌜ SoundRun (now src) run ⌝ }
+    ensures { λ r. ⌜ Follows plain (now (src .entry)) removeStandingLog run r ⌝ }
+{
+    let s = run.store;
+    let log = s.log;
+    if log.stands {
+        return steps::advance(src, run, Step::RemoveLog);
+    }
+    run
+}

@@ -1,0 +1,6 @@
+pub mod Follow
+pub mod Picks
+pub mod Nodes
+pub mod Seek
+pub mod Vacant
+pub mod Over

@@ -4,3 +4,5 @@ pub mod Nodes
 pub mod Seek
 pub mod Vacant
 pub mod Over
+pub mod Kinds
+pub mod Pending

@@ -141,7 +141,7 @@ pub fn is_new_artifact(src: &[u8], t: Table, op: Operation) -> bool
             }
             false
         }
-        _ => false,
+        Operation::Delete(_, _) | Operation::DeleteAll(_) | Operation::DeleteCollection(_) => false,
     }
 }
 
@@ -244,7 +244,7 @@ pub fn undo_operation(src: &[u8], run: Run, op: Operation) -> Run
             }
             undo_copy(src, run, b)
         }
-        _ => run,
+        Operation::Delete(_, _) | Operation::DeleteAll(_) | Operation::DeleteCollection(_) => run,
     }
 }
 

@@ -1,9 +1,9 @@
 -- What `read_field` and `u32_at` find at a place.
 use mathlib.Core.Path.{_≡_, refl, sym, ap, _∙_}
-use mathlib.Core.List.{List, [], _∷_, _++_}
-use mathlib.Core.Option.{none, some}
+use mathlib.Core.List.{[], _∷_, _++_}
+use mathlib.Core.Option.{none}
 use mathlib.Core.Logic.{inl, inr}
-use Prim.Native.Nat.{ℕ, zero, suc, _+_, _*_, _-_, _≤_, _<_}
+use Prim.Native.Nat.{ℕ, zero, suc, _+_, _-_, _≤_, _<_}
 use native.Mathlib.Omega.{arith}
 use native.Mathlib.Numerals.{add-one}
 use lib.ListN.{length, take, drop, getD, length-drop, drop-of-length-le, take-append-drop}
@@ -25,12 +25,13 @@ use Rattle.field.proofs.Numbers.{bytes-again}
 next : (s : Bytes) (at k : ℕ) → k ≡ at + 1 → at < length s → drop at s ≡ getD s at 0 ∷ drop k s
 next s at k e h = rw (e, add-one) (drop-cons s at 0 h)
 
-pub three : (s : Bytes) (at : ℕ) → at + 3 ≤ length s → drop at s ≡ getD s at 0 ∷ getD s (at + 1) 0 ∷ getD s (at + 2) 0 ∷ drop (at + 3) s
+three : (s : Bytes) (at : ℕ) → at + 3 ≤ length s → drop at s ≡ getD s at 0 ∷ getD s (at + 1) 0 ∷ getD s (at + 2) 0 ∷ drop (at + 3) s
 three s at h = rw (next s at (at + 1) refl (omega arith), next s (at + 1) (at + 2) (omega arith) (omega arith), next s (at + 2) (at + 3) (omega arith) (omega arith))
 
 four : (s : Bytes) (at : ℕ) → at + 4 ≤ length s → drop at s ≡ getD s at 0 ∷ getD s (at + 1) 0 ∷ getD s (at + 2) 0 ∷ getD s (at + 3) 0 ∷ drop (at + 4) s
 four s at h = rw (three s at (omega arith), next s (at + 3) (at + 4) (omega arith) (omega arith))
 
+-- The number at a place: with four bytes there, as `u32_at` reads it, and without.
 module _ (s : Bytes) (at : ℕ) where
   pub number-there : at + 4 ≤ length s → u32At s at ≡ fromLittleEndian (take 4 (drop at s))
   unfolding u32At
@@ -50,12 +51,14 @@ too-few zero p h = absurd (omega arith)
 too-few (suc m) [] h = refl
 too-few (suc m) (x ∷ p) h = too-few m p (omega arith)
 
+-- A field whose length or value is cut off.
 cut-off : (s : Bytes) (at : ℕ) → at < length s → length s < at + 3 + fromLittleEndian (take 2 (drop (at + 1) s)) → fieldsFrom 0 (drop at s) ≡ none
 unfolding fieldsFrom
 cut-off s at l h =
     let e : length (drop (at + 1) s) ≡ length s - (at + 1) = length-drop (at + 1) s in
     rw (next s at (at + 1) refl l, too-few (2 + fromLittleEndian (take 2 (drop (at + 1) s))) (drop (at + 1) s) (omega arith))
 
+-- The answers of `read_field`; n is the length that it reads.
 module _ {s : Bytes} {at : ℕ} where
   pub headless : length s - at < 3 → Headless s at
   headless h = record {

@@ -1,12 +1,12 @@
 -- Laws of `written`, for all who write into lent bytes.
 use mathlib.Core.Path.{_≡_, refl, sym, ap, _∙_}
 use mathlib.Core.Bool.{Bool, true, false}
-use mathlib.Core.List.{List, [], _∷_, _++_, append-assoc}
-use Prim.Native.Nat.{ℕ, zero, suc, _+_, _-_, _≤_, _<_}
+use mathlib.Core.List.{[], _∷_, _++_, append-assoc}
+use Prim.Native.Nat.{ℕ, _+_, _-_, _≤_, _<_}
 use native.Mathlib.Omega.{arith}
 use native.Mathlib.Nat.{zero-add}
 use native.Mathlib.Numerals.{add-one}
-use lib.ListN.{length, take, drop, getD, set, length-append, length-drop, length-set}
+use lib.ListN.{length, take, drop, getD, set, length-append, length-set}
 use lib.Seq.{take-length, length-take-le, take-at, drop-at, drop-drop, paste, paste-zero, paste-suc, length-paste, sets, sets-eq}
 use lib.Dec.{leb}
 use borrow.Author.Tests.{le-leb, lt-leb, leb-true, leb-false}
@@ -24,6 +24,7 @@ pub written-full : (at : ℕ) (v out : Bytes) → length out < at + length v →
 unfolding written
 written-full at v out h = rw (lt-leb _ _ h)
 
+-- The lent bytes stay as many.
 pub length-written : (at : ℕ) (v out : Bytes) → length (written at v out) ≡ length out
 unfolding written
 length-written at v out = go (leb (at + length v) (length out)) refl
@@ -32,7 +33,7 @@ length-written at v out = go (leb (at + length v) (length out)) refl
     go true e = length-paste out at v (length v) (leb-true _ _ e) (omega arith)
     go false e = refl
 
--- Bytes that end where the lent bytes end, or none of them: the same with the test that code makes.
+-- The same by the test that code makes, which also passes where nothing is to be written past the end.
 pub written-left : (at : ℕ) (v out : Bytes) → length v ≤ length out - at → paste out at v (length v) ≡ written at v out
 unfolding written
 written-left at v out h = go (leb (at + length v) (length out)) refl
@@ -104,6 +105,7 @@ pub field-long : (at : ℕ) (f : Field) (out : Bytes) → 0xFFFF < length (f .va
 unfolding writtenField
 field-long at f out h = rw (lt-leb _ _ h)
 
+-- A field has three bytes more than its value.
 pub encoded-length : (f : Field) → length (encodeField f) ≡ 3 + length (f .value)
 unfolding encodeField littleEndian
 encoded-length f = omega arith

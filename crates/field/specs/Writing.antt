@@ -10,6 +10,7 @@ use Rattle.model.specs.Field.{Field, encodeField}
 unfoldable pub written : ℕ → Bytes → Bytes → Bytes
 written at bytes out = if leb (at + length bytes) (length out) then paste out at bytes (length bytes) else out
 
+-- The field of a tag and a value.
 abbrev pub field : ℕ → Bytes → Field
 field tag value = record { tag = tag; value = value }
 

@@ -21,14 +21,14 @@ pub enum Read {
     NoValue,
 }
 
-// How many of the first `len` places stand from `at` on.
+// How many of `len` bytes stand from `at` on.
 pub fn left(len: usize, at: usize) -> usize
     ensures { λ r. ⌜ r ≡ len - at ⌝ }
 {
     if at < len { len - at } else { 0 }
 }
 
-// The number of two bytes, little-endian.
+// The number of two bytes, little-endian, as a field's length has it.
 pub fn le16(a: u8, b: u8) -> u16
     ensures { λ r. ⌜ r ≡ fromLittleEndian (a ∷ b ∷ []) ⌝ }
 {
@@ -42,7 +42,7 @@ pub fn le32(a: u8, b: u8, c: u8, d: u8) -> u32
     le16(a, b) as u32 + 0x1_0000 * (le16(c, d) as u32)
 }
 
-// The number of the four bytes at `at`; 0 where they are not all there.
+// The number of the four bytes at `at`, as content numbers and the log have it; 0 where they are not all there.
 pub fn u32_at(s: &[u8], at: usize) -> u32
     ensures { λ r. ⌜ r ≡ u32At (now (s .entry)) at ⌝ }
 {
@@ -72,7 +72,7 @@ pub fn read_field(s: &[u8], at: usize) -> Read
     })
 }
 
-// Some bytes written at `at`.
+// Some bytes written at `at`. Here and below nothing is written where there is no room for all.
 pub fn put_bytes(out: &mut [u8], at: usize, s: &[u8])
     ensures { λ _. ⌜ now (out .exit) ≡ written at (now (s .entry)) (now (out .entry)) ⌝ }
 {
@@ -104,7 +104,7 @@ pub fn put_u16(out: &mut [u8], at: usize, n: u16)
     }
 }
 
-// A number written as four bytes, little-endian.
+// A number written as four bytes, little-endian (wal.rs, `to_le_bytes`).
 pub fn put_u32(out: &mut [u8], at: usize, n: u32)
     ensures { λ _. ⌜ now (out .exit) ≡ written at (littleEndian 4 n) (now (out .entry)) ⌝ }
 {
@@ -114,7 +114,7 @@ pub fn put_u32(out: &mut [u8], at: usize, n: u32)
     }
 }
 
-// A field's tag and length, without its value.
+// A field's tag and length, for a value that is written behind them.
 pub fn put_field_head(out: &mut [u8], at: usize, tag: u8, len: u16)
     ensures { λ _. ⌜ now (out .exit) ≡ written at (tag ∷ littleEndian 2 len) (now (out .entry)) ⌝ }
 {
@@ -124,7 +124,7 @@ pub fn put_field_head(out: &mut [u8], at: usize, tag: u8, len: u16)
     }
 }
 
-// A field, if its value has a length of two bytes.
+// A whole field, if two bytes hold the length of its value.
 pub fn write_field(out: &mut [u8], at: usize, tag: u8, value: &[u8])
     ensures { λ _. ⌜ now (out .exit) ≡ writtenField at (field tag (now (value .entry))) (now (out .entry)) ⌝ }
 {

@@ -1,5 +1,5 @@
 -- A key's bytes in lower case.
-use mathlib.Core.Path.{_≡_, refl, sym, ap, _∙_}
+use mathlib.Core.Path.{_≡_, sym}
 use Prim.Native.Nat.{ℕ}
 use lib.ListN.{length, getD, length-map, List·getD-map}
 use Rattle.model.specs.Base.{Bytes}

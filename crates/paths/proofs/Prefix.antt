@@ -1,14 +1,14 @@
 -- The first bytes that two names have in common, and what order the bytes behind them give.
 use mathlib.Core.Path.{_≡_, refl, sym, ap, _∙_}
-use mathlib.Core.List.{List, [], _∷_}
-use mathlib.Core.Bool.{Bool, true, false}
-use Prim.Native.Nat.{ℕ, zero, suc, _+_, _≤_, _<_, compare·zero-suc, compare·suc-suc}
+use mathlib.Core.List.{[], _∷_}
+use mathlib.Core.Bool.{true, false}
+use Prim.Native.Nat.{ℕ, zero, suc, _+_, _≤_, _<_}
 use native.Mathlib.Omega.{arith}
 use native.Mathlib.Numerals.{add-one}
 use lib.ListN.{length, take, drop, getD, drop-of-length-le}
 use lib.Seq.{take-suc, drop-cons}
 use Rattle.model.specs.Order.{Cmp, lt, eq, gt, caseCmp, cmpNat, Name, cmpName}
-use Rattle.laws.specs.OrderLaws.{natLaws, flip}
+use Rattle.laws.specs.OrderLaws.{natLaws, cmp-less, cmp-greater}
 use Rattle.paths.specs.declared.Order.{Order}
 use Rattle.paths.specs.Compare.{orderOf, Common}
 
@@ -41,14 +41,6 @@ cmp-drop (suc i) (x ∷ xs) (y ∷ ys) l r e =
     let h : x ≡ y = cc in
     let t : take i xs ≡ take i ys = cc in
     rw (← h, natLaws .reflexive x) (cmp-drop i xs ys (omega arith) (omega arith) t)
-
-cmp-less : (m n : ℕ) → m < n → cmpNat m n ≡ lt
-cmp-less m zero h = absurd (omega arith)
-cmp-less zero (suc n) h = rw compare·zero-suc
-cmp-less (suc m) (suc n) h = rw compare·suc-suc (cmp-less m n (omega arith))
-
-cmp-greater : (m n : ℕ) → n < m → cmpNat m n ≡ gt
-cmp-greater m n h = natLaws .turn n m ∙ ap flip (cmp-less n m h)
 
 module _ {a b : Name} {i : ℕ} (w : Common a b i) where
   behind : cmpName a b ≡ cmpName (drop i a) (drop i b)

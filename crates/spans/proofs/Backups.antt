@@ -10,6 +10,7 @@ use lib.Dec.{ltb, eqb, isEq}
 use lib.ListN.{length, getD, take, drop, drop-of-length-le}
 use lib.Seq.{drop-cons, take-take, take-append-seam}
 use borrow.Author.Tests.{ltb-true, lt-ltb, le-ltb}
+use Rattle.model.specs.Limits.{nameLimit}
 use Rattle.model.specs.Order.{caseCmp, thenCmp, ofOrdering, Name, cmpName}
 use Rattle.model.specs.Base.{Bytes, sameBytes}
 use Rattle.model.specs.Name.{backupName, backupExtension, originalName, isBackup}
@@ -22,11 +23,11 @@ use Rattle.spans.proofs.Parts.{dotBak, length-backup, length-name}
 
 module _ {src : Bytes} {r : NameRef} (s : Sound src r) where
   -- One ".bak" more.
-  pub one-more : lengthOf r ≤ 60 → Names src (record { start = r .start; len = r .len; baks = r .baks + 1 }) (backupName (nameOf src r))
+  pub one-more : lengthOf r + 4 ≤ nameLimit → Names src (record { start = r .start; len = r .len; baks = r .baks + 1 }) (backupName (nameOf src r))
   unfolding nameOf
   one-more h = record { sound = record { inside = s .inside; room = omega arith }; same = rw (add-one (r .baks)) }
 
-  pub too-long : 60 < lengthOf r → 64 < length (backupName (nameOf src r))
+  pub too-long : nameLimit < lengthOf r + 4 → nameLimit < length (backupName (nameOf src r))
   too-long h = omega (arith, length-name s, length-backup (nameOf src r))
 
 -- `ends_in`: fewer than five bytes, or the four bytes that it reads.

@@ -2,6 +2,7 @@ ghost use mathlib.Core.Path.{_≡_};
 ghost use mathlib.Core.List.{List, [], _∷_};
 ghost use Prim.Native.Nat.{ℕ, _≤_, _<_, _+_, _*_};
 ghost use lib.ListN.{length, getD, take, drop};
+ghost use Rattle.model.specs.Limits.{nameLimit};
 ghost use Rattle.model.specs.Order.{cmpName};
 ghost use Rattle.model.specs.Base.{sameBytes};
 ghost use Rattle.model.specs.Name.{isBackup, isTmp};
@@ -30,6 +31,9 @@ pub enum OriginalName {
     Is(NameRef),
     NotABackup,
 }
+
+// 01, How a store is handed over: "A name is 1 to 64 bytes".
+const NAME_LIMIT: usize = 64;
 
 // ".bak"
 const DOT_BAK: [u8; 4] = [0x2E, 0x62, 0x61, 0x6B];
@@ -67,7 +71,7 @@ pub fn empty() -> NameRef
 
 // A part of the bytes as a name.
 pub fn span(src: &[u8], start: usize, len: usize) -> NameRef
-    requires { ⌜ (start < 65536) × (len ≤ 64) × (start + len ≤ length (now src)) ⌝ }
+    requires { ⌜ (start < 65536) × (len ≤ nameLimit) × (start + len ≤ length (now src)) ⌝ }
     ensures { λ r. ⌜ Names (now (src .entry)) r (take len (drop start (now (src .entry)))) ⌝ }
 {
     NameRef {
@@ -101,7 +105,7 @@ pub fn byte_at(src: &[u8], r: NameRef, i: usize) -> u8
     }
 }
 
-// The order of two names: first the bytes that both have in their spans, then one by one.
+// 01, Listings and file steps: "in ascending byte order, a shorter name before a longer one that begins with it". First the bytes that both have in their spans, then one by one.
 pub fn compare(src: &[u8], a: NameRef, b: NameRef) -> Order
     requires { ⌜ Sound (now src) a × Sound (now src) b ⌝ }
     ensures { λ r. ⌜ orderOf r ≡ cmpName (nameOf (now (src .entry)) a) (nameOf (now (src .entry)) b) ⌝ }
@@ -178,7 +182,7 @@ fn ends_in(src: &[u8], r: NameRef, x: u8, y: u8, z: u8) -> bool
     a == 0x2E && (b == x && (c == y && d == z))
 }
 
-// Whether a name is a backup name: its extension is "bak".
+// Whether a name is a backup name: its extension is "bak" (recovery.rs, `BACKUP_EXTENSION`).
 pub fn is_backup(src: &[u8], r: NameRef) -> bool
     requires { ⌜ Sound (now src) r ⌝ }
     ensures { λ b. ⌜ b ≡ isBackup (nameOf (now (src .entry)) r) ⌝ }
@@ -186,7 +190,7 @@ pub fn is_backup(src: &[u8], r: NameRef) -> bool
     ends_in(src, r, 0x62, 0x61, 0x6B)
 }
 
-// Whether a name has the extension of staging files, "tmp".
+// Whether a name has the extension of staging files, "tmp" (recovery.rs, `STAGING_EXTENSION`).
 pub fn is_tmp(src: &[u8], r: NameRef) -> bool
     requires { ⌜ Sound (now src) r ⌝ }
     ensures { λ b. ⌜ b ≡ isTmp (nameOf (now (src .entry)) r) ⌝ }
@@ -194,13 +198,13 @@ pub fn is_tmp(src: &[u8], r: NameRef) -> bool
     ends_in(src, r, 0x74, 0x6D, 0x70)
 }
 
-// The backup name of a name, where that has at most 64 bytes.
+// The backup name of a name, where that has at most 64 bytes. 01, Sixteen numbers, 14: "backup name over 64 bytes".
 pub fn backup(src: &[u8], r: NameRef) -> BackupName
     requires { ⌜ Sound (now src) r ⌝ }
     ensures { λ b. ⌜ Backup (now (src .entry)) r b ⌝ }
 {
     let n = length_of(r);
-    if n <= 60 {
+    if n + 4 <= NAME_LIMIT {
         BackupName::Is(NameRef {
             start: r.start,
             len: r.len,
@@ -211,7 +215,7 @@ pub fn backup(src: &[u8], r: NameRef) -> BackupName
     }
 }
 
-// The name whose backup name it is, if it is one.
+// The name whose backup name it is, if it is one. 01, Corners, paths.rs: ""a.bak" is a backup; ".bak" has no extension".
 pub fn original(src: &[u8], r: NameRef) -> OriginalName
     requires { ⌜ Sound (now src) r ⌝ }
     ensures { λ o. ⌜ Original (now (src .entry)) r o ⌝ }

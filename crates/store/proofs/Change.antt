@@ -14,7 +14,7 @@ use Rattle.laws.specs.MapLaws.{Sorted, sorted-put, sorted-del}
 use Rattle.laws.specs.Tests.{All, all-append}
 use Rattle.store.specs.declared.Node.{Node}
 use Rattle.store.specs.declared.Table.{Table}
-use Rattle.store.specs.Places.{Hit, Gap, putIn}
+use Rattle.store.specs.Places.{Hit, Gap, putIn, tableRoom}
 use Rattle.store.specs.Tables.{keyOf, nodeOf, live, mapOf, SoundNode, Sized, SoundTable, Holds}
 use Rattle.store.proofs.Lists.{map-take, map-drop, all-take, all-drop}
 use Rattle.store.proofs.Live.{blank, length-live, length-table}
@@ -25,13 +25,13 @@ use Rattle.store.proofs.Shift.{Up, up-start, up-step, up-end, Down, dow
 -- `insert_at`, after the moves from the end down to i.
 pub record Raised (t u : Table) (p i : ℕ) : Type 0 where
   pub sound : Sized t
-  pub space : t .len < 145
-  pub size : length (u .nodes) ≡ 145
+  pub space : t .len < tableRoom
+  pub size : length (u .nodes) ≡ tableRoom
   pub from : p ≤ i
   pub below : i ≤ t .len
   pub up : Up (live t) (u .nodes) i
 
-pub raised-start : {t : Table} (p : ℕ) → Sized t → t .len < 145 → p ≤ t .len → Raised t t p (t .len)
+pub raised-start : {t : Table} (p : ℕ) → Sized t → t .len < tableRoom → p ≤ t .len → Raised t t p (t .len)
 raised-start {t} p s h k = record { sound = s; space = h; size = s .size; from = k; below = omega arith; up = up-start (t .nodes) (t .len) blank (omega (arith, s .size)) }
 
 module _ {t u : Table} {p i : ℕ} (r : Raised t u p i) where
@@ -55,7 +55,7 @@ module _ {t u : Table} {p i : ℕ} (r : Raised t u p i) where
 -- `remove_at`, after the moves from its place up to i.
 pub record Lowered (t u : Table) (p i : ℕ) : Type 0 where
   pub sound : Sized t
-  pub size : length (u .nodes) ≡ 145
+  pub size : length (u .nodes) ≡ tableRoom
   pub below : i < t .len
   pub down : Down (live t) (u .nodes) p i
 
@@ -83,7 +83,7 @@ pub holds : {src : Bytes} {r : Table} {m : model.Map} → Sized r → All (Sound
 holds z a e s = record { sound = record { sized = z; each = a; sorted = rw e s }; same = e }
 
 module _ {src : Bytes} {t : Table} (s : SoundTable src t) where
-  pub put-full : (k : Key) (v : ℕ) → 145 ≤ t .len → Holds src t (putIn k v (mapOf src t))
+  pub put-full : (k : Key) (v : ℕ) → tableRoom ≤ t .len → Holds src t (putIn k v (mapOf src t))
   put-full k v h = record { sound = s; same = sym (full-put k v (mapOf src t) (omega (arith, length-table src (s .sized)))) }
 
   -- The nodes before i and from j on, with some between them.
@@ -99,7 +99,7 @@ module _ {src : Bytes} {t : Table} (s : SoundTable src t) where
   unfolding mapOf
   changed {r} {m} i j l z e h q o = holds z (rw e (around i j l h)) (ap (map (nodeOf src)) e ∙ map-around i j l ∙ sym q) o
 
-  module _ {x : Node} (sx : SoundNode src x) (h : t .len < 145) where
+  module _ {x : Node} (sx : SoundNode src x) (h : t .len < tableRoom) where
     sorted : Sorted (putIn (keyOf src (x .dir) (x .file)) (x .number) (mapOf src t))
     sorted = rw (room-put (keyOf src (x .dir) (x .file)) (x .number) (mapOf src t) (omega (arith, length-table src (s .sized)))) (sorted-put (keyOf src (x .dir) (x .file)) (x .number) (mapOf src t) (s .sorted))
 

@@ -19,7 +19,7 @@ use Rattle.spans.specs.Spans.{orderOf}
 use Rattle.spans.specs.declared.Order.{Order}
 use Rattle.store.specs.declared.Node.{Node}
 use Rattle.store.specs.declared.Table.{Table}
-use Rattle.store.specs.Places.{Under, Gap, aboveLast}
+use Rattle.store.specs.Places.{Under, Gap, aboveLast, tableRoom}
 use Rattle.store.specs.Tables.{keyOf, nodeOf, live, mapOf, SoundNode, SoundTable, Holds}
 use Rattle.store.proofs.Lists.{drop-zero}
 use Rattle.store.proofs.Live.{length-table, node-at, finished}
@@ -71,7 +71,7 @@ module _ {src : Bytes} {t : Table} (s : SoundTable src t) where
       let l : t .len - 1 < t .len = omega arith in
       sym (last-told k (mapOf src t) (t .len - 1) (nodeOf src d) (omega (arith, length-table src (s .sized))) ∙ ap (λ (n : model.Node). caseCmp (cmpKey (n .0) k) true false false) (node-at src (s .sized) (t .len - 1) d l) ∙ ap (λ x. caseCmp x true false false) (sym c ∙ ap orderOf e))
 
-  pub appended : {x : Node} → SoundNode src x → t .len < 145 → aboveLast (keyOf src (x .dir) (x .file)) (mapOf src t) ≡ true → Holds src (record { nodes = set (t .nodes) (t .len) x; len = t .len + 1 }) (mapOf src t ++ nodeOf src x ∷ [])
+  pub appended : {x : Node} → SoundNode src x → t .len < tableRoom → aboveLast (keyOf src (x .dir) (x .file)) (mapOf src t) ≡ true → Holds src (record { nodes = set (t .nodes) (t .len) x; len = t .len + 1 }) (mapOf src t ++ nodeOf src x ∷ [])
   unfolding mapOf
   appended {x} sx h a =
       let k : Key = keyOf src (x .dir) (x .file) in

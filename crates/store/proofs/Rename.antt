@@ -18,7 +18,7 @@ use Rattle.spans.specs.Spans.{nameOf, Sound}
 use Rattle.spans.specs.declared.NameRef.{NameRef}
 use Rattle.store.specs.declared.Node.{Node}
 use Rattle.store.specs.declared.Table.{Table}
-use Rattle.store.specs.Places.{Over, putIn}
+use Rattle.store.specs.Places.{Over, putIn, tableRoom}
 use Rattle.store.specs.Tables.{keyOf, nodeOf, mapOf, SoundTable, Holds}
 use Rattle.store.proofs.Lists.{drop-zero}
 use Rattle.store.proofs.Live.{length-table, rest, finished}
@@ -173,7 +173,7 @@ module _ {src : Bytes} {t u : Table} {from to : NameRef} {i : ℕ} (w : Renaming
   moved {v} {r} e p q =
       let k : Key = keyOf src to (x .file) in
       let c = counted e in
-      let l : length (mapOf src u) < 145 = omega (arith, length-table src (w .sound-now .sized), w .room, w .sound .sized .room) in
+      let l : length (mapOf src u) < tableRoom = omega (arith, length-table src (w .sound-now .sized), w .room, w .sound .sized .room) in
       let z : mapOf src r ≡ put k (x .number) (mapOf src u) = q .same ∙ room-put k (x .number) (mapOf src u) l in
       let m : length (mapOf src r) ≤ 1 + length (mapOf src u) = rw (z, length-size (put k (x .number) (mapOf src u)), length-size (mapOf src u)) (size-put-le one k (x .number) (mapOf src u)) in
       record {

@@ -17,6 +17,7 @@ use Rattle.spans.specs.Spans.{nameOf, Sound}
 use Rattle.spans.specs.declared.NameRef.{NameRef}
 use Rattle.store.specs.declared.Node.{Node}
 use Rattle.store.specs.declared.Table.{Table}
+use Rattle.store.specs.Places.{tableRoom}
 use Rattle.store.specs.Tables.{nodeOf, mapOf, SoundNode, SoundTable, Holds}
 use Rattle.store.proofs.Lists.{all-zero}
 use Rattle.store.proofs.Live.{sound-at}
@@ -46,7 +47,7 @@ pub record Sweep (src : Bytes) (t u : Table) (dir : NameRef) (i j : ℕ) : Type 
   pub sound-dir : Sound src dir
   pub within : i ≤ t .len
   pub below : j ≤ i
-  pub size : length (u .nodes) ≡ 145
+  pub size : length (u .nodes) ≡ tableRoom
   pub each : All (SoundNode src) (take j (u .nodes))
   pub front : map (nodeOf src) (take j (u .nodes)) ≡ removeDir (nameOf src dir) (map (nodeOf src) (take i (t .nodes)))
 

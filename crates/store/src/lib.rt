@@ -12,7 +12,7 @@ ghost use Rattle.store.specs.Tables.{keyOf, nodeOf, live, mapOf, SoundNo
 use spans::NameRef;
 use spans::Order;
 
-// 16 directories and 128 files, and one node more.
+// 01, How a store is handed over: "At most 16 directories, 128 files"; and one node more, so that a put within these limits has room.
 const ROOM: usize = 145;
 
 // A directory's own node has the empty file name and number 0; a staging file's has the empty directory name.
@@ -22,7 +22,8 @@ pub struct Node {
     pub number: u32,
 }
 
-// Nodes ascending by directory and file: those before `len` are in use.
+// A tree, or the staging files. 01, How a store is handed over: directories "in ascending byte order of name", each "followed by its files
+// ascending". The nodes before `len` are in use.
 pub struct Table {
     pub nodes: [Node; ROOM],
     pub len: usize,
@@ -205,7 +206,7 @@ pub fn del(src: &[u8], t: Table, dir: NameRef, file: NameRef) -> Table
     }
 }
 
-// The table without a directory and its files.
+// The table without a directory and its files (step 0x29).
 pub fn remove_dir(src: &[u8], t: Table, dir: NameRef) -> Table
     requires { ⌜ SoundTable (now src) t × Sound (now src) dir ⌝ }
     ensures { λ r. ⌜ Holds (now (src .entry)) r (removeDir (nameOf (now (src .entry)) dir) (mapOf (now (src .entry)) t)) ⌝ }
@@ -227,7 +228,7 @@ pub fn remove_dir(src: &[u8], t: Table, dir: NameRef) -> Table
     u
 }
 
-// The table with a directory renamed. What stands in the other directory stays, but for files of the same names.
+// The table with a directory renamed (step 0x26). What stands in the other directory stays, but for files of the same names.
 pub fn rename_dir(src: &[u8], t: Table, from: NameRef, to: NameRef) -> Table
     requires { ⌜ SoundTable (now src) t × (Sound (now src) from × Sound (now src) to) ⌝ }
     ensures { λ r. ⌜ Holds (now (src .entry)) r (renameDir (nameOf (now (src .entry)) from) (nameOf (now (src .entry)) to) (mapOf (now (src .entry)) t) (mapOf (now (src .entry)) t)) ⌝ }

@@ -47,11 +47,11 @@ pub makes : {src : Bytes} (k : ℕ) {l : List NameRef} → SoundParts src l →
     Makes src k l (choose k (getD l 1 noName) (getD l 2 noName) (getD l 3 noName) (sameBytes (nameOf src (getD l 3 noName)) (1 ∷ [])))
 unfolding made makers
 makes {src} k {l} h = four
-  (λ l. All (Sound src) l → Makes src k l (choose k (getD l 1 noName) (getD l 2 noName) (getD l 3 noName) (sameBytes (nameOf src (getD l 3 noName)) (1 ∷ []))))
-  (go k)
-  l
-  (h .size)
-  (h .sound)
+    (λ l. All (Sound src) l → Makes src k l (choose k (getD l 1 noName) (getD l 2 noName) (getD l 3 noName) (sameBytes (nameOf src (getD l 3 noName)) (1 ∷ []))))
+    (go k)
+    l
+    (h .size)
+    (h .sound)
   where
     go : (k : ℕ) (o a b c : NameRef) → All (Sound src) (o ∷ a ∷ b ∷ c ∷ []) → Makes src k (o ∷ a ∷ b ∷ c ∷ []) (choose k a b c (sameBytes (nameOf src c) (1 ∷ [])))
     go zero o a b c h = record { sound = tt; same = refl }

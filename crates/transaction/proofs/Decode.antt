@@ -9,7 +9,7 @@ use native.Mathlib.Omega.{arith}
 use native.Mathlib.Numerals.{add-one}
 use lib.Dec.{leb, eqb}
 use lib.ListN.{length, take, drop, set, getD, getElem?, length-drop, length-set, drop-of-length-le}
-use lib.Seq.{drop-cons, length-take-le, getD-take, take-suc-set}
+use lib.Seq.{drop-cons, take-all, length-take-le, getD-take, take-suc-set}
 use borrow.Author.Tests.{leb-true, leb-false, eqb-true, eqb-false}
 use types.Run.{OneOf}
 use denote.Enum.Declared.{tagOf}
@@ -26,12 +26,13 @@ use Rattle.field.specs.declared.Item.{Item}
 use Rattle.field.specs.declared.Read.{Read}
 use Rattle.field.proofs.Read.{the-type}
 use Rattle.transaction.specs.Rows.{tagsIn, matchRow, SoundParts, Matches, made}
+use Rattle.transaction.proofs.Lists.{map-append, all-set}
 use Rattle.transaction.proofs.Same.{not-same}
 use Rattle.transaction.proofs.Checks.{short-value}
 use Rattle.transaction.proofs.Arms.{noName}
 
 -- What a list of fields gives under some tags.
-matched : List ℕ → List Field → Option (List Bytes)
+unfoldable pub matched : List ℕ → List Field → Option (List Bytes)
 matched ts fs = if sameBytes (map (λ f. f .tag) fs) ts && allOf validValue fs then some (map (λ f. f .value) fs) else none
 
 same-head : (x : ℕ) (l m : Bytes) → sameBytes (x ∷ l) (x ∷ m) ≡ sameBytes l m
@@ -63,7 +64,7 @@ module _ (t : ℕ) (ts : List ℕ) (f : Field) (fs : List Field) where
       go false b = refl
 
 -- The same of the bytes at a place.
-row-of-bytes : (ts : List ℕ) (b : Bytes) → matchRow ts b ≡ caseOption (fieldsFrom 0 b) none (matched ts)
+pub row-of-bytes : (ts : List ℕ) (b : Bytes) → matchRow ts b ≡ caseOption (fieldsFrom 0 b) none (matched ts)
 unfolding matchRow decodeFields matched
 row-of-bytes ts b = refl
 
@@ -130,15 +131,6 @@ row-end s at l = row-of-bytes [] (drop at s) ∙ go (eqb at (length s)) refl
     go : (b : Bool) → eqb at (length s) ≡ b → caseOption (fieldsFrom 0 (drop at s)) none (matched []) ≡ (if b then some [] else none)
     go true e = rw (drop-of-length-le s {i = at} (omega (arith, eqb-true at (length s) e)))
     go false e = rw (drop-cons s at 0 (below at (length s) l (eqb-false at (length s) e))) (more-bytes (getD s at 0) (drop (suc at) s))
-
-map-append : {A B : Type 0} (f : A → B) (l m : List A) → map f (l ++ m) ≡ map f l ++ map f m
-map-append f [] m = refl
-map-append f (a ∷ l) m = ap (f a ∷_) (map-append f l m)
-
-all-set : {A : Type 0} (P : A → Type 0) (l : List A) (i : ℕ) (a : A) → All P l → P a → All P (set l i a)
-all-set P [] i a h p = tt
-all-set P (b ∷ l) zero a h p = (p, h .1)
-all-set P (b ∷ l) (suc i) a h p = (h .0, all-set P l i a (h .1) p)
 
 -- Before the first field.
 pub no-parts : (s : Bytes) → SoundParts s (noName ∷ noName ∷ noName ∷ noName ∷ [])

@@ -9,12 +9,12 @@ use lib.Seq.{take-suc, take-all, length-take-le, getD-take, take-append-seam}
 use Rattle.model.specs.Base.{Bytes, flatMap}
 use Rattle.model.specs.Field.{Field, encodeField, encodeFields}
 use Rattle.model.specs.Operation.{fieldTags, kind, values, tagged, encodePayload}
-use Rattle.laws.specs.Tests.{All}
 use Rattle.spans.specs.Spans.{nameOf, lengthOf, Sound}
 use Rattle.spans.specs.declared.NameRef.{NameRef}
 use Rattle.spans.proofs.Parts.{length-name}
 use Rattle.field.specs.Writing.{written, field, writtenField}
 use Rattle.field.proofs.Written.{written-then, written-nil, written-front, length-written, encoded-length, field-short}
+use Rattle.transaction.proofs.Lists.{map-at}
 use Rattle.transaction.specs.Operations.{opOf, payloadOf, Encodes}
 use Rattle.transaction.specs.Rows.{columnOf, Columns, Puts}
 use Rattle.transaction.specs.declared.Operation.{Operation}
@@ -38,17 +38,7 @@ module _ (src : Bytes) {tag at : ℕ} {out new : Bytes} {v : Column} where
     small = omega (arith, l, s .room);
   })
 
--- Where lists are read.
-pub all-at : {A : Type 0} (P : A → Type 0) (l : List A) (i : ℕ) (d : A) → All P l → i < length l → P (getD l i d)
-all-at P [] i d h l = absurd (omega arith)
-all-at P (a ∷ r) zero d h l = h .0
-all-at P (a ∷ r) (suc i) d h l = all-at P r i d (h .1) (omega arith)
-
-map-at : {A : Type 0} (f : A → Bytes) (l : List A) (i : ℕ) (d : A) → i < length l → getD (map f l) i [] ≡ f (getD l i d)
-map-at f [] i d h = absurd (omega arith)
-map-at f (a ∷ l) zero d h = refl
-map-at f (a ∷ l) (suc i) d h = map-at f l i d (omega arith)
-
+-- Fields by their places.
 tagged-at : (ts : List ℕ) (vs : List Bytes) (i : ℕ) (d : Field) → i < length ts → i < length vs → getD (tagged ts vs) i d ≡ field (getD ts i 0) (getD vs i [])
 unfolding tagged
 tagged-at [] vs i d h g = absurd (omega arith)
@@ -97,7 +87,7 @@ module _ {src : Bytes} {row : List ℕ} {cs : List Column} {n : ℕ} {start byte
       let lr : length (take n row) ≡ n = length-take-le n row k in
       let lc : length (take n cs) ≡ n = length-take-le n cs q in
       let lm : length (map (columnOf src) (take n cs)) ≡ n = length-map (take n cs) (columnOf src) ∙ lc in
-      let it : getD fs i f ≡ f = tagged-at _ _ i f (omega arith) (omega arith) ∙ ap₂ field (getD-take n row i 0 h) (map-at (columnOf src) (take n cs) i d (omega arith) ∙ ap (columnOf src) (getD-take n cs i d h)) in
+      let it : getD fs i f ≡ f = tagged-at _ _ i f (omega arith) (omega arith) ∙ ap₂ field (getD-take n row i 0 h) (map-at (columnOf src) (take n cs) i d [] (omega arith) ∙ ap (columnOf src) (getD-take n cs i d h)) in
       let lf : length fs ≡ n = length-tagged _ _ (omega arith) ∙ lr in
       let next : take (i + 1) fs ≡ take i fs ++ f ∷ [] = rw (add-one i) (take-suc fs i f (omega arith) ∙ ap (λ (g : Field). take i fs ++ g ∷ []) it) in
       let all : encodeFields (take (i + 1) fs) ≡ encodeFields (take i fs) ++ encodeField f = ap encodeFields next ∙ fields-behind (take i fs) (f ∷ []) ∙ ap (encodeFields (take i fs) ++_) (one-field f) in

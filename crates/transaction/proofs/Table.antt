@@ -71,9 +71,9 @@ module _ {row : List ℕ} {n : ℕ} (w : Counting row n) (size : length row ≡ 
   count-on h l = record {
     within = omega arith;
     same = rw (add-one n) (
-      let t : tagsIn (drop n row) ≡ getD row n 0 ∷ tagsIn (drop (suc n) row) = ap tagsIn (drop-cons row n 0 (omega arith)) ∙ tags-next (getD row n 0) (drop (suc n) row) h in
-      ap (_++ tagsIn (drop (suc n) row)) (take-suc row n 0 (omega arith)) ∙ append-assoc (take n row) (getD row n 0 ∷ []) (tagsIn (drop (suc n) row)) ∙ ap (take n row ++_) (sym t) ∙ w .same
-    );
+        let t : tagsIn (drop n row) ≡ getD row n 0 ∷ tagsIn (drop (suc n) row) = ap tagsIn (drop-cons row n 0 (omega arith)) ∙ tags-next (getD row n 0) (drop (suc n) row) h in
+        ap (_++ tagsIn (drop (suc n) row)) (take-suc row n 0 (omega arith)) ∙ append-assoc (take n row) (getD row n 0 ∷ []) (tagsIn (drop (suc n) row)) ∙ ap (take n row ++_) (sym t) ∙ w .same
+        );
   }
 
   pub all-counted : 4 ≤ n → take n row ≡ tagsIn row

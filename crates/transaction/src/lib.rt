@@ -254,7 +254,12 @@ fn columns_of(op: Operation) -> [Column; 4]
     let none = Column::Byte(0);
     match op {
         Operation::Write(c, k, s) => {
-            [Column::Byte(1), Column::Name(c), Column::Name(k), Column::Name(s)]
+            [
+                Column::Byte(1),
+                Column::Name(c),
+                Column::Name(k),
+                Column::Name(s),
+            ]
         }
         Operation::Delete(c, k) => [Column::Byte(2), Column::Name(c), Column::Name(k), none],
         Operation::DeleteAll(c) => [Column::Byte(3), Column::Name(c), none, none],
@@ -262,7 +267,12 @@ fn columns_of(op: Operation) -> [Column; 4]
         Operation::DeleteCollection(c) => [Column::Byte(5), Column::Name(c), none, none],
         Operation::CopyCollection(a, b, x) => {
             let mark = mark_of(x);
-            [Column::Byte(6), Column::Name(a), Column::Name(b), Column::Byte(mark)]
+            [
+                Column::Byte(6),
+                Column::Name(a),
+                Column::Name(b),
+                Column::Byte(mark),
+            ]
         }
     }
 }

@@ -1,77 +1,66 @@
+-- `transaction::decode_operation` meets its contract: the row of the first field's kind says what the fields must be.
+use mathlib.Core.Path.{sym, _∙_}
+use native.Mathlib.Omega.{arith}
+use lib.ListN.{take}
+use lib.Seq.{length-take-le}
 use borrow.Author.Needs.{needs}
+use borrow.Author.Tests.{not-true, not-false}
+use Rattle.field.specs.Reading.{Stands}
+use Rattle.field.proofs.Fields.{is-field}
+use Rattle.transaction.proofs.Payloads.{no-kind-field, wide-parts, end-first, past-end, too-long, undecodable, no-fit, fits}
 use Rattle.transaction.proofs.decode_operation.Statement.{statement}
 use Rattle.transaction.proofs.decode_operation.Tie as tie
-use Rattle.transaction.proofs.decode_operation.Reads as reads
-use Rattle.transaction.proofs.decode_operation.Lts as lts
-use Rattle.field.proofs.read_field.Reads as read-field-reads
-use Rattle.transaction.proofs.first.Reads as first-reads
-use Rattle.transaction.proofs.operation_of.Reads as operation-of-reads
-use Rattle.transaction.proofs.read_row.Reads as read-row-reads
-use Rattle.transaction.proofs.row_of.Reads as row-of-reads
 
--- src/lib.rt:206:9
+stood : (c : tie.After-x) → Stands (take (c .before .before .before .before .before .before .before .before .args .end) (c .before .before .before .before .before .before .before .before .args .src .now)) (c .before .before .before .before .before .before .before .before .args .start) (c .x .given .0 .0)
+stood c = is-field _ _ _ (c .before .before .read-field .ensures) _ (c .x .given .1)
+
 returns : tie.Need-returns
-returns c = ?
+returns c = end-first (omega arith)
 
--- src/lib.rt:209:9
 returns-2 : tie.Need-returns-2
-returns-2 c = ?
+returns-2 c = past-end (omega arith)
 
--- src/lib.rt:212:9
 returns-3 : tie.Need-returns-3
-returns-3 c = ?
+returns-3 c = too-long (omega arith)
 
--- src/lib.rt:214:9
 slice-aggregate-s : tie.Need-slice-aggregate-s
-slice-aggregate-s c = ?
+slice-aggregate-s c = sym (length-take-le (c .before .before .before .before .before .args .end) (c .before .before .before .before .before .args .src .now) (omega arith))
 
--- src/lib.rt:215:23
 read-field-requires : tie.Need-read-field-requires
 read-field-requires c κs = search needs
 
--- src/lib.rt:215:18
 enum-known-x : tie.Need-enum-known-x
 enum-known-x c = search needs
 
--- src/lib.rt:216:9
 returns-4 : tie.Need-returns-4
-returns-4 c = ?
+returns-4 c = undecodable _ _ _ (omega arith) (omega arith) (omega arith) (no-kind-field _ _ _ (c .before .read-field .ensures) (c .match .keys2))
 
--- src/lib.rt:220:22
 sub-first : tie.Need-sub-first
-sub-first c = ?
+sub-first c = stood (c .before) .ordered
 
--- src/lib.rt:220:22
 part-first-start : tie.Need-part-first-start
-part-first-start c = ?
+part-first-start c = let w = stood (c .before) in omega arith
 
--- src/lib.rt:220:22
 part-first-end : tie.Need-part-first-end
-part-first-end c = ?
+part-first-end c = let w = stood (c .before) in omega arith
 
--- src/lib.rt:220:9
 first-requires : tie.Need-first-requires
 first-requires c κs = search needs
 
--- src/lib.rt:221:32
 row-of-requires : tie.Need-row-of-requires
 row-of-requires c κs = search needs
 
--- src/lib.rt:221:9
 read-row-requires : tie.Need-read-row-requires
-read-row-requires c κs = ?
+read-row-requires c κs = let l = length-take-le (c .before .before .before .before .before .before .before .before .before .before .before .before .args .end) (c .before .before .before .before .before .before .before .before .before .before .before .before .args .src .now) (omega arith) in (omega arith, omega arith)
 
--- src/lib.rt:223:9
 returns-5 : tie.Need-returns-5
-returns-5 c = ?
+returns-5 c = no-fit _ _ _ (omega arith) (omega arith) (omega arith) _ (stood (c .before .before .before .before .before .before .before)) (c .before .before .before .before .first .ensures) (rw (c .before .before .before .row-of .ensures) at (c .before .before .read-row .ensures)) (not-true _ (c .if4 .taken))
 
--- src/lib.rt:226:5
 operation-of-requires : tie.Need-operation-of-requires
-operation-of-requires c κs = ?
+operation-of-requires c κs = wide-parts (c .before .before .before .before .before .before .before .before .before .before .before .before .before .before .before .before .args .end) (c .before .before .before .before .before .before .before .before .before .before .before .before .before .before .before .before .args .src .now) (omega arith) (c .before .before .before .read-row .ensures .parts)
 
--- src/lib.rt:202:1
 returns-6 : tie.Need-returns-6
-returns-6 c = ?
+returns-6 c = fits _ _ _ (omega arith) (omega arith) (omega arith) _ (stood (c .before .before .before .before .before .before .before .before .before)) (c .before .before .before .before .before .before .first .ensures) (rw (c .before .before .before .before .before .row-of .ensures) at (c .before .before .before .before .read-row .ensures)) (not-false _ (c .before .before .if4 .left)) (c .operation-of .ensures)
 
 pub decode-operation-spec : {M : Type 1} → statement M
 decode-operation-spec =

@@ -3,7 +3,8 @@ use Prim.Native.Nat.{_-_}
 use mathlib.Core.Path.{refl, ap, _∙_}
 use native.Mathlib.Omega.{arith}
 use borrow.Author.Needs.{needs}
-use Rattle.transaction.proofs.Encode.{Encoding, no-fields, one-more, encodes, all-at}
+use Rattle.transaction.proofs.Encode.{Encoding, no-fields, one-more, encodes}
+use Rattle.transaction.proofs.Lists.{all-at}
 use Rattle.model.specs.Operation.{fieldTags}
 use Rattle.transaction.specs.Rows.{SoundColumn}
 use Rattle.transaction.proofs.payload_of.Statement.{statement}

@@ -1,5 +1,4 @@
 -- `transaction::read_row` meets its contract: a field a turn, against the row's tags.
--- The field that the turn found, and that its value is valid.
 use Prim.Native.Nat.{_-_}
 use mathlib.Core.Path.{sym, _∙_}
 use native.Mathlib.Omega.{arith}
@@ -17,6 +16,7 @@ Inv-loop s start row parts₀ n at₀ i₀ parts at i = Matching s start row n p
 abbrev μ-loop : tie.MeasureT-loop
 μ-loop s start row parts₀ n at₀ i₀ parts at i = n - i
 
+-- The field that the turn found.
 stood : (c : tie.After-x Inv-loop μ-loop) → Stands (c .before .before .before .before .before .before .before .args .s .now) (c .before .before .before .before .loop .at) (c .x .given .0 .0)
 stood c = is-field _ _ _ (c .before .before .read-field .ensures) _ (c .x .given .1)
 

@@ -4,5 +4,7 @@ pub mod Nodes
 pub mod Seek
 pub mod Vacant
 pub mod Over
-pub mod Kinds
+pub mod Artifacts
 pub mod Pending
+pub mod Entries
+pub mod Journals

@@ -6,8 +6,8 @@ use Rattle.model.specs.Map.{Node, look}
 use Rattle.model.specs.Base.{ifEmpty, ifPresent, ifMissing}
 use Rattle.model.specs.Name.{backupName}
 use Rattle.model.specs.Store.{Store, files}
-use Rattle.model.specs.Step.{Step, removeFile, removeDirectory}
-use Rattle.model.specs.Plan.{inTurn}
+use Rattle.model.specs.Step.{Step, removeFile, removeDirectory, removeLog}
+use Rattle.model.specs.Plan.{inTurn, inSequence, removeStagingFiles}
 
 -- A node is a file of d, or a directory's own.
 unfoldable pub isFileOf : Name → Node → Bool
@@ -36,3 +36,7 @@ undoCreate c s = ifPresent (look (c, []) (s .tree)) (ifEmpty (files c (s .tree))
 
 unfoldable pub undoCopy : Name → Store → List Step
 undoCopy b s = ifPresent (look (b, []) (s .tree)) (ifMissing (look (backupName b, []) (s .tree)) (removeDirectory b ∷ []))
+
+-- What recovery does in any case where a valid log stands.
+abbrev pub cleanUp : Store → List Step
+cleanUp = inSequence ((λ s. removeLog ∷ []) ∷ removeStagingFiles ∷ [])

@@ -1,30 +1,40 @@
 // Recovery of an interrupted transaction: recovery.rs. A walk goes through the table as it stood where the walk starts: 01, Listings and
 // file steps, "A directory is listed as it stands when its walk starts, in ascending byte order".
 ghost use mathlib.Core.Path.{_≡_};
-ghost use mathlib.Core.List.{[]};
+ghost use mathlib.Core.List.{[], reverse};
 ghost use mathlib.Core.Bool.{true, false};
-ghost use Rattle.model.specs.Base.{ifEmpty, isSome};
+ghost use Prim.Native.Nat.{_≤_};
+ghost use lib.ListN.{length};
+ghost use Rattle.model.specs.Base.{ifEmpty, isSome, anyOf};
 ghost use Rattle.model.specs.Map.{look};
 ghost use Rattle.model.specs.Name.{backupName};
+ghost use Rattle.model.specs.Log.{entries, journal, absent, committing};
 ghost use Rattle.model.specs.Store.{files, hasBackupFiles, hasPendingWork};
-ghost use Rattle.model.specs.Plan.{undoSteps, restoreFile, restoreDirectory, restoreBackups, removeBackupFile, removeBackupsIn, removeBackups, removeStagingFiles, removeStandingLog, isNewArtifact};
+ghost use Rattle.model.specs.Plan.{inTurn, inSequence, recoverParts, recoverFault, undoSteps, restoreFile, restoreDirectory, restoreBackups, removeBackupFile, removeBackupsIn, removeBackups, removeStagingFiles, removeStandingLog, isNewArtifact};
 ghost use Rattle.spans.specs.Spans.{nameOf, Sound};
 ghost use Rattle.store.specs.Tables.{keyOf, nodeOf, mapOf, SoundNode, SoundTable};
-ghost use Rattle.store.specs.Stores.{storeOf, SoundStore};
+ghost use Rattle.store.specs.Stores.{logBytes, storeOf, SoundLog, SoundStore};
 ghost use Rattle.plans.specs.ModelPlans.{plain};
+ghost use Rattle.steps.specs.Steps.{Fits};
 ghost use Rattle.steps.specs.CodeRuns.{SoundRun, Follows};
 ghost use Rattle.transaction.specs.Operations.{opOf, SoundOp};
-ghost use Rattle.recovery.specs.Walks.{isFileOf, isDir, clearFile, clearDir, overFiles, undoWrite, undoCreate, undoCopy};
+ghost use Rattle.wal.specs.Logs.{journalOf, endingOf, opsRead, entriesOf, SoundRead};
+ghost use Rattle.recovery.specs.Walks.{isFileOf, isDir, clearFile, clearDir, overFiles, undoWrite, undoCreate, undoCopy, cleanUp};
+ghost use Rattle.recovery.specs.Recoveries.{logPart, refusalOf, Recovers};
 use spans::BackupName;
 use spans::NameRef;
 use spans::OriginalName;
 use steps::Run;
 use steps::Step;
 use store::Held;
+use store::LogRef;
 use store::Node;
 use store::Store;
 use store::Table;
 use transaction::Operation;
+use wal::Ending;
+use wal::Status;
+use wal::WalRead;
 
 // Whether a place holds something.
 fn exists(src: &[u8], t: Table, dir: NameRef, file: NameRef) -> bool
@@ -145,6 +155,24 @@ pub fn is_new_artifact(src: &[u8], t: Table, op: Operation) -> bool
     }
 }
 
+// Whether any of the operations that were read seems to have been applied.
+fn has_new_artifacts(src: &[u8], t: Table, w: WalRead) -> bool
+    requires { ⌜ SoundTable (now src) t × SoundRead (now src) w ⌝ }
+    ensures { λ r. ⌜ r ≡ anyOf (isNewArtifact (mapOf (now (src .entry)) t)) (opsRead (now (src .entry)) w) ⌝ }
+{
+    let n = w.len;
+    let mut i: usize = 0;
+    while i < n {
+        let x = w.ops[i];
+        let op = x.op;
+        if is_new_artifact(src, t, op) {
+            return true;
+        }
+        i += 1;
+    }
+    false
+}
+
 // Whether a directory holds no file.
 fn is_dir_empty(src: &[u8], t: Table, dir: NameRef) -> bool
     requires { ⌜ SoundTable (now src) t × Sound (now src) dir ⌝ }
@@ -246,6 +274,22 @@ pub fn undo_operation(src: &[u8], run: Run, op: Operation) -> Run
         }
         Operation::Delete(_, _) | Operation::DeleteAll(_) | Operation::DeleteCollection(_) => run,
     }
+}
+
+// Removes the new artifacts of the operations that were read, from the last to the first.
+pub fn remove_new_artifacts(src: &[u8], run: Run, w: WalRead) -> Run
+    requires { ⌜ SoundRun (now src) run × SoundRead (now src) w ⌝ }
+    ensures { λ r. ⌜ Follows plain (now (src .entry)) (inTurn undoSteps (reverse (opsRead (now (src .entry)) w))) run r ⌝ }
+{
+    let mut work = run;
+    let mut i: usize = w.len;
+    while 0 < i {
+        i -= 1;
+        let x = w.ops[i];
+        let op = x.op;
+        work = undo_operation(src, work, op);
+    }
+    work
 }
 
 // Removes a file, or a directory with its files, if it stands.
@@ -441,4 +485,135 @@ pub fn remove_log(src: &[u8], run: Run) -> Run
         return steps::advance(src, run, Step::RemoveLog);
     }
     run
+}
+
+// The status of a store's log.
+fn open_log(src: &[u8], log: LogRef) -> Status
+    requires { ⌜ SoundLog (now src) log × (log .marked ≡ false) ⌝ }
+    ensures { λ r. ⌜ journalOf r (entries (logPart (now (src .entry)) log)) ≡ journal (logBytes (now (src .entry)) log) ⌝ }
+{
+    if !log.stands {
+        return Status::Absent;
+    }
+    let start = log.start as usize;
+    let end = start + log.len as usize;
+    wal::open_wal(&src[start..end])
+}
+
+// Its operations, and how the walk through them ended.
+fn read_log(src: &[u8], log: LogRef) -> WalRead
+    requires { ⌜ SoundLog (now src) log × (length (now src) ≤ 0xFFFF) ⌝ }
+    ensures { λ r. ⌜ SoundRead (now (src .entry)) r × (entriesOf (now (src .entry)) r ≡ entries (logPart (now (src .entry)) log)) ⌝ }
+{
+    let start = log.start as usize;
+    let end = start + log.len as usize;
+    wal::read_wal(src, start, end)
+}
+
+// The number that recovery from a Committing log is refused with, 0 for none. 01, Corners, recovery.rs: "Truncated Committing log and
+// any backup, or any new artifact by `has_new_artifacts`: refusal 13."
+fn refusal_of(src: &[u8], t: Table, w: WalRead) -> u32
+    requires { ⌜ SoundTable (now src) t × SoundRead (now src) w ⌝ }
+    ensures { λ r. ⌜ r ≡ refusalOf (recoverFault (committing (opsRead (now (src .entry)) w) (endingOf (w .ending))) (mapOf (now (src .entry)) t)) ⌝ }
+{
+    let ending = w.ending;
+    match ending {
+        Ending::Whole => 0,
+        Ending::Truncated => {
+            if has_backup_files(src, t) {
+                return 13;
+            }
+            if has_new_artifacts(src, t, w) {
+                return 13;
+            }
+            0
+        }
+        Ending::Undecodable => 11,
+        Ending::TooMany => 12,
+    }
+}
+
+// Removes the log and the staging files.
+fn clean_up(src: &[u8], run: Run) -> Run
+    requires { ⌜ SoundRun (now src) run ⌝ }
+    ensures { λ r. ⌜ Follows plain (now (src .entry)) cleanUp run r ⌝ }
+{
+    let removed = steps::advance(src, run, Step::RemoveLog);
+    cleanup_staging_dir(src, removed)
+}
+
+// Recovery without a valid log: backups are left over from a commit that was done.
+fn recover_absent(src: &[u8], run: Run) -> Run
+    requires { ⌜ SoundRun (now src) run ⌝ }
+    ensures { λ r. ⌜ Follows plain (now (src .entry)) (inSequence (recoverParts absent)) run r ⌝ }
+{
+    let deleted = delete_all_backup_files(src, run);
+    let removed = remove_log(src, deleted);
+    cleanup_staging_dir(src, removed)
+}
+
+// Recovery from a Committing log. Only a whole log is undone; new artifacts go before backups are restored, since restoring could make
+// a file look like a new one.
+fn recover_committing(src: &[u8], run: Run, w: WalRead) -> Run
+    requires { ⌜ SoundRun (now src) run × SoundRead (now src) w ⌝ }
+    ensures { λ r. ⌜ Follows plain (now (src .entry)) (inSequence (recoverParts (committing (opsRead (now (src .entry)) w) (endingOf (w .ending))))) run r ⌝ }
+{
+    let ending = w.ending;
+    match ending {
+        Ending::Whole => {
+            let undone = remove_new_artifacts(src, run, w);
+            let restored = rollback_partial_commit(src, undone);
+            clean_up(src, restored)
+        }
+        Ending::Truncated | Ending::Undecodable | Ending::TooMany => clean_up(src, run),
+    }
+}
+
+// 01, Listings and file steps: "recovery drops [the open mark] before its first step, so at n = 0 too".
+fn without_mark(s: Store) -> Store
+    ensures { λ r. ⌜ r ≡ record { tree = s .tree; staging = s .staging; log = s .log; open_mark = false } ⌝ }
+{
+    let mut r = s;
+    r.open_mark = false;
+    r
+}
+
+// A run that is refused with a number, 0 for none.
+pub struct Recovered {
+    pub number: u32,
+    pub run: Run,
+}
+
+// Startup recovery, and where `limited` its first n steps.
+pub fn recover(src: &[u8], s: Store, limited: bool, n: u64) -> Recovered
+    requires { ⌜ Fits (now src) s × ((s .log .marked ≡ false) × (length (now src) ≤ 0xFFFF)) ⌝ }
+    ensures { λ r. ⌜ Recovers (now (src .entry)) s limited n r ⌝ }
+{
+    let run = steps::start(without_mark(s), limited, n);
+    let log = s.log;
+    let status = open_log(src, log);
+    match status {
+        Status::Absent => Recovered {
+            number: 0,
+            run: recover_absent(src, run),
+        },
+        Status::Recording => Recovered {
+            number: 0,
+            run: clean_up(src, run),
+        },
+        Status::Committing => {
+            let w = read_log(src, log);
+            let number = refusal_of(src, s.tree, w);
+            if number != 0 {
+                return Recovered {
+                    number: number,
+                    run: run,
+                };
+            }
+            Recovered {
+                number: 0,
+                run: recover_committing(src, run, w),
+            }
+        }
+    }
 }

@@ -8,3 +8,5 @@ pub mod Artifacts
 pub mod Pending
 pub mod Entries
 pub mod Journals
+pub mod Refusals
+pub mod Recovering

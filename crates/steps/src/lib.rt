@@ -180,8 +180,7 @@ fn any_file(src: &[u8], t: Table, dir: NameRef) -> bool
         let xd = x.dir;
         let xf = x.file;
         if spans::length_of(xf) > 0 {
-            let of = store::same_name(src, dir, xd);
-            if of {
+            if spans::same(src, dir, xd) {
                 return true;
             }
         }

@@ -1,7 +1,6 @@
 -- What an `Operation` stands for, and what decoding answers.
 use mathlib.Core.Path.{_≡_}
 use Prim.Native.Nat.{ℕ, _-_, _≤_}
-use mathlib.Core.List.{List, [], _∷_}
 use mathlib.Core.Option.{Option, none, some}
 use mathlib.Core.Bool.{Bool, _&&_}
 use lib.ListN.{length, take, drop}

@@ -1,8 +1,8 @@
 -- The tests of `entry_at`, one by one.
 use mathlib.Core.Path.{_≡_, refl, sym, ap, _∙_}
-use mathlib.Core.List.{List, [], _∷_}
+use mathlib.Core.List.{[]}
 use mathlib.Core.Bool.{Bool, true, false, _&&_}
-use mathlib.Core.Option.{Option, none, some}
+use mathlib.Core.Option.{none, some}
 use Prim.Native.Nat.{ℕ, zero, suc, _+_, _-_, _≤_, _<_}
 use native.Mathlib.Omega.{arith}
 use lib.Dec.{leb, eqb}
@@ -17,16 +17,12 @@ use Rattle.laws.specs.FieldLaws.{Byte}
 use Rattle.field.specs.Reading.{u32At}
 use Rattle.field.proofs.Fields.{number-there}
 use Rattle.transaction.specs.Operations.{part}
+use Rattle.transaction.proofs.Same.{and-right}
 use Rattle.wal.specs.Logs.{payloadAt, EntryAt}
-use Rattle.wal.specs.declared.Entry.{Entry}
 use Rattle.wal.specs.declared.Entry.the-variants.{Payload, Truncated}
 use Rattle.wal.proofs.Checksums.{same-number, enough, too-few}
 
 -- Parts between bounds that hold, and that do not.
-and-right : (a : Bool) → (a && false) ≡ false
-and-right true = refl
-and-right false = refl
-
 module _ (log : Bytes) (start end : ℕ) where
   pub part-there : start ≤ end → end ≤ length log → part log start end ≡ payloadAt log start end
   unfolding payloadAt

@@ -1,26 +1,27 @@
 -- The walk through the entries: `read_wal`'s loop.
-use mathlib.Core.Path.{_≡_, refl, sym, ap, ap₂, _∙_}
+use mathlib.Core.Path.{_≡_, refl, sym, ap, _∙_}
 use mathlib.Core.List.{List, [], _∷_, _++_, map, append-nil, append-assoc}
-use mathlib.Core.Bool.{Bool, true, false}
-use mathlib.Core.Option.{Option, none, some}
+use mathlib.Core.Bool.{false}
+use mathlib.Core.Option.{none, some}
+use mathlib.Core.Logic.{_⊎_, inl, inr}
 use Prim.Native.Nat.{ℕ, zero, suc, _+_, _-_, _≤_, _<_}
 use native.Mathlib.Omega.{arith}
 use native.Mathlib.Numerals.{add-one}
-use lib.ListN.{length, replicate, take, drop, set, getD, length-drop, length-set, drop-of-length-le}
+use lib.ListN.{length, replicate, take, drop, set, length-drop, length-set, drop-of-length-le}
 use lib.Seq.{drop-cons, drop-drop, take-take, length-take-le, take-suc-set}
 use Rattle.model.specs.Base.{Bytes, caseOption}
 use Rattle.model.specs.Operation.{Op, decodePayload}
 use Rattle.model.specs.Log.{Entries, stop, after, firstPayload, walk, entries}
 use Rattle.model.specs.Log as model
 use Rattle.laws.specs.Tests.{All}
-use Rattle.transaction.specs.Operations.{opOf, SoundOp, decodedOf, decodedAt, part, Decodes}
+use Rattle.transaction.specs.Operations.{opOf, SoundOp, decodedOf, inBounds, part, Decodes}
 use Rattle.transaction.specs.declared.Operation.{Operation}
 use Rattle.transaction.specs.declared.Operation.the-variants.{DeleteAll}
 use Rattle.transaction.specs.declared.Decoded.{Decoded}
 use Rattle.transaction.specs.declared.Decoded.the-variants.{Is, Undecodable}
 use Rattle.transaction.proofs.Lists.{map-append, all-set}
-use Rattle.transaction.proofs.Payloads.{part-drop, in-bounds}
-use Rattle.wal.specs.Logs.{EntryAt, endingOf, loggedOf, entriesOf, SoundLogged, SoundRead, WalksLog}
+use Rattle.transaction.proofs.Payloads.{part-drop, in-bounds, decoded-there}
+use Rattle.wal.specs.Logs.{EntryAt, endingOf, loggedOf, SoundLogged, entriesAt, ReadsLog, WalksLog}
 use Rattle.wal.specs.declared.Entry.{Entry}
 use Rattle.wal.specs.declared.Entry.the-variants as entry
 use Rattle.wal.specs.declared.Ending.{Ending}
@@ -137,8 +138,7 @@ module _ {src : Bytes} {first end : ℕ} {ops : List Logged} {at n : ℕ} (w : W
         here = sym (found .same) ∙ ap some (narrow from to end src ordered last)
 
         decoded : decodedOf src d ≡ decodePayload (part src from to)
-        unfolding decodedAt
-        decoded = q .same ∙ rw (in-bounds src from to ordered (omega (arith, last)) c)
+        decoded = q .same ∙ decoded-there src from to ordered (omega (arith, last)) c
 
         pub at-undecodable : {r : WalRead} → d ≡ Undecodable → (r .ops ≡ ops) × ((r .len ≡ n) × (r .ending ≡ code.Undecodable)) → WalksLog src first end r
         at-undecodable u f =
@@ -159,3 +159,28 @@ module _ {src : Bytes} {first end : ℕ} {ops : List Logged} {at n : ℕ} (w : W
               sound = all-set (SoundLogged src) ops n (record { op = op }) (w .sound) s;
               same = ap (λ (l : List Op). joined l (walk (32 - (n + 1)) 0 (drop to (take end src)))) more ∙ (λ i. record { ops = append-assoc (map (loggedOf src) (take n ops)) (opOf src op ∷ []) (walk (32 - (n + 1)) 0 (drop to (take end src)) .ops) i; end = walk (32 - (n + 1)) 0 (drop to (take end src)) .end }) ∙ ap (joined (map (loggedOf src) (take n ops))) (sym on) ∙ w .same;
             }
+
+-- `read_wal`: no log there; and the entries behind the header, of which there may be none.
+pub no-log : {src : Bytes} {start end : ℕ} {r : WalRead} {ops : List Logged} → inBounds src start end ≡ false → (r .ops ≡ ops) × ((r .len ≡ 0) × (r .ending ≡ code.Undecodable)) → length ops ≡ 32 → All (SoundLogged src) ops → ReadsLog src start end r
+unfolding entriesAt
+no-log {src} {r = r} h (a, (b, c)) z s =
+    record {
+      held = record { size = ap length a ∙ z; within = omega (arith, b); sound = rw a s };
+      same = rw h (rw (b, c));
+    }
+
+pub entries-there : (src : Bytes) (start end : ℕ) → start ≤ end → end ≤ length src → length src ≤ 0xFFFF → entriesAt src start end ≡ entries (part src start end)
+unfolding entriesAt
+entries-there src start end a b c = rw (in-bounds src start end a b c)
+
+pub behind-header : {src : Bytes} {start end at : ℕ} {r : WalRead} → start ≤ end → end ≤ length src → length src ≤ 0xFFFF → (at ≡ start + 8) ⊎ ((at ≡ end) × (end ≤ start + 8)) → WalksLog src at end r → ReadsLog src start end r
+unfolding entries
+behind-header {src} {start} {end} {at} a b c f w =
+    let d : drop 8 (part src start end) ≡ drop (start + 8) (take end src) = ap (drop 8) (part-drop start end src a) ∙ drop-drop 8 start (take end src) in
+    record { held = w .held; same = w .same ∙ sym (entries-there src start end a b c ∙ ap (walk 32 0) (d ∙ sym (go f))) }
+  where
+    go : (at ≡ start + 8) ⊎ ((at ≡ end) × (end ≤ start + 8)) → drop at (take end src) ≡ drop (start + 8) (take end src)
+    go (inl e) = ap (λ (n : ℕ). drop n (take end src)) e
+    go (inr (e, h)) =
+        let l : length (take end src) ≡ end = length-take-le end src b in
+        drop-of-length-le (take end src) {i = at} (omega arith) ∙ sym (drop-of-length-le (take end src) {i = start + 8} (omega arith))

@@ -13,10 +13,12 @@ use transaction::Operation;
 
 // "0xCA" and "0x01 Committing" of the header.
 const WAL_MAGIC: u8 = 0xCA;
+
 const STATUS_COMMITTING: u8 = 0x01;
 
 // Header and entry head have eight bytes each.
 const WAL_FILE_HEADER_SIZE: usize = 8;
+
 const ENTRY_HEADER_SIZE: usize = 8;
 
 // A log's status; one without a valid header is as if absent.
@@ -58,7 +60,9 @@ const NO_NAME: NameRef = NameRef {
     baks: 0,
 };
 
-const NO_OPERATION: Logged = Logged { op: Operation::DeleteAll(NO_NAME) };
+const NO_OPERATION: Logged = Logged {
+    op: Operation::DeleteAll(NO_NAME),
+};
 
 // The log's header: magic, status, two zero bytes, and the checksum of the first two.
 pub fn encode_header(status: u8) -> [u8; 8]

@@ -1,5 +1,5 @@
 -- `transaction::decode_operation` meets its contract: the row of the first field's kind says what the fields must be.
-use mathlib.Core.Path.{sym, _∙_}
+use mathlib.Core.Path.{sym}
 use native.Mathlib.Omega.{arith}
 use lib.ListN.{take}
 use lib.Seq.{length-take-le}
@@ -7,7 +7,7 @@ use borrow.Author.Needs.{needs}
 use borrow.Author.Tests.{not-true, not-false}
 use Rattle.field.specs.Reading.{Stands}
 use Rattle.field.proofs.Fields.{is-field}
-use Rattle.transaction.proofs.Payloads.{no-kind-field, wide-parts, end-first, past-end, too-long, undecodable, no-fit, fits}
+use Rattle.transaction.proofs.Payloads.{no-kind-field, wide-parts, end-first, past-end, too-long, undecodable, no-fit, fits, nowhere}
 use Rattle.transaction.proofs.decode_operation.Statement.{statement}
 use Rattle.transaction.proofs.decode_operation.Tie as tie
 
@@ -15,13 +15,13 @@ stood : (c : tie.After-x) → Stands (take (c .before .before .before .before .b
 stood c = is-field _ _ _ (c .before .before .read-field .ensures) _ (c .x .given .1)
 
 returns : tie.Need-returns
-returns c = end-first (omega arith)
+returns c = nowhere (end-first _ _ _ (omega arith))
 
 returns-2 : tie.Need-returns-2
-returns-2 c = past-end (omega arith)
+returns-2 c = nowhere (past-end _ _ _ (omega arith))
 
 returns-3 : tie.Need-returns-3
-returns-3 c = too-long (omega arith)
+returns-3 c = nowhere (too-long _ _ _ (omega arith))
 
 slice-aggregate-s : tie.Need-slice-aggregate-s
 slice-aggregate-s c = sym (length-take-le (c .before .before .before .before .before .args .end) (c .before .before .before .before .before .args .src .now) (omega arith))

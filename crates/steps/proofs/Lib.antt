@@ -5,3 +5,4 @@ pub mod Arms
 pub mod Faults
 pub mod Applying
 pub mod Running
+pub mod Joined

@@ -1,13 +1,15 @@
 -- What the small functions of recovery do, as plans. The model's plans are made of these (proofs/Plans.antt).
-use mathlib.Core.List.{List, [], _∷_}
+use mathlib.Core.List.{List, [], _∷_, reverse}
 use mathlib.Core.Bool.{Bool, true, false}
 use Rattle.model.specs.Order.{Name, cmpName, caseCmp}
 use Rattle.model.specs.Map.{Node, look}
 use Rattle.model.specs.Base.{ifEmpty, ifPresent, ifMissing}
 use Rattle.model.specs.Name.{backupName}
+use Rattle.model.specs.Operation.{Op}
 use Rattle.model.specs.Store.{Store, files}
-use Rattle.model.specs.Step.{Step, removeFile, removeDirectory, removeLog}
-use Rattle.model.specs.Plan.{inTurn, inSequence, removeStagingFiles}
+use Rattle.model.specs.Step.{Step, removeFile, removeDirectory, removeLog, apply}
+use Rattle.model.specs.Plan.{inTurn, inSequence, undoSteps, restoreBackups, removeStagingFiles}
+use Rattle.plans.specs.Machine.{seq}
 
 -- A node is a file of d, or a directory's own.
 unfoldable pub isFileOf : Name → Node → Bool
@@ -36,6 +38,10 @@ undoCreate c s = ifPresent (look (c, []) (s .tree)) (ifEmpty (files c (s .tree))
 
 unfoldable pub undoCopy : Name → Store → List Step
 undoCopy b s = ifPresent (look (b, []) (s .tree)) (ifMissing (look (backupName b, []) (s .tree)) (removeDirectory b ∷ []))
+
+-- What undoes operations: their new artifacts go, the last operation's first; then the backups are restored.
+unfoldable pub undoAll : List Op → Store → List Step
+undoAll ops s = seq apply (inTurn undoSteps (reverse ops)) restoreBackups s
 
 -- What recovery does in any case where a valid log stands.
 abbrev pub cleanUp : Store → List Step

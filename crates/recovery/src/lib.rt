@@ -19,7 +19,7 @@ ghost use Rattle.steps.specs.Steps.{Fits};
 ghost use Rattle.steps.specs.CodeRuns.{SoundRun, Follows};
 ghost use Rattle.transaction.specs.Operations.{opOf, SoundOp};
 ghost use Rattle.wal.specs.Logs.{journalOf, endingOf, opsRead, entriesOf, SoundRead};
-ghost use Rattle.recovery.specs.Walks.{isFileOf, isDir, clearFile, clearDir, overFiles, undoWrite, undoCreate, undoCopy, cleanUp};
+ghost use Rattle.recovery.specs.Walks.{isFileOf, isDir, clearFile, clearDir, overFiles, undoWrite, undoCreate, undoCopy, undoAll, cleanUp};
 ghost use Rattle.recovery.specs.Recoveries.{logPart, refusalOf, Recovers};
 use spans::BackupName;
 use spans::NameRef;
@@ -487,6 +487,15 @@ pub fn remove_log(src: &[u8], run: Run) -> Run
     run
 }
 
+// Undoes the operations that were read. New artifacts go first: restoring a backup could make a file look like a new one.
+pub fn undo_all(src: &[u8], run: Run, w: WalRead) -> Run
+    requires { ⌜ SoundRun (now src) run × SoundRead (now src) w ⌝ }
+    ensures { λ r. ⌜ Follows plain (now (src .entry)) (undoAll (opsRead (now (src .entry)) w)) run r ⌝ }
+{
+    let undone = remove_new_artifacts(src, run, w);
+    rollback_partial_commit(src, undone)
+}
+
 // The status of a store's log.
 fn open_log(src: &[u8], log: LogRef) -> Status
     requires { ⌜ SoundLog (now src) log × (log .marked ≡ false) ⌝ }
@@ -552,8 +561,7 @@ fn recover_absent(src: &[u8], run: Run) -> Run
     cleanup_staging_dir(src, removed)
 }
 
-// Recovery from a Committing log. Only a whole log is undone; new artifacts go before backups are restored, since restoring could make
-// a file look like a new one.
+// Recovery from a Committing log. Only a whole log is undone.
 fn recover_committing(src: &[u8], run: Run, w: WalRead) -> Run
     requires { ⌜ SoundRun (now src) run × SoundRead (now src) w ⌝ }
     ensures { λ r. ⌜ Follows plain (now (src .entry)) (inSequence (recoverParts (committing (opsRead (now (src .entry)) w) (endingOf (w .ending))))) run r ⌝ }
@@ -561,9 +569,8 @@ fn recover_committing(src: &[u8], run: Run, w: WalRead) -> Run
     let ending = w.ending;
     match ending {
         Ending::Whole => {
-            let undone = remove_new_artifacts(src, run, w);
-            let restored = rollback_partial_commit(src, undone);
-            clean_up(src, restored)
+            let undone = undo_all(src, run, w);
+            clean_up(src, undone)
         }
         Ending::Truncated | Ending::Undecodable | Ending::TooMany => clean_up(src, run),
     }

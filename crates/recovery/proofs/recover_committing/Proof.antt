@@ -1,9 +1,9 @@
--- `recover_committing`: new artifacts, then backups, then the log and the staging files.
+-- `recover_committing`: a whole log is undone; then the log and the staging files go.
 use borrow.Author.Needs.{needs}
 use mathlib.Core.List.{[], _∷_}
 use Rattle.model.specs.Step.{removeLog}
-use Rattle.model.specs.Plan.{restoreBackups, removeStagingFiles}
-use Rattle.recovery.proofs.Follow.{lawful, follows-as, part-then}
+use Rattle.model.specs.Plan.{removeStagingFiles}
+use Rattle.recovery.proofs.Follow.{lawful, follows-as, undone-then}
 use Rattle.recovery.proofs.Refusals.{only-cleaned}
 use Rattle.recovery.proofs.recover_committing.Statement.{statement}
 use Rattle.recovery.proofs.recover_committing.Tie as tie
@@ -11,11 +11,8 @@ use Rattle.recovery.proofs.recover_committing.Tie as tie
 enum-told : tie.Need-enum-told
 enum-told c = search needs
 
-remove-new-artifacts-requires : tie.Need-remove-new-artifacts-requires
-remove-new-artifacts-requires c κs = search needs
-
-rollback-partial-commit-requires : tie.Need-rollback-partial-commit-requires
-rollback-partial-commit-requires c κs = search needs
+undo-all-requires : tie.Need-undo-all-requires
+undo-all-requires c κs = search needs
 
 clean-up-requires : tie.Need-clean-up-requires
 clean-up-requires c κs = search needs
@@ -24,7 +21,7 @@ clean-up-requires-2 : tie.Need-clean-up-requires-2
 clean-up-requires-2 c κs = search needs
 
 returns : tie.Need-returns
-returns c = rw (c .before .before .before .enum-told .given .1) (part-then (c .before .before .remove-new-artifacts .ensures) (restoreBackups ∷ (λ s. removeLog ∷ []) ∷ removeStagingFiles ∷ []) (part-then (c .before .rollback-partial-commit .ensures) ((λ s. removeLog ∷ []) ∷ removeStagingFiles ∷ []) (c .clean-up .ensures)))
+returns c = rw (c .before .before .enum-told .given .1) (undone-then _ (c .before .undo-all .ensures) ((λ s. removeLog ∷ []) ∷ removeStagingFiles ∷ []) (c .clean-up .ensures))
 
 returns-2 : tie.Need-returns-2
 returns-2 c = follows-as lawful (c .clean-up2 .ensures) (only-cleaned _ (c .before .before .before .args .w .ending) _ (c .before .match .keys2))
@@ -34,8 +31,7 @@ recover-committing-spec =
     tie.close
     (tie.spec
     enum-told
-    remove-new-artifacts-requires
-    rollback-partial-commit-requires
+    undo-all-requires
     clean-up-requires
     clean-up-requires-2
     returns

@@ -48,6 +48,7 @@ fn exists(src: &[u8], t: Table, dir: NameRef, file: NameRef) -> bool
     }
 }
 
+// Whether a directory stands.
 fn dir_exists(src: &[u8], t: Table, dir: NameRef) -> bool
     requires { ⌜ SoundTable (now src) t × Sound (now src) dir ⌝ }
     ensures { λ r. ⌜ r ≡ isSome (look (nameOf (now (src .entry)) dir, []) (mapOf (now (src .entry)) t)) ⌝ }
@@ -55,7 +56,7 @@ fn dir_exists(src: &[u8], t: Table, dir: NameRef) -> bool
     exists(src, t, dir, spans::empty())
 }
 
-// Whether the backup of a file, or of a directory, stands. One whose name has over 64 bytes stands nowhere.
+// Whether the backup of a file stands. One whose name has over 64 bytes stands nowhere.
 fn has_backup(src: &[u8], t: Table, dir: NameRef, file: NameRef) -> bool
     requires { ⌜ SoundTable (now src) t × (Sound (now src) dir × Sound (now src) file) ⌝ }
     ensures { λ r. ⌜ r ≡ isSome (look (nameOf (now (src .entry)) dir, backupName (nameOf (now (src .entry)) file)) (mapOf (now (src .entry)) t)) ⌝ }
@@ -67,6 +68,7 @@ fn has_backup(src: &[u8], t: Table, dir: NameRef, file: NameRef) -> bool
     }
 }
 
+// The same for a directory.
 fn has_backup_dir(src: &[u8], t: Table, dir: NameRef) -> bool
     requires { ⌜ SoundTable (now src) t × Sound (now src) dir ⌝ }
     ensures { λ r. ⌜ r ≡ isSome (look (backupName (nameOf (now (src .entry)) dir), []) (mapOf (now (src .entry)) t)) ⌝ }
@@ -190,7 +192,7 @@ fn is_dir_empty(src: &[u8], t: Table, dir: NameRef) -> bool
     true
 }
 
-// Whether a node is a file of a directory, or a directory's own.
+// Whether a node is a file of a directory.
 fn is_file_of(src: &[u8], x: Node, dir: NameRef) -> bool
     requires { ⌜ SoundNode (now src) x × Sound (now src) dir ⌝ }
     ensures { λ r. ⌜ r ≡ isFileOf (nameOf (now (src .entry)) dir) (nodeOf (now (src .entry)) x) ⌝ }
@@ -202,6 +204,7 @@ fn is_file_of(src: &[u8], x: Node, dir: NameRef) -> bool
     spans::same(src, dir, of)
 }
 
+// Whether a node is a directory's own.
 fn is_dir(src: &[u8], x: Node) -> bool
     requires { ⌜ SoundNode (now src) x ⌝ }
     ensures { λ r. ⌜ r ≡ isDir (nodeOf (now (src .entry)) x) ⌝ }
@@ -292,7 +295,7 @@ pub fn remove_new_artifacts(src: &[u8], run: Run, w: WalRead) -> Run
     work
 }
 
-// Removes a file, or a directory with its files, if it stands.
+// Removes a file, if it stands.
 fn clear_file(src: &[u8], run: Run, dir: NameRef, file: NameRef) -> Run
     requires { ⌜ SoundRun (now src) run × (Sound (now src) dir × Sound (now src) file) ⌝ }
     ensures { λ r. ⌜ Follows plain (now (src .entry)) (clearFile (nameOf (now (src .entry)) dir) (nameOf (now (src .entry)) file)) run r ⌝ }
@@ -305,6 +308,7 @@ fn clear_file(src: &[u8], run: Run, dir: NameRef, file: NameRef) -> Run
     run
 }
 
+// Removes a directory with its files, if it stands.
 fn clear_dir(src: &[u8], run: Run, dir: NameRef) -> Run
     requires { ⌜ SoundRun (now src) run × Sound (now src) dir ⌝ }
     ensures { λ r. ⌜ Follows plain (now (src .entry)) (clearDir (nameOf (now (src .entry)) dir)) run r ⌝ }
@@ -394,7 +398,7 @@ pub fn rollback_partial_commit(src: &[u8], run: Run) -> Run
     work
 }
 
-// Removes the backups among a directory's files, a directory that is a backup, every backup.
+// Removes a file that is a backup.
 fn delete_backup_file(src: &[u8], run: Run, dir: NameRef, file: NameRef) -> Run
     requires { ⌜ SoundRun (now src) run × (Sound (now src) dir × Sound (now src) file) ⌝ }
     ensures { λ r. ⌜ Follows plain (now (src .entry)) (removeBackupFile (nameOf (now (src .entry)) dir) (nameOf (now (src .entry)) file)) run r ⌝ }
@@ -405,6 +409,7 @@ fn delete_backup_file(src: &[u8], run: Run, dir: NameRef, file: NameRef) -> Run
     run
 }
 
+// Removes the backups among a directory's files.
 fn delete_backup_files_in_dir(src: &[u8], run: Run, dir: NameRef) -> Run
     requires { ⌜ SoundRun (now src) run × Sound (now src) dir ⌝ }
     ensures { λ r. ⌜ Follows plain (now (src .entry)) (overFiles removeBackupFile (nameOf (now (src .entry)) dir)) run r ⌝ }
@@ -425,6 +430,7 @@ fn delete_backup_files_in_dir(src: &[u8], run: Run, dir: NameRef) -> Run
     work
 }
 
+// Removes a directory that is a backup; in any other the backups among its files.
 fn delete_backups_in(src: &[u8], run: Run, dir: NameRef) -> Run
     requires { ⌜ SoundRun (now src) run × Sound (now src) dir ⌝ }
     ensures { λ r. ⌜ Follows plain (now (src .entry)) (removeBackupsIn (nameOf (now (src .entry)) dir)) run r ⌝ }
@@ -435,6 +441,7 @@ fn delete_backups_in(src: &[u8], run: Run, dir: NameRef) -> Run
     delete_backup_files_in_dir(src, run, dir)
 }
 
+// Removes every backup.
 pub fn delete_all_backup_files(src: &[u8], run: Run) -> Run
     requires { ⌜ SoundRun (now src) run ⌝ }
     ensures { λ r. ⌜ Follows plain (now (src .entry)) removeBackups run r ⌝ }
@@ -585,13 +592,13 @@ fn without_mark(s: Store) -> Store
     r
 }
 
-// A run that is refused with a number, 0 for none.
+// The number that recovery is refused with, 0 for none, and where that is 0 the run that did its steps.
 pub struct Recovered {
     pub number: u32,
     pub run: Run,
 }
 
-// Startup recovery, and where `limited` its first n steps.
+// Startup recovery: all its steps, or where `limited` the first n.
 pub fn recover(src: &[u8], s: Store, limited: bool, n: u64) -> Recovered
     requires { ⌜ Fits (now src) s × ((s .log .marked ≡ false) × (length (now src) ≤ 0xFFFF)) ⌝ }
     ensures { λ r. ⌜ Recovers (now (src .entry)) s limited n r ⌝ }

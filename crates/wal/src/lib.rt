@@ -138,6 +138,48 @@ pub fn entry_at(log: &[u8], at: usize) -> Entry
     Entry::Payload(start, end)
 }
 
+// The log walker: it borrows the log and remembers its next entry. 01, Forms that change shape: "The loop of `read_wal`".
+pub struct Walker<'a> {
+    pub log: &'a [u8],
+    pub at: usize,
+}
+
+impl<'a> Walker<'a> {
+    // A walker behind the header.
+    pub fn new(log: &'a [u8]) -> Walker<'a>
+        ensures { λ w. ⌜ (w .log ≡ log .entry) × (w .at ≡ 8) ⌝ }
+    {
+        Walker {
+            log,
+            at: WAL_FILE_HEADER_SIZE,
+        }
+    }
+
+    // The walker's next entry.
+    pub fn next(self) -> Entry
+        ensures { λ e. ⌜ EntryAt (now (self .entry .log)) (self .entry .at) e ⌝ }
+    {
+        entry_at(self.log, self.at)
+    }
+
+    // The walker behind the payload that ends at `end`.
+    pub fn advance(self, end: usize) -> Walker<'a>
+        ensures { λ w. ⌜ (w .log ≡ self .entry .log) × (w .at ≡ end) ⌝ }
+    {
+        Walker {
+            log: self.log,
+            at: end,
+        }
+    }
+}
+
+// The entry that a walker at `at` comes to.
+pub fn entry_from(log: &[u8], at: usize) -> Entry
+    ensures { λ e. ⌜ EntryAt (now (log .entry)) at e ⌝ }
+{
+    Walker::new(log).advance(at).next()
+}
+
 // The answer of a walk.
 fn ended(ops: [Logged; 32], len: usize, ending: Ending) -> WalRead
     ensures { λ r. ⌜ (r .ops ≡ ops) × ((r .len ≡ len) × (r .ending ≡ ending)) ⌝ }
@@ -162,7 +204,7 @@ fn walk_entries(src: &[u8], first: usize, end: usize) -> WalRead
         if end <= at {
             return ended(ops, n, Ending::Whole);
         }
-        let Entry::Payload(from, to) = entry_at(log, at) else {
+        let Entry::Payload(from, to) = entry_from(log, at) else {
             return ended(ops, n, Ending::Truncated);
         };
         let Decoded::Is(op) = transaction::decode_operation(src, from, to) else {

@@ -187,5 +187,5 @@ behind-header {src} {start} {end} {at} b f w =
         drop-of-length-le (take end src) {i = at} (omega arith) ∙ sym (drop-of-length-le (take end src) {i = start + 8} (omega arith))
 
 -- For callers: the status and the entries that were read are the model's journal.
-pub journal-read : {src : Bytes} {start end : ℕ} {s : Status} {r : WalRead} → Bounds src start end → journalOf s (entries (part src start end)) ≡ readJournal (part src start end) → ReadsLog src start end r → journalOf s (entriesOf src r) ≡ readJournal (part src start end)
-journal-read {s = s} b o w = ap (journalOf s) (w .same ∙ entries-there b) ∙ o
+pub journal-read : {src : Bytes} {start end : ℕ} (s : Status) {r : WalRead} → Bounds src start end → journalOf s (entries (part src start end)) ≡ readJournal (part src start end) → ReadsLog src start end r → journalOf s (entriesOf src r) ≡ readJournal (part src start end)
+journal-read s b o w = ap (journalOf s) (w .same ∙ entries-there b) ∙ o

@@ -1,7 +1,7 @@
 // The six operations and their payload: transaction.rs; 01, How a store is handed over, "The payload stands in for rkyv".
 ghost use mathlib.Core.Path.{_≡_};
 ghost use mathlib.Core.List.{List, [], _∷_};
-ghost use Prim.Native.Nat.{ℕ, _≤_, _-_};
+ghost use Prim.Native.Nat.{ℕ, _≤_};
 ghost use lib.ListN.{length, getD, take};
 ghost use Rattle.model.specs.Base.{if_then_else_, sameBytes};
 ghost use Rattle.model.specs.Operation.{fieldTags, kind, validValue, encodePayload};
@@ -234,7 +234,7 @@ pub fn decode_operation(src: &[u8], start: usize, end: usize) -> Decoded
 }
 
 // The kind of an operation.
-pub fn kind_of(op: Operation) -> u8
+fn kind_of(op: Operation) -> u8
     ensures { λ r. ⌜ ((s : List ℕ) → r ≡ kind (opOf s op)) ⌝ }
 {
     match op {

@@ -11,7 +11,7 @@ use lib.ListN.{length, replicate, take, drop, set, length-drop, length-set, drop
 use lib.Seq.{drop-cons, drop-drop, take-take, length-take-le, take-suc-set}
 use Rattle.model.specs.Base.{Bytes, caseOption}
 use Rattle.model.specs.Operation.{Op, decodePayload}
-use Rattle.model.specs.Log.{Entries, stop, after, firstPayload, walk, entries}
+use Rattle.model.specs.Log.{Entries, stop, after, firstPayload, walk, entries, readJournal}
 use Rattle.model.specs.Log as model
 use Rattle.laws.specs.Tests.{All}
 use Rattle.transaction.specs.Operations.{opOf, SoundOp, decodedOf, Bounds, inBounds, part, Decodes}
@@ -21,7 +21,8 @@ use Rattle.transaction.specs.declared.Decoded.{Decoded}
 use Rattle.transaction.specs.declared.Decoded.the-variants.{Is, Undecodable}
 use Rattle.transaction.proofs.Lists.{map-append, all-set}
 use Rattle.transaction.proofs.Payloads.{part-drop, in-bounds, decoded-there}
-use Rattle.wal.specs.Logs.{EntryAt, endingOf, loggedOf, SoundLogged, entriesAt, ReadsLog, WalksLog}
+use Rattle.wal.specs.Logs.{journalOf, EntryAt, endingOf, loggedOf, entriesOf, SoundLogged, entriesAt, ReadsLog, WalksLog}
+use Rattle.wal.specs.declared.Status.{Status}
 use Rattle.wal.specs.declared.Entry.{Entry}
 use Rattle.wal.specs.declared.Entry.the-variants as entry
 use Rattle.wal.specs.declared.Ending.{Ending}
@@ -184,3 +185,7 @@ behind-header {src} {start} {end} {at} b f w =
     go (inr (e, h)) =
         let l : length (take end src) ≡ end = length-take-le end src (b .within) in
         drop-of-length-le (take end src) {i = at} (omega arith) ∙ sym (drop-of-length-le (take end src) {i = start + 8} (omega arith))
+
+-- For callers: the status and the entries that were read are the model's journal.
+pub journal-read : {src : Bytes} {start end : ℕ} (s : Status) {r : WalRead} → Bounds src start end → journalOf s (entries (part src start end)) ≡ readJournal (part src start end) → ReadsLog src start end r → journalOf s (entriesOf src r) ≡ readJournal (part src start end)
+journal-read s b o w = ap (journalOf s) (w .same ∙ entries-there b) ∙ o

@@ -9,17 +9,17 @@ use spans::NameRef;
 use transaction::Decoded;
 use transaction::Operation;
 
-// "0xCA" and "0x01 Committing" of the header.
+// 01, How a store is handed over: "The log header: 0xCA, status (0x00 Recording, 0x01 Committing), two zero bytes, CRC-32 of the first two".
 const WAL_MAGIC: u8 = 0xCA;
 
 const STATUS_COMMITTING: u8 = 0x01;
 
-// Header and entry head have eight bytes each.
+// The bytes of a header, and those of an entry before its payload.
 const WAL_FILE_HEADER_SIZE: usize = 8;
 
 const ENTRY_HEADER_SIZE: usize = 8;
 
-// A log's status; one without a valid header is as if absent.
+// A log's status (`WalStatus`); one without a valid header is as if absent.
 pub enum Status {
     Absent,
     Recording,
@@ -45,7 +45,7 @@ pub struct Logged {
     pub op: Operation,
 }
 
-// The operations of a log, those before `len`, and how the walk ended.
+// The operations of a log, those before `len`, and how the walk ended (`WalReadResult`).
 pub struct WalRead {
     pub ops: [Logged; 32],
     pub len: usize,
@@ -62,7 +62,7 @@ const NO_OPERATION: Logged = Logged {
     op: Operation::DeleteAll(NO_NAME),
 };
 
-// The log's header: magic, status, two zero bytes, and the checksum of the first two.
+// The log's header with a status.
 pub fn encode_header(status: u8) -> [u8; 8]
     ensures { λ r. ⌜ r ≡ header status ⌝ }
 {
@@ -80,7 +80,7 @@ pub fn mark_committing(out: &mut [u8], at: usize)
     field::put_bytes(out, at, &h);
 }
 
-// The status of a log.
+// The status of a log. 01, Corners, wal.rs: what is as if absent.
 pub fn open_wal(log: &[u8]) -> Status
     ensures { λ r. ⌜ journalOf r (entries (now (log .entry))) ≡ readJournal (now (log .entry)) ⌝ }
 {
@@ -101,7 +101,7 @@ pub fn open_wal(log: &[u8]) -> Status
     }
 }
 
-// An entry's payload: the part of the lent log between its bounds; an empty one where these do not hold.
+// An entry's payload, handed out as that part of the lent log; an empty part where the bounds do not hold.
 pub fn payload(log: &[u8], start: usize, end: usize) -> &[u8]
     ensures { λ r. ⌜ now r ≡ payloadAt (now (log .entry)) start end ⌝ }
 {
@@ -114,7 +114,7 @@ pub fn payload(log: &[u8], start: usize, end: usize) -> &[u8]
     &log[start..end]
 }
 
-// The entry that stands at `at`. Truncated are: fewer than eight bytes, payload length 0, payload past the end, wrong checksum.
+// The entry that stands at `at`. 01, Corners, wal.rs: what is truncated.
 pub fn entry_at(log: &[u8], at: usize) -> Entry
     ensures { λ r. ⌜ EntryAt (now (log .entry)) at r ⌝ }
 {
@@ -189,7 +189,7 @@ fn ended(ops: [Logged; 32], len: usize, ending: Ending) -> WalRead
     }
 }
 
-// The entries from `first` on, up to `end`: at most 32 operations. An undecodable payload ends the walk at once.
+// The entries from `first` on, up to `end`: at most 32 operations. 01: "an entry that does not decode ends the walk at once".
 fn walk_entries(src: &[u8], first: usize, end: usize) -> WalRead
     requires { ⌜ Bounds (now src) first end ⌝ }
     ensures { λ r. ⌜ WalksLog (now (src .entry)) first end r ⌝ }
@@ -218,7 +218,7 @@ fn walk_entries(src: &[u8], first: usize, end: usize) -> WalRead
     ended(ops, n, Ending::Whole)
 }
 
-// The operations of the log between two places. A valid header alone: no operations, whole.
+// The operations of the log between two places of the bytes, in which their names lie.
 pub fn read_wal(src: &[u8], start: usize, end: usize) -> WalRead
     ensures { λ r. ⌜ ReadsLog (now (src .entry)) start end r ⌝ }
 {

@@ -9,7 +9,7 @@ use lib.ListN.{length}
 use borrow.Author.Tests.{lt-ltb, le-ltb}
 use types.Run.{OneOf}
 use denote.Enum.Declared.{tagOf}
-use Rattle.model.specs.Limits.{nameLimit}
+use Rattle.model.specs.Limits.{nameLimit, dirLimit}
 use Rattle.model.specs.Order.{Name}
 use Rattle.model.specs.Map.{look}
 use Rattle.model.specs.Base.{Bytes, if_then_else_, caseOption, ifEmpty}
@@ -44,13 +44,13 @@ module _ (src : Bytes) (u : model.Store) where
   by-arm e h = h ∙ ap (λ (z : Step). fault (stepOf src z) u) (sym e)
 
   module _ {x : Step} {c : Counts} {d : NameRef} (e : x ≡ code.MakeDirectory d) (k : Counted (u .tree) c) where
-    pub few-dirs : c .dirs < 16 → 0 ≡ fault (stepOf src x) u
+    pub few-dirs : c .dirs < dirLimit → 0 ≡ fault (stepOf src x) u
     unfolding stepOf stepFault
-    few-dirs l = let f = k .dirs in by-arm e (rw (lt-ltb (length (dirs (u .tree))) 16 (omega arith)))
+    few-dirs l = let f = k .dirs in by-arm e (rw (lt-ltb (length (dirs (u .tree))) dirLimit (omega arith)))
 
-    pub many-dirs : 16 ≤ c .dirs → 15 ≡ fault (stepOf src x) u
+    pub many-dirs : dirLimit ≤ c .dirs → 15 ≡ fault (stepOf src x) u
     unfolding stepOf stepFault
-    many-dirs l = let f = k .dirs in by-arm e (rw (le-ltb (length (dirs (u .tree))) 16 (omega arith)))
+    many-dirs l = let f = k .dirs in by-arm e (rw (le-ltb (length (dirs (u .tree))) dirLimit (omega arith)))
 
   pub target : {x : Step} {a b : NameRef} {q : Bool} → x ≡ code.RenameDirectory a b → Sound src b → q ≡ holdsFile (nameOf src b) (u .tree) → (if q then 14 else 0) ≡ fault (stepOf src x) u
   unfolding stepOf stepFault

@@ -5,6 +5,7 @@ use Prim.Native.Nat.{ℕ, _≤_, _<_}
 use native.Mathlib.Omega.{arith}
 use lib.ListN.{length}
 use borrow.Author.Tests.{lt-ltb, le-ltb}
+use Rattle.model.specs.Limits.{fileLimit}
 use Rattle.model.specs.Order.{Key}
 use Rattle.model.specs.Map.{Map, look, put, del}
 use Rattle.model.specs.Base.{Bytes, caseOption}
@@ -66,8 +67,8 @@ pub no-new-file : (k : Key) (m : Map) {n : ℕ} → look k m ≡ some n → 0 �
 no-new-file k m e = rw e
 
 module _ {m : Map} {c : Counts} (k : Key) (d : Counted m c) where
-  pub few-files : look k m ≡ none → c .files < 128 → 0 ≡ commitNumber (newFile k m)
-  few-files e l = let f = d .files in rw (e, lt-ltb (fileCount m) 128 (omega arith))
+  pub few-files : look k m ≡ none → c .files < fileLimit → 0 ≡ commitNumber (newFile k m)
+  few-files e l = let f = d .files in rw (e, lt-ltb (fileCount m) fileLimit (omega arith))
 
-  pub many-files : look k m ≡ none → 128 ≤ c .files → 15 ≡ commitNumber (newFile k m)
-  many-files e l = let f = d .files in rw (e, le-ltb (fileCount m) 128 (omega arith))
+  pub many-files : look k m ≡ none → fileLimit ≤ c .files → 15 ≡ commitNumber (newFile k m)
+  many-files e l = let f = d .files in rw (e, le-ltb (fileCount m) fileLimit (omega arith))

@@ -7,6 +7,7 @@ use native.Mathlib.Omega.{arith}
 use lib.ListN.{length}
 use lib.Dec.{ltb}
 use borrow.Author.Tests.{ltb-true}
+use Rattle.model.specs.Limits.{dirLimit, fileLimit}
 use Rattle.model.specs.Order.{Name, Key}
 use Rattle.model.specs.Map.{Map, look, put, del, Has}
 use Rattle.model.specs.Base.{if_then_else_, caseOption}
@@ -51,8 +52,8 @@ by-size {t} w u d f =
     let y = w .files in
     record { dirs = omega arith; files = omega arith }
 
--- One directory more, where there are under 16.
-more-dirs : {t : Map} (d : Name) → Within t → length (dirs t) < 16 → Within (put (d, []) 0 t)
+-- One directory more, where there is one to come.
+more-dirs : {t : Map} (d : Name) → Within t → length (dirs t) < dirLimit → Within (put (d, []) 0 t)
 more-dirs {t} d w h =
     let a = size-put-le isDir (d, []) 0 t in
     let b = size-put-le isFile (d, []) 0 t in
@@ -63,18 +64,18 @@ more-dirs {t} d w h =
     let y = w .files in
     record { dirs = omega arith; files = omega arith }
 
--- A file put where one stands, or where there are under 128.
+-- A file put where one stands, or where there is one to come.
 file-put : {t : Map} (d k : Name) (x : ℕ) → (k ≡ [] → ⊥) → newFile (d, k) t ≡ none → Sorted t → Within t → Within (put (d, k) x t)
 file-put {t} d k x n h s w = go (look (d, k) t) refl h
   where
-    go : (o : Option ℕ) → look (d, k) t ≡ o → caseOption o (if ltb (fileCount t) 128 then none else some full) (λ x. none) ≡ none → Within (put (d, k) x t)
+    go : (o : Option ℕ) → look (d, k) t ≡ o → caseOption o (if ltb (fileCount t) fileLimit then none else some full) (λ x. none) ≡ none → Within (put (d, k) x t)
     go none e h =
         let v = file-weight d k n in
         let vf = v .0 in
         let vd = v .1 in
         let a = size-put-le isDir (d, k) x t in
         let b = size-put-le isFile (d, k) x t in
-        let l = ltb-true (fileCount t) 128 (not-full (ltb (fileCount t) 128) full h) in
+        let l = ltb-true (fileCount t) fileLimit (not-full (ltb (fileCount t) fileLimit) full h) in
         let c = dir-size t in
         let e = dir-size (put (d, k) x t) in
         let f = file-size t in
@@ -134,7 +135,7 @@ kept step.syncLog s n a o w = w
 kept step.removeLog s n a o w = w
 kept step.syncJournal s n a o w = w
 kept step.syncCollections s n a o w = w
-kept (step.makeDirectory d) s n a o w = more-dirs d w (ltb-true (length (dirs (s .tree))) 16 (not-full (ltb (length (dirs (s .tree))) 16) full a))
+kept (step.makeDirectory d) s n a o w = more-dirs d w (ltb-true (length (dirs (s .tree))) dirLimit (not-full (ltb (length (dirs (s .tree))) dirLimit) full a))
 kept (step.renameFile d a b) s n h o w = renamed d a b (n .0) (n .1) w
 kept (step.moveStaged f d k) s n a o w = found-put (look (stagingKey f) (s .staging)) d k n a o w
 kept (step.renameDirectory a b) s n h o w =

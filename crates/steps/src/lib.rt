@@ -13,6 +13,7 @@ ghost use Rattle.model.specs.Step.{fails, newFile, zeroSeparated, stepField};
 ghost use Rattle.model.specs.Answers.{commitNumber};
 ghost use Rattle.field.specs.Writing.{written, field};
 ghost use Rattle.spans.specs.Spans.{nameOf, lengthOf, Sound};
+ghost use Rattle.store.specs.Places.{tableRoom};
 ghost use Rattle.store.specs.Tables.{keyOf, mapOf, SoundTable, Holds};
 ghost use Rattle.store.specs.Stores.{storeOf, SoundStore};
 ghost use Rattle.plans.specs.Machine.{single};
@@ -27,6 +28,17 @@ use store::Node;
 use store::Store;
 use store::Table;
 
+// 01, How a store is handed over: "At most 16 directories, 128 files".
+const DIR_LIMIT: usize = 16;
+
+const FILE_LIMIT: usize = 128;
+
+// 01, Sixteen numbers: "14. A commit step fails", "15. A commit step needs a 17th directory or a 129th file."
+const FAILS: u32 = 14;
+
+const FULL: u32 = 15;
+
+// The file steps, each with its names in the order of 01, Listings and file steps.
 pub enum Step {
     RewriteHeader,
     SyncStaging,
@@ -58,7 +70,7 @@ pub struct Run {
 
 // The tree with a file or a directory, in place of one at the same place.
 fn put_in(src: &[u8], t: Table, dir: NameRef, file: NameRef, number: u32) -> Table
-    requires { ⌜ (SoundTable (now src) t × (Sound (now src) dir × Sound (now src) file)) × (length (mapOf (now src) t) < 145) ⌝ }
+    requires { ⌜ (SoundTable (now src) t × (Sound (now src) dir × Sound (now src) file)) × (length (mapOf (now src) t) < tableRoom) ⌝ }
     ensures { λ r. ⌜ Holds (now (src .entry)) r (put (keyOf (now (src .entry)) dir file) number (mapOf (now (src .entry)) t)) ⌝ }
 {
     store::put(
@@ -97,7 +109,7 @@ fn put_held(
     dir: NameRef,
     file: NameRef,
 ) -> Table
-    requires { ⌜ ((SoundTable (now src) t × SoundTable (now src) from) × (length (mapOf (now src) t) < 145)) × ((Sound (now src) a × Sound (now src) f) × (Sound (now src) dir × Sound (now src) file)) ⌝ }
+    requires { ⌜ ((SoundTable (now src) t × SoundTable (now src) from) × (length (mapOf (now src) t) < tableRoom)) × ((Sound (now src) a × Sound (now src) f) × (Sound (now src) dir × Sound (now src) file)) ⌝ }
     ensures { λ r. ⌜ Holds (now (src .entry)) r (caseOption (look (keyOf (now (src .entry)) a f) (mapOf (now (src .entry)) from)) (mapOf (now (src .entry)) t) (λ x. put (keyOf (now (src .entry)) dir file) x (mapOf (now (src .entry)) t))) ⌝ }
 {
     let h = store::look(src, from, a, f);
@@ -193,7 +205,7 @@ fn any_file(src: &[u8], t: Table, dir: NameRef) -> bool
     false
 }
 
-// 15 where a file at a place would be a 129th one, else 0.
+// 15 where a file at a place would be one too many, else 0.
 fn new_file(src: &[u8], t: Table, dir: NameRef, file: NameRef) -> u32
     requires { ⌜ SoundTable (now src) t × (Sound (now src) dir × Sound (now src) file) ⌝ }
     ensures { λ r. ⌜ r ≡ commitNumber (newFile (keyOf (now (src .entry)) dir file) (mapOf (now (src .entry)) t)) ⌝ }
@@ -203,7 +215,7 @@ fn new_file(src: &[u8], t: Table, dir: NameRef, file: NameRef) -> u32
         Held::Number(_) => 0,
         Held::Nothing => {
             let n = store::count(src, t);
-            if n.files < 128 { 0 } else { 15 }
+            if n.files < FILE_LIMIT { 0 } else { FULL }
         }
     }
 }
@@ -223,7 +235,7 @@ fn from_held(
 {
     let h = store::look(src, from, a, f);
     match h {
-        Held::Nothing => 14,
+        Held::Nothing => FAILS,
         Held::Number(_) => new_file(src, t, dir, file),
     }
 }
@@ -236,10 +248,10 @@ pub fn fault(src: &[u8], s: Store, x: Step) -> u32
     match x {
         Step::MakeDirectory(_) => {
             let n = store::count(src, s.tree);
-            if n.dirs < 16 { 0 } else { 15 }
+            if n.dirs < DIR_LIMIT { 0 } else { FULL }
         }
         Step::MoveStaged(f, d, k) => from_held(src, s.tree, s.staging, spans::empty(), f, d, k),
-        Step::RenameDirectory(_, b) => { if any_file(src, s.tree, b) { 14 } else { 0 } }
+        Step::RenameDirectory(_, b) => { if any_file(src, s.tree, b) { FAILS } else { 0 } }
         Step::CopyFile(a, b, f) => from_held(src, s.tree, s.tree, a, f, b, f),
         _ => 0,
     }
@@ -330,7 +342,7 @@ pub fn refuse(run: Run) -> Run
         return run;
     }
     let mut r = run;
-    r.refusal = 14;
+    r.refusal = FAILS;
     r
 }
 

@@ -1,15 +1,15 @@
 -- A store's log as `open_wal` and `read_wal` see it.
-use mathlib.Core.Path.{_≡_, refl, sym, ap, _∙_}
-use mathlib.Core.Bool.{Bool, true, false}
+use mathlib.Core.Path.{_≡_, ap, _∙_}
+use mathlib.Core.Bool.{true, false}
 use Prim.Native.Nat.{ℕ, _+_, _-_, _≤_}
 use native.Mathlib.Omega.{arith}
 use lib.ListN.{length, take, drop}
 use Rattle.model.specs.Base.{Bytes}
-use Rattle.model.specs.Log.{Entries, absent, entries, journal, readJournal}
-use Rattle.laws.specs.Tests.{le-leb, and-made}
+use Rattle.model.specs.Log.{absent, entries, journal, readJournal}
+use Rattle.laws.specs.Tests.{le-leb}
 use Rattle.store.specs.declared.LogRef.{LogRef}
 use Rattle.store.specs.Stores.{logBytes, SoundLog}
-use Rattle.transaction.specs.Operations.{inBounds, part}
+use Rattle.transaction.specs.Operations.{inBounds}
 use Rattle.wal.specs.declared.Status.{Status}
 use Rattle.wal.specs.declared.WalRead.{WalRead}
 use Rattle.wal.specs.Logs.{journalOf, entriesAt, entriesOf, SoundRead, ReadsLog}

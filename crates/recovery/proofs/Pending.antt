@@ -1,18 +1,18 @@
 -- `has_pending_work`: a log, a backup, or a staging file.
-use mathlib.Core.Path.{_≡_, refl, sym, ap, _∙_}
+use mathlib.Core.Path.{_≡_, _∙_}
 use mathlib.Core.List.{[], _∷_}
-use mathlib.Core.Bool.{Bool, true, false}
-use Prim.Native.Nat.{ℕ, suc, _<_}
+use mathlib.Core.Bool.{true, false}
+use Prim.Native.Nat.{ℕ}
 use native.Mathlib.Omega.{arith}
 use lib.ListN.{length}
 use lib.Dec.{ltb}
 use borrow.Author.Tests.{lt-ltb, le-ltb}
 use Rattle.model.specs.Map.{Map}
-use Rattle.model.specs.Base.{Bytes, isSome, ifEmpty}
+use Rattle.model.specs.Base.{Bytes, ifEmpty}
 use Rattle.model.specs.Store.{hasBackupFiles, hasPendingWork}
 use Rattle.store.specs.declared.Store.{Store}
 use Rattle.store.specs.Tables.{mapOf, Sized}
-use Rattle.store.specs.Stores.{logBytes, storeOf}
+use Rattle.store.specs.Stores.{storeOf}
 use Rattle.store.proofs.Live.{length-table}
 use Rattle.recovery.proofs.Picks.{log-told}
 

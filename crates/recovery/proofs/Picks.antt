@@ -1,5 +1,5 @@
 -- The plans of recovery's functions, by what the code finds.
-use mathlib.Core.Path.{_≡_, refl, sym, ap, _∙_}
+use mathlib.Core.Path.{_≡_, refl, sym, _∙_}
 use mathlib.Core.List.{List, [], _∷_}
 use mathlib.Core.Option.{Option, none, some}
 use mathlib.Core.Bool.{Bool, true, false, false≢true}
@@ -8,7 +8,7 @@ use Rattle.model.specs.Map.{look}
 use Rattle.model.specs.Base.{Bytes, isSome, ifPresent, ifMissing, ifEmpty}
 use Rattle.model.specs.Name.{backupName, originalName, stripTmp, isBackup, isTmp}
 use Rattle.model.specs.Store.{Store, files}
-use Rattle.model.specs.Step.{Step, removeFile, removeDirectory, renameFile, renameDirectory, removeLog, apply}
+use Rattle.model.specs.Step.{removeFile, removeDirectory, renameFile, renameDirectory, removeLog, apply}
 use Rattle.model.specs.Plan.{restoreFile, restoreDirectory, removeBackupFile, removeBackupsIn}
 use Rattle.plans.specs.Machine.{single, seq}
 use Rattle.store.specs.Stores.{logBytes}

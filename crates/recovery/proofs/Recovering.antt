@@ -1,10 +1,9 @@
 -- `recover`: its start, its plan, and what the run comes to.
-use mathlib.Core.Path.{_≡_, refl, sym, ap, subst, _∙_}
-use mathlib.Core.List.{List}
-use mathlib.Core.Bool.{Bool, true, false}
+use mathlib.Core.Path.{_≡_, sym, ap, subst, _∙_}
+use mathlib.Core.Bool.{Bool, false}
 use Prim.Native.Nat.{ℕ}
 use Rattle.model.specs.Base.{Bytes}
-use Rattle.model.specs.Log.{Entries, Journal, absent, committing, entries, journal}
+use Rattle.model.specs.Log.{Entries, Journal, committing, entries, journal}
 use Rattle.model.specs.Store as model
 use Rattle.model.specs.Step.{apply}
 use Rattle.model.specs.Plan.{inSequence, recoverParts, recoverFault, recoverPlan, withoutMark}

@@ -9,7 +9,7 @@ use Rattle.model.specs.Map.{Map}
 use Rattle.model.specs.Base.{Bytes, if_then_else_, anyOf}
 use Rattle.model.specs.Log.{Journal, absent, recording, committing, whole, truncated, undecodable, tooMany, journal}
 use Rattle.model.specs.Store.{hasBackupFiles}
-use Rattle.model.specs.Step.{stepField, apply}
+use Rattle.model.specs.Step.{stepField}
 use Rattle.model.specs.Plan.{isNewArtifact, recoverFault, recoverPlan, recovered, recoveredAt, withoutMark}
 use Rattle.model.specs.Answers.{fieldAt}
 use Rattle.store.specs.declared.Store.{Store}

@@ -1,6 +1,5 @@
 -- `has_backup`: a backup name of over 64 bytes stands nowhere.
 use borrow.Author.Needs.{needs}
-use mathlib.Core.Path.{sym, _∙_}
 use Rattle.recovery.proofs.Nodes.{no-long-file}
 use Rattle.recovery.proofs.has_backup.Statement.{statement}
 use Rattle.recovery.proofs.has_backup.Tie as tie

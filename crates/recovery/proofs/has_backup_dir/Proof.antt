@@ -1,6 +1,5 @@
 -- `has_backup_dir`: a backup name of over 64 bytes stands nowhere.
 use borrow.Author.Needs.{needs}
-use mathlib.Core.Path.{sym, _∙_}
 use Rattle.recovery.proofs.Nodes.{no-long-dir}
 use Rattle.recovery.proofs.has_backup_dir.Statement.{statement}
 use Rattle.recovery.proofs.has_backup_dir.Tie as tie

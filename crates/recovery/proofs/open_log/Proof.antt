@@ -1,6 +1,5 @@
 -- `open_log`: the status of the log's bytes, where one stands.
 use borrow.Author.Needs.{needs}
-use mathlib.Core.Path.{sym, _∙_}
 use borrow.Author.Tests.{not-true, not-false}
 use Rattle.recovery.proofs.Journals.{no-journal, log-part, opened}
 use Rattle.recovery.proofs.open_log.Statement.{statement}

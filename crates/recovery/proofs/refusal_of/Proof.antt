@@ -1,6 +1,6 @@
 -- `refusal_of`: by how the walk ended.
 use borrow.Author.Needs.{needs}
-use mathlib.Core.Path.{refl, sym, _∙_}
+use mathlib.Core.Path.{sym, _∙_}
 use Rattle.wal.specs.Logs.{opsRead}
 use Rattle.recovery.proofs.Refusals.{backup-found, artifact-found, nothing-found}
 use Rattle.recovery.proofs.refusal_of.Statement.{statement}

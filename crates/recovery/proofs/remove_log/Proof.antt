@@ -1,6 +1,4 @@
 -- `remove_log` removes a log that stands.
-use borrow.Author.Needs.{needs}
-use mathlib.Core.Path.{sym, _∙_}
 use Rattle.steps.specs.Steps.{stepOf}
 use Rattle.recovery.proofs.Follow.{lawful, stays, follows-as}
 use Rattle.recovery.proofs.Picks.{log-gone, no-log}

@@ -1,6 +1,5 @@
 -- `restore_directory`: by the directory's name.
 use borrow.Author.Needs.{needs}
-use mathlib.Core.Path.{sym, _∙_}
 use Rattle.steps.specs.Steps.{stepOf}
 use Rattle.recovery.proofs.Follow.{lawful, follows-as, follows-then}
 use Rattle.recovery.proofs.Picks.{restores-dir, restores-files}

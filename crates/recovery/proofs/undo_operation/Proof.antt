@@ -1,6 +1,5 @@
 -- `undo_operation`: by the operation's kind.
 use borrow.Author.Needs.{needs}
-use mathlib.Core.Path.{sym, _∙_}
 use Rattle.recovery.proofs.Follow.{lawful, stays, follows-as}
 use Rattle.recovery.proofs.Artifacts.{by-write, by-create, by-copy, by-existed, undoes-nothing}
 use Rattle.recovery.proofs.undo_operation.Statement.{statement}

@@ -1,0 +1,138 @@
+-- What a payload decodes to, by the row of its kind, and in which bytes its names lie.
+use mathlib.Core.Path.{_≡_, refl, sym, ap, ap₂, _∙_}
+use mathlib.Core.List.{List, [], _∷_, map}
+use mathlib.Core.Bool.{Bool, true, false, _&&_}
+use mathlib.Core.Option.{Option, none, some}
+use Prim.Native.Nat.{ℕ, zero, suc, _+_, _-_, _≤_, _<_}
+use native.Mathlib.Omega.{arith}
+use lib.Dec.{leb}
+use lib.ListN.{length, take, drop, getD, getElem?, drop-of-length-le}
+use lib.Seq.{length-take-le, take-take}
+use borrow.Author.Tests.{leb-true, leb-false, le-leb, lt-leb}
+use types.Run.{OneOf}
+use denote.Enum.Declared.{tagOf}
+use Rattle.model.specs.Base.{Bytes, caseOption, if_then_else_, sameBytes, allOf}
+use Rattle.model.specs.Field.{Field, fieldsFrom, decodeFields}
+use Rattle.model.specs.Operation.{Op, fieldTags, makers, validValue, opOfFields, decodePayload}
+use Rattle.laws.specs.Tests.{All}
+use Rattle.spans.specs.Spans.{backups, nameOf, Sound}
+use Rattle.spans.specs.declared.NameRef.{NameRef}
+use Rattle.field.specs.Reading.{fieldOf, Reads, Stands}
+use Rattle.field.proofs.Fields.{no-field}
+use Rattle.field.specs.declared.Item.{Item}
+use Rattle.field.specs.declared.Read.{Read}
+use Rattle.field.proofs.Read.{the-type}
+use Rattle.transaction.specs.Operations.{decodedOf, inBounds, part, decodedAt, Decodes}
+use Rattle.transaction.specs.Rows.{matchRow, SoundParts, Matches, made, Makes}
+use Rattle.transaction.specs.declared.Decoded.{Decoded}
+use Rattle.transaction.specs.declared.Decoded.the-variants.{Is, Undecodable}
+use Rattle.transaction.specs.declared.Values.{Values}
+use Rattle.transaction.proofs.Arms.{made-row}
+use Rattle.transaction.proofs.Decode.{matched, row-of-bytes}
+
+-- A payload whose first field stands there decodes by the row of its kind.
+chosen : (j : ℕ) (f : Field) (fs : List Field) (b : Bool) → if_then_else_ b (caseOption (getElem? makers j) none (λ make. some (make (map (λ g. g .value) fs)))) none ≡ caseOption (if b then some (map (λ g. g .value) (f ∷ fs)) else none) none (made (suc j))
+unfolding made
+chosen j f fs true = refl
+chosen j f fs false = refl
+
+of-kind : (k : ℕ) (f : Field) (fs : List Field) → getD (f .value) 0 0 ≡ k → opOfFields (f ∷ fs) ≡ caseOption (matched (fieldTags k) (f ∷ fs)) none (made k)
+unfolding opOfFields matched fieldTags
+of-kind zero f fs z = rw z
+of-kind (suc j) f fs z =
+    let p : suc j - 1 ≡ j = omega arith in
+    rw (z, p) (chosen j f fs (sameBytes (f .tag ∷ map (λ g. g .tag) fs) (fieldTags (suc j)) && allOf validValue (f ∷ fs)))
+
+by-row : {s : Bytes} {at : ℕ} {x : Item} (k : ℕ) → Stands s at x → k ≡ getD (fieldOf s x .value) 0 0 → decodePayload (drop at s) ≡ caseOption (matchRow (fieldTags k) (drop at s)) none (made k)
+unfolding decodePayload decodeFields
+by-row {s} {at} {x} k w e = rw (row-of-bytes (fieldTags k) (drop at s), w .fields) (go (fieldsFrom 0 (drop (x .end) s)))
+  where
+    go : (q : Option (List Field)) → caseOption (caseOption q none (λ fs. some (fieldOf s x ∷ fs))) none opOfFields ≡ caseOption (caseOption (caseOption q none (λ fs. some (fieldOf s x ∷ fs))) none (matched (fieldTags k))) none (made k)
+    go none = refl
+    go (some fs) = of-kind k (fieldOf s x) fs (sym e)
+
+pub no-kind-field : (s : Bytes) (at : ℕ) (r : Read) → Reads s at r → OneOf (1 ∷ 2 ∷ []) (tagOf the-type r) → decodePayload (drop at s) ≡ none
+unfolding decodePayload decodeFields fieldsFrom opOfFields
+no-kind-field s at r h k = go (leb (length s) at) refl
+  where
+    go : (b : Bool) → leb (length s) at ≡ b → caseOption (fieldsFrom 0 (drop at s)) none opOfFields ≡ none
+    go true e = rw (drop-of-length-le s (leb-true (length s) at e))
+    go false e = rw (no-field s at r h k (leb-false (length s) at e))
+
+-- A part between two places.
+pub part-drop : (start end : ℕ) (l : Bytes) → start ≤ end → part l start end ≡ drop start (take end l)
+part-drop zero end l h = let e : end - 0 ≡ end = omega arith in rw e
+part-drop (suc start) zero l h = absurd (omega arith)
+part-drop (suc start) (suc end) [] h = go (suc end - suc start)
+  where
+    go : (n : ℕ) → _≡_ {A = Bytes} (take n []) []
+    go zero = refl
+    go (suc n) = refl
+part-drop (suc start) (suc end) (x ∷ l) h = let e : suc end - suc start ≡ end - start = omega arith in rw e (part-drop start end l (omega arith))
+
+-- The names of the bytes before a place are names of all of them.
+module _ (e : ℕ) (src : Bytes) (k : e ≤ length src) where
+  wide-sound : (r : NameRef) → Sound (take e src) r → Sound src r
+  wide-sound r h = record { inside = omega (arith, h .inside, length-take-le e src k); room = h .room }
+
+  wide-name : (r : NameRef) → Sound (take e src) r → nameOf (take e src) r ≡ nameOf src r
+  unfolding nameOf
+  wide-name r h =
+      let l : r .start + r .len ≤ e = omega (arith, h .inside, length-take-le e src k) in
+      ap (λ (n : Bytes). backups (r .baks) n) (ap (take (r .len)) (sym (part-drop (r .start) e src (omega arith))) ∙ take-take (r .len) (e - r .start) (drop (r .start) src) (omega arith))
+
+  wide-sounds : (l : List NameRef) → All (Sound (take e src)) l → All (Sound src) l
+  wide-sounds [] h = tt
+  wide-sounds (r ∷ l) h = (wide-sound r (h .0), wide-sounds l (h .1))
+
+  wide-names : (l : List NameRef) → All (Sound (take e src)) l → map (nameOf (take e src)) l ≡ map (nameOf src) l
+  wide-names [] h = refl
+  wide-names (r ∷ l) h = ap₂ _∷_ (wide-name r (h .0)) (wide-names l (h .1))
+
+  pub wide-parts : {l : List NameRef} → SoundParts (take e src) l → SoundParts src l
+  wide-parts {l} h = record { size = h .size; sound = wide-sounds l (h .sound) }
+
+-- Out of bounds.
+and-right : (a : Bool) → (a && false) ≡ false
+and-right true = refl
+and-right false = refl
+
+module _ {src : Bytes} {start end : ℕ} where
+  nowhere : inBounds src start end ≡ false → Decodes src start end Undecodable
+  unfolding decodedAt
+  nowhere h = record { sound = tt; same = rw h }
+
+  pub end-first : end < start → Decodes src start end Undecodable
+  end-first h = nowhere (unfold inBounds in rw (lt-leb start end h))
+
+  pub past-end : length src < end → Decodes src start end Undecodable
+  past-end h = nowhere (unfold inBounds in rw (lt-leb end (length src) h, and-right (leb start end)))
+
+  pub too-long : 0xFFFF < length src → Decodes src start end Undecodable
+  too-long h = nowhere (unfold inBounds in rw (lt-leb (length src) 0xFFFF h, and-right (leb start end && leb end (length src))))
+
+-- In bounds: what is left to be shown is what the payload decodes to.
+pub in-bounds : (src : Bytes) (start end : ℕ) → start ≤ end → end ≤ length src → length src ≤ 0xFFFF → inBounds src start end ≡ true
+unfolding inBounds
+in-bounds src start end a b c = rw (le-leb start end a, le-leb end (length src) b, le-leb (length src) 0xFFFF c)
+
+module _ (src : Bytes) (start end : ℕ) (a : start ≤ end) (b : end ≤ length src) (c : length src ≤ 0xFFFF) where
+  there : decodedAt src start end ≡ decodePayload (drop start (take end src))
+  unfolding decodedAt
+  there = rw (in-bounds src start end a b c) (ap decodePayload (part-drop start end src a))
+
+  pub undecodable : decodePayload (drop start (take end src)) ≡ none → Decodes src start end Undecodable
+  undecodable h = record { sound = tt; same = sym (there ∙ h) }
+
+  module _ (k : ℕ) {x : Item} {v : Values} (w : Stands (take end src) start x) (z : k ≡ getD (fieldOf (take end src) x .value) 0 0) (m : Matches (take end src) (fieldTags k) start v) where
+    found : decodePayload (drop start (take end src)) ≡ caseOption (if v .fit then some (map (nameOf (take end src)) (take (length (fieldTags k)) (v .parts))) else none) none (made k)
+    found = by-row k w z ∙ ap (λ (o : Option (List Bytes)). caseOption o none (made k)) (sym (m .same))
+
+    pub no-fit : v .fit ≡ false → Decodes src start end Undecodable
+    no-fit f = undecodable (found ∙ rw f)
+
+    pub fits : {d : Decoded} → v .fit ≡ true → Makes src k (v .parts) d → Decodes src start end d
+    fits f d = record {
+      sound = d .sound;
+      same = d .same ∙ sym (there ∙ found ∙ rw f (made-row (take end src) k (v .parts) (m .parts .size) ∙ ap (made k) (wide-names end src b (v .parts) (m .parts .sound))));
+    }

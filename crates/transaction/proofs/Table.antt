@@ -1,0 +1,83 @@
+-- The table of the code is the model's, with 0 behind the last tag of a row.
+use mathlib.Core.Path.{_≡_, refl, sym, ap, _∙_}
+use mathlib.Core.List.{List, [], _∷_, _++_, append-nil, append-assoc}
+use Prim.Native.Nat.{ℕ, zero, suc, _+_, _-_, _≤_, _<_}
+use native.Mathlib.Omega.{arith}
+use native.Mathlib.Numerals.{add-one}
+use lib.ListN.{length, take, drop, getD}
+use lib.Seq.{take-suc, drop-cons, take-length, drop-length}
+use Rattle.model.specs.Operation.{fieldTable, fieldTags}
+use Rattle.transaction.specs.Rows.{tagsIn}
+
+unfoldable pub rows : List (List ℕ)
+rows =
+    (1 ∷ 2 ∷ 3 ∷ 4 ∷ [])
+    ∷ (1 ∷ 2 ∷ 3 ∷ 0 ∷ [])
+    ∷ (1 ∷ 2 ∷ 0 ∷ 0 ∷ [])
+    ∷ (1 ∷ 2 ∷ 0 ∷ 0 ∷ [])
+    ∷ (1 ∷ 2 ∷ 0 ∷ 0 ∷ [])
+    ∷ (1 ∷ 2 ∷ 5 ∷ 6 ∷ [])
+    ∷ []
+
+-- Row by row.
+pub row-tags : (k : ℕ) → 1 ≤ k → k ≤ 6 → tagsIn (getD rows (k - 1) []) ≡ fieldTags k
+unfolding rows fieldTags fieldTable
+row-tags zero h g = absurd (omega arith)
+row-tags (suc zero) h g = refl
+row-tags (suc (suc zero)) h g = refl
+row-tags (suc (suc (suc zero))) h g = refl
+row-tags (suc (suc (suc (suc zero)))) h g = refl
+row-tags (suc (suc (suc (suc (suc zero))))) h g = refl
+row-tags (suc (suc (suc (suc (suc (suc zero)))))) h g = refl
+row-tags (suc (suc (suc (suc (suc (suc (suc k))))))) h g = absurd (omega arith)
+
+pub no-row : (k : ℕ) → k < 1 → [] ≡ fieldTags k
+unfolding fieldTags
+no-row zero h = refl
+no-row (suc k) h = absurd (omega arith)
+
+pub past-rows : (k : ℕ) → 6 < k → [] ≡ fieldTags k
+unfolding fieldTags fieldTable
+past-rows zero h = absurd (omega arith)
+past-rows (suc zero) h = absurd (omega arith)
+past-rows (suc (suc zero)) h = absurd (omega arith)
+past-rows (suc (suc (suc zero))) h = absurd (omega arith)
+past-rows (suc (suc (suc (suc zero)))) h = absurd (omega arith)
+past-rows (suc (suc (suc (suc (suc zero))))) h = absurd (omega arith)
+past-rows (suc (suc (suc (suc (suc (suc zero)))))) h = absurd (omega arith)
+past-rows (suc (suc (suc (suc (suc (suc (suc k))))))) h = refl
+
+-- Counting a row's fields: none of the first n tags is 0.
+pub record Counting (row : List ℕ) (n : ℕ) : Type 0 where
+  pub within : n ≤ 4
+  pub same : take n row ++ tagsIn (drop n row) ≡ tagsIn row
+
+tags-end : (r : List ℕ) → getD r 0 0 ≡ 0 → tagsIn r ≡ []
+tags-end [] e = refl
+tags-end (zero ∷ r) e = refl
+tags-end (suc t ∷ r) e = absurd (omega arith)
+
+tags-next : (t : ℕ) (r : List ℕ) → (t ≡ 0 → ⊥) → tagsIn (t ∷ r) ≡ t ∷ tagsIn r
+tags-next zero r h = absurd (h refl)
+tags-next (suc t) r h = refl
+
+module _ {row : List ℕ} {n : ℕ} (w : Counting row n) (size : length row ≡ 4) where
+  pub counted : getD row n 0 ≡ 0 → n < 4 → take n row ≡ tagsIn row
+  counted e l =
+      let d : tagsIn (drop n row) ≡ [] = ap tagsIn (drop-cons row n 0 (omega arith)) ∙ tags-end (getD row n 0 ∷ drop (suc n) row) e in
+      sym (append-nil (take n row)) ∙ ap (take n row ++_) (sym d) ∙ w .same
+
+  pub count-on : (getD row n 0 ≡ 0 → ⊥) → n < 4 → Counting row (n + 1)
+  count-on h l = record {
+    within = omega arith;
+    same = rw (add-one n) (
+        let t : tagsIn (drop n row) ≡ getD row n 0 ∷ tagsIn (drop (suc n) row) = ap tagsIn (drop-cons row n 0 (omega arith)) ∙ tags-next (getD row n 0) (drop (suc n) row) h in
+        ap (_++ tagsIn (drop (suc n) row)) (take-suc row n 0 (omega arith)) ∙ append-assoc (take n row) (getD row n 0 ∷ []) (tagsIn (drop (suc n) row)) ∙ ap (take n row ++_) (sym t) ∙ w .same
+        );
+  }
+
+  pub all-counted : 4 ≤ n → take n row ≡ tagsIn row
+  all-counted h =
+      let e : n ≡ length row = omega arith in
+      let d : tagsIn (drop n row) ≡ [] = rw e (ap tagsIn (drop-length row)) in
+      sym (append-nil (take n row)) ∙ ap (take n row ++_) (sym d) ∙ w .same

@@ -1,0 +1,86 @@
+-- What the answers about a log say of the model's log.
+use mathlib.Core.Path.{_≡_}
+use Prim.Native.Nat.{ℕ, _+_, _-_, _≤_, _<_}
+use mathlib.Core.List.{List, [], _∷_, map}
+use mathlib.Core.Option.{Option, none, some}
+use mathlib.Core.Bool.{_&&_}
+use lib.ListN.{length, take, drop}
+use lib.Dec.{leb}
+use Rattle.model.specs.Base.{Bytes, if_then_else_}
+use Rattle.model.specs.Operation.{Op}
+use Rattle.model.specs.Log.{Entries, Journal, absent, recording, committing, stop, firstPayload, entries}
+use Rattle.model.specs.Log as model
+use Rattle.laws.specs.Tests.{All}
+use Rattle.transaction.specs.Operations.{opOf, SoundOp, inBounds, part}
+use Rattle.wal.specs.declared.Status.{Status}
+use Rattle.wal.specs.declared.Status.the-variants.{Absent, Recording, Committing}
+use Rattle.wal.specs.declared.Entry.{Entry}
+use Rattle.wal.specs.declared.Entry.the-variants as entry
+use Rattle.wal.specs.declared.Ending.{Ending}
+use Rattle.wal.specs.declared.Ending.the-variants as code
+use Rattle.wal.specs.declared.Logged.{Logged}
+use Rattle.wal.specs.declared.WalRead.{WalRead}
+
+-- The log as commit and recovery see it, by its status and its entries.
+abbrev pub journalOf : Status → Entries → Journal
+journalOf Absent r = absent
+journalOf Recording r = recording (r .ops) (r .end)
+journalOf Committing r = committing (r .ops) (r .end)
+
+-- The payload between two places; nothing where these are out of bounds.
+unfoldable pub payloadAt : Bytes → ℕ → ℕ → Bytes
+payloadAt log start end = if leb start end && leb end (length log) then part log start end else []
+
+-- The payload whose bounds an answer holds.
+abbrev pub entryOf : Bytes → Entry → Option Bytes
+entryOf log (entry.Payload start end) = some (part log start end)
+entryOf log entry.Truncated = none
+
+-- A payload stands behind the eight bytes of its entry's head, and is not empty.
+abbrev pub Bounded : Bytes → ℕ → Entry → Type 0
+Bounded log at (entry.Payload start end) = (start ≡ at + 8) × ((start < end) × (end ≤ length log))
+Bounded log at entry.Truncated = Unit {0}
+
+-- What `entry_at` answers.
+pub record EntryAt (log : Bytes) (at : ℕ) (e : Entry) : Type 0 where
+  pub bounded : Bounded log at e
+  pub same : entryOf log e ≡ firstPayload (drop at log)
+
+abbrev pub endingOf : Ending → model.Ending
+endingOf code.Whole = model.whole
+endingOf code.Truncated = model.truncated
+endingOf code.Undecodable = model.undecodable
+endingOf code.TooMany = model.tooMany
+
+-- The operations that were read: those before `len`.
+abbrev pub loggedOf : Bytes → Logged → Op
+loggedOf src l = opOf src (l .op)
+
+abbrev pub opsRead : Bytes → WalRead → List Op
+opsRead src r = map (loggedOf src) (take (r .len) (r .ops))
+
+abbrev pub entriesOf : Bytes → WalRead → Entries
+entriesOf src r = record { ops = opsRead src r; end = endingOf (r .ending) }
+
+-- All names of the operations lie in the bytes.
+abbrev pub SoundLogged : Bytes → Logged → Type 0
+SoundLogged src l = SoundOp src (l .op)
+
+pub record SoundRead (src : Bytes) (r : WalRead) : Type 0 where
+  pub size : length (r .ops) ≡ 32
+  pub within : r .len ≤ 32
+  pub sound : All (SoundLogged src) (r .ops)
+
+-- The entries of the log between two places; where spans cannot point there, nothing is decoded.
+unfoldable pub entriesAt : Bytes → ℕ → ℕ → Entries
+entriesAt src start end = if inBounds src start end then entries (part src start end) else stop model.undecodable
+
+-- What `read_wal` answers.
+pub record ReadsLog (src : Bytes) (start end : ℕ) (r : WalRead) : Type 0 where
+  pub held : SoundRead src r
+  pub same : entriesOf src r ≡ entriesAt src start end
+
+-- The same of the entries from a place on.
+pub record WalksLog (src : Bytes) (at end : ℕ) (r : WalRead) : Type 0 where
+  pub held : SoundRead src r
+  pub same : entriesOf src r ≡ model.walk 32 0 (drop at (take end src))

@@ -1,0 +1,211 @@
+// The log: wal.rs. 01, How a store is handed over: the header and the entries; Corners, wal.rs.
+ghost use mathlib.Core.Path.{_≡_};
+ghost use Prim.Native.Nat.{_≤_};
+ghost use lib.ListN.{length};
+ghost use Rattle.model.specs.Operation.{encodePayload};
+ghost use Rattle.model.specs.Log.{header, entry, entries, readJournal};
+ghost use Rattle.field.specs.Writing.{written};
+ghost use Rattle.transaction.specs.Operations.{opOf, SoundOp, Writes};
+ghost use Rattle.wal.specs.Logs.{journalOf, payloadAt, EntryAt, ReadsLog, WalksLog};
+use spans::NameRef;
+use transaction::Decoded;
+use transaction::Operation;
+
+// "0xCA" and "0x01 Committing" of the header.
+const WAL_MAGIC: u8 = 0xCA;
+const STATUS_COMMITTING: u8 = 0x01;
+
+// Header and entry head have eight bytes each.
+const WAL_FILE_HEADER_SIZE: usize = 8;
+const ENTRY_HEADER_SIZE: usize = 8;
+
+// A log's status; one without a valid header is as if absent.
+pub enum Status {
+    Absent,
+    Recording,
+    Committing,
+}
+
+// An entry: where its payload starts and ends; or it is cut off or broken.
+pub enum Entry {
+    Payload(usize, usize),
+    Truncated,
+}
+
+// How the walk through the entries ended: at the log's end, at a truncated entry, at an undecodable payload (11), at a byte too many (12).
+pub enum Ending {
+    Whole,
+    Truncated,
+    Undecodable,
+    TooMany,
+}
+
+// An operation that was read.
+pub struct Logged {
+    pub op: Operation,
+}
+
+// The operations of a log, those before `len`, and how the walk ended.
+pub struct WalRead {
+    pub ops: [Logged; 32],
+    pub len: usize,
+    pub ending: Ending,
+}
+
+const NO_NAME: NameRef = NameRef {
+    start: 0,
+    len: 0,
+    baks: 0,
+};
+
+const NO_OPERATION: Logged = Logged { op: Operation::DeleteAll(NO_NAME) };
+
+// The log's header: magic, status, two zero bytes, and the checksum of the first two.
+pub fn encode_header(status: u8) -> [u8; 8]
+    ensures { λ r. ⌜ r ≡ header status ⌝ }
+{
+    let first = [WAL_MAGIC, status];
+    let mut h = [WAL_MAGIC, status, 0, 0, 0, 0, 0, 0];
+    field::put_u32(&mut h, 4, crc32::hash(&first));
+    h
+}
+
+// The header rewritten with Committing.
+pub fn mark_committing(out: &mut [u8], at: usize)
+    ensures { λ _. ⌜ now (out .exit) ≡ written at (header 1) (now (out .entry)) ⌝ }
+{
+    let h = encode_header(STATUS_COMMITTING);
+    field::put_bytes(out, at, &h);
+}
+
+// The status of a log.
+pub fn open_wal(log: &[u8]) -> Status
+    ensures { λ r. ⌜ journalOf r (entries (now (log .entry))) ≡ readJournal (now (log .entry)) ⌝ }
+{
+    if log.len() < WAL_FILE_HEADER_SIZE {
+        return Status::Absent;
+    }
+    if log[0] != WAL_MAGIC {
+        return Status::Absent;
+    }
+    if field::u32_at(log, 4) != crc32::hash(&log[..2]) {
+        return Status::Absent;
+    }
+    let status = log[1];
+    match status {
+        0 => Status::Recording,
+        1 => Status::Committing,
+        _ => Status::Absent,
+    }
+}
+
+// An entry's payload: the part of the lent log between its bounds; an empty one where these do not hold.
+pub fn payload(log: &[u8], start: usize, end: usize) -> &[u8]
+    ensures { λ r. ⌜ now r ≡ payloadAt (now (log .entry)) start end ⌝ }
+{
+    if end < start {
+        return &log[..0];
+    }
+    if log.len() < end {
+        return &log[..0];
+    }
+    &log[start..end]
+}
+
+// The entry that stands at `at`. Truncated are: fewer than eight bytes, payload length 0, payload past the end, wrong checksum.
+pub fn entry_at(log: &[u8], at: usize) -> Entry
+    ensures { λ r. ⌜ EntryAt (now (log .entry)) at r ⌝ }
+{
+    if field::left(log.len(), at) < ENTRY_HEADER_SIZE {
+        return Entry::Truncated;
+    }
+    let start = at + ENTRY_HEADER_SIZE;
+    let len = field::u32_at(log, at + 4) as usize;
+    if len == 0 {
+        return Entry::Truncated;
+    }
+    if field::left(log.len(), start) < len {
+        return Entry::Truncated;
+    }
+    let end = start + len;
+    if field::u32_at(log, at) != crc32::hash(payload(log, start, end)) {
+        return Entry::Truncated;
+    }
+    Entry::Payload(start, end)
+}
+
+// The answer of a walk.
+fn ended(ops: [Logged; 32], len: usize, ending: Ending) -> WalRead
+    ensures { λ r. ⌜ (r .ops ≡ ops) × ((r .len ≡ len) × (r .ending ≡ ending)) ⌝ }
+{
+    WalRead {
+        ops: ops,
+        len: len,
+        ending: ending,
+    }
+}
+
+// The entries from `first` on, up to `end`: at most 32 operations. An undecodable payload ends the walk at once.
+fn walk_entries(src: &[u8], first: usize, end: usize) -> WalRead
+    requires { ⌜ (first ≤ end) × ((end ≤ length (now src)) × (length (now src) ≤ 0xFFFF)) ⌝ }
+    ensures { λ r. ⌜ WalksLog (now (src .entry)) first end r ⌝ }
+{
+    let mut ops = [NO_OPERATION; 32];
+    let log = &src[..end];
+    let mut at = first;
+    let mut n: usize = 0;
+    while n < 32 {
+        if end <= at {
+            return ended(ops, n, Ending::Whole);
+        }
+        let Entry::Payload(from, to) = entry_at(log, at) else {
+            return ended(ops, n, Ending::Truncated);
+        };
+        let Decoded::Is(op) = transaction::decode_operation(src, from, to) else {
+            return ended(ops, n, Ending::Undecodable);
+        };
+        ops[n] = Logged { op: op };
+        at = to;
+        n += 1;
+    }
+    if at < end {
+        return ended(ops, n, Ending::TooMany);
+    }
+    ended(ops, n, Ending::Whole)
+}
+
+// The operations of the log between two places. A valid header alone: no operations, whole.
+pub fn read_wal(src: &[u8], start: usize, end: usize) -> WalRead
+    ensures { λ r. ⌜ ReadsLog (now (src .entry)) start end r ⌝ }
+{
+    if end < start {
+        return ended([NO_OPERATION; 32], 0, Ending::Undecodable);
+    }
+    if src.len() < end {
+        return ended([NO_OPERATION; 32], 0, Ending::Undecodable);
+    }
+    if 0xFFFF < src.len() {
+        return ended([NO_OPERATION; 32], 0, Ending::Undecodable);
+    }
+    if end - start < WAL_FILE_HEADER_SIZE {
+        return walk_entries(src, end, end);
+    }
+    walk_entries(src, start + WAL_FILE_HEADER_SIZE, end)
+}
+
+// The entry of an operation written at `at`, and how long it is.
+pub fn append_operation(src: &[u8], op: Operation, out: &mut [u8], at: usize) -> usize
+    requires { ⌜ SoundOp (now src) op ⌝ }
+    ensures { λ r. ⌜ Writes (entry (encodePayload (opOf (now (src .entry)) op))) at (now (out .entry)) (now (out .exit)) r ⌝ }
+{
+    let p = transaction::payload_of(src, op);
+    let bytes = p.bytes;
+    let n = p.len;
+    let len = ENTRY_HEADER_SIZE + n;
+    if len <= field::left(out.len(), at) {
+        field::put_u32(out, at, crc32::hash(&bytes[..n]));
+        field::put_u32(out, at + 4, n as u32);
+        field::put_bytes(out, at + ENTRY_HEADER_SIZE, &bytes[..n]);
+    }
+    len
+}

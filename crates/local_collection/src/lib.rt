@@ -144,10 +144,11 @@ fn put_key(src: &[u8], file: NameRef, out: &mut [u8], at: usize) -> usize
     ensures { λ r. ⌜ Puts (lower (nameOf (now (src .entry)) file)) at (now (out .entry)) (now (out .exit)) r ⌝ }
 {
     let n = spans::length_of(file);
-    if 3 + n <= field::left(out.len(), at) {
-        field::put_field_head(out, at, KEY_TAG, n as u16);
-        put_lower(src, file, out, at + 3);
+    if field::left(out.len(), at) < 3 + n {
+        return 3 + n;
     }
+    field::put_field_head(out, at, KEY_TAG, n as u16);
+    put_lower(src, file, out, at + 3);
     3 + n
 }
 

@@ -1,2 +1,5 @@
 pub mod Opened
 pub mod Outcomes
+pub mod Ends
+pub mod Stagings
+pub mod Collections

@@ -132,10 +132,10 @@ module _ {src : Bytes} {s : Store} (r : Ready src s) {b : Bool} (e : b ≡ opene
 
 -- 4, 5, or going on.
 module _ {src : Bytes} {s : model.Store} {t : Transaction} (w : Opens src s t) where
-  none-open : not (t .found) ≡ true → transaction s ≡ none
+  pub none-open : not (t .found) ≡ true → transaction s ≡ none
   none-open h = sym (w .same) ∙ rw (not-true (t .found) h)
 
-  some-open : not (t .found) ≡ false → transaction s ≡ some (opsRead src (t .read))
+  pub some-open : not (t .found) ≡ false → transaction s ≡ some (opsRead src (t .read))
   some-open h = sym (w .same) ∙ rw (not-false (t .found) h)
 
   ops-length : length (opsRead src (t .read)) ≡ t .read .len

@@ -38,6 +38,9 @@ pub record Ready (src : Bytes) (s : Store) : Type 0 where
   pub plain : s .log .marked ≡ false
   pub short : length src ≤ 0xFFFF
 
+abbrev pub storageOf : Bytes → LocalStorage → model.Store
+storageOf src s = storeOf src (s .store)
+
 -- The store with its log as the image is to have it.
 abbrev pub withTail : Bytes → Tail → model.Store → model.Store
 withTail src Nothing s = s
@@ -50,7 +53,7 @@ SoundTail src Header = Unit {0}
 SoundTail src (Entry o) = SoundOp src o
 
 abbrev pub handedOn : Bytes → Recorded → model.Store
-handedOn src r = withTail src (r .tail) (storeOf src (r .storage .store))
+handedOn src r = withTail src (r .tail) (storageOf src (r .storage))
 
 -- What follows a test: a number other than 0 refuses.
 abbrev pub unless : ℕ → Outcome → Outcome
@@ -84,11 +87,11 @@ pub record GivenKey (src : Bytes) (v : Bool) (r k : NameRef) (n key : Name) : Ty
   pub names : v ≡ true → Names src r n
   pub keys : v ≡ true → Names src k (lower key)
 
-pub record GivenWrite (src : Bytes) (v : Bool) (r k f : NameRef) (n key staged : Name) : Type 0 where
-  pub valid : v ≡ (validName n && validName (lower key) && validName staged)
+pub record GivenWrite (src : Bytes) (v : Bool) (r k f : NameRef) (n key file : Name) : Type 0 where
+  pub valid : v ≡ (validName n && validName (lower key) && validName file)
   pub names : v ≡ true → Names src r n
   pub keys : v ≡ true → Names src k (lower key)
-  pub staged : v ≡ true → Names src f staged
+  pub staged : v ≡ true → Names src f file
 
 -- A log that was begun and not committed.
 abbrev pub isRecording : Journal → Bool

@@ -7,9 +7,9 @@ ghost use Rattle.model.specs.Order.{Name};
 ghost use Rattle.model.specs.Record.{recordWrite, recordDelete, recordDeleteAll};
 ghost use Rattle.spans.specs.Spans.{nameOf, Sound};
 ghost use Rattle.store.specs.Tables.{mapOf, SoundTable};
-ghost use Rattle.store.specs.Stores.{storeOf, SoundStore};
+ghost use Rattle.store.specs.Stores.{SoundStore};
 ghost use Rattle.steps.specs.Steps.{FileName, Within};
-ghost use Rattle.local_storage.specs.Recording.{Ready, Answers, Given, GivenKey, GivenWrite, canStage, Staged};
+ghost use Rattle.local_storage.specs.Recording.{Ready, storageOf, Answers, Given, GivenKey, GivenWrite, canStage, Staged};
 use crate::LocalStorage;
 use crate::Recorded;
 use spans::NameRef;
@@ -32,7 +32,10 @@ fn can_stage(src: &[u8], t: Table, staged: NameRef, number: u32) -> bool
     if STAGING_LIMIT <= t.len {
         return false;
     }
-    number != 0
+    if number == 0 {
+        return false;
+    }
+    true
 }
 
 // "An accepted Write adds its staging file."
@@ -65,7 +68,7 @@ impl LocalStorage {
         number: u32,
     ) -> Recorded
         requires { ⌜ Ready (now src) (self .store) × (valid ≡ true → Sound (now src) collection × (Sound (now src) key × Sound (now src) staged)) ⌝ }
-        ensures { λ r. ⌜ ((c k f : Name) → GivenWrite (now (src .entry)) valid collection key staged c k f → Answers (now (src .entry)) (recordWrite c k f number (storeOf (now (src .entry)) (self .store))) self r) ⌝ }
+        ensures { λ r. ⌜ ((c k f : Name) → GivenWrite (now (src .entry)) valid collection key staged c k f → Answers (now (src .entry)) (recordWrite c k f number (storageOf (now (src .entry)) self)) self r) ⌝ }
     {
         let n = crate::refusal(src, self.store);
         if n != 0 {
@@ -85,7 +88,7 @@ impl LocalStorage {
     // 4, 5, 6; "8. The key to delete is missing, after the case rename."
     pub fn delete(self, src: &[u8], valid: bool, collection: NameRef, key: NameRef) -> Recorded
         requires { ⌜ (Ready (now src) (self .store) × Within (mapOf (now src) (self .store .tree))) × (valid ≡ true → Sound (now src) collection × FileName (now src) key) ⌝ }
-        ensures { λ r. ⌜ ((c k : Name) → GivenKey (now (src .entry)) valid collection key c k → Answers (now (src .entry)) (recordDelete c k (storeOf (now (src .entry)) (self .store))) self r) ⌝ }
+        ensures { λ r. ⌜ ((c k : Name) → GivenKey (now (src .entry)) valid collection key c k → Answers (now (src .entry)) (recordDelete c k (storageOf (now (src .entry)) self)) self r) ⌝ }
     {
         let n = crate::refusal(src, self.store);
         if n != 0 {
@@ -104,7 +107,7 @@ impl LocalStorage {
     // 4, 5, 6. 01, Corners, local_collection.rs: "Deleting all in a missing collection is recorded."
     pub fn delete_all(self, src: &[u8], valid: bool, name: NameRef) -> Recorded
         requires { ⌜ Ready (now src) (self .store) × (valid ≡ true → Sound (now src) name) ⌝ }
-        ensures { λ r. ⌜ ((c : Name) → Given (now (src .entry)) valid name c → Answers (now (src .entry)) (recordDeleteAll c (storeOf (now (src .entry)) (self .store))) self r) ⌝ }
+        ensures { λ r. ⌜ ((c : Name) → Given (now (src .entry)) valid name c → Answers (now (src .entry)) (recordDeleteAll c (storageOf (now (src .entry)) self)) self r) ⌝ }
     {
         let n = crate::refusal(src, self.store);
         if n != 0 {

@@ -11,7 +11,7 @@ ghost use Rattle.model.specs.Record.{hasDir, beginTransaction, discard, recordC
 ghost use Rattle.spans.specs.Spans.{nameOf, Sound};
 ghost use Rattle.store.specs.Tables.{mapOf, SoundTable};
 ghost use Rattle.store.specs.Stores.{storeOf, logBytes, SoundStore};
-ghost use Rattle.local_storage.specs.Recording.{Ready, Answers, Given, isRecording, isWhole, hasFile, Opens, Admits, Discarded, refusedWith, recordedIn};
+ghost use Rattle.local_storage.specs.Recording.{Ready, storageOf, Answers, Given, isRecording, isWhole, hasFile, Opens, Admits, Discarded, refusedWith, recordedIn};
 mod collection;
 
 use spans::NameRef;
@@ -193,7 +193,7 @@ fn accepted(storage: LocalStorage, op: Operation) -> Recorded
 impl LocalStorage {
     // The mark, and a log made anew (`create_wal`).
     pub fn begin_transaction(self) -> Recorded
-        ensures { λ r. ⌜ ((src : Bytes) → SoundStore src (self .store) → Answers src (beginTransaction (storeOf src (self .store))) self r) ⌝ }
+        ensures { λ r. ⌜ ((src : Bytes) → SoundStore src (self .store) → Answers src (beginTransaction (storageOf src self)) self r) ⌝ }
     {
         let s = self.store;
         if s.open_mark {
@@ -210,7 +210,7 @@ impl LocalStorage {
     // Log, staging files and mark go (`discard`).
     pub fn rollback(self, src: &[u8]) -> Recorded
         requires { ⌜ Ready (now src) (self .store) ⌝ }
-        ensures { λ r. ⌜ Answers (now (src .entry)) (discard (storeOf (now (src .entry)) (self .store))) self r ⌝ }
+        ensures { λ r. ⌜ Answers (now (src .entry)) (discard (storageOf (now (src .entry)) self)) self r ⌝ }
     {
         let t = open_transaction(src, self.store);
         if !t.found {
@@ -227,7 +227,7 @@ impl LocalStorage {
     // 4, 5, 6; "9. The collection to create exists."
     pub fn create_collection(self, src: &[u8], valid: bool, name: NameRef) -> Recorded
         requires { ⌜ Ready (now src) (self .store) × (valid ≡ true → Sound (now src) name) ⌝ }
-        ensures { λ r. ⌜ ((c : Name) → Given (now (src .entry)) valid name c → Answers (now (src .entry)) (recordCreate c (storeOf (now (src .entry)) (self .store))) self r) ⌝ }
+        ensures { λ r. ⌜ ((c : Name) → Given (now (src .entry)) valid name c → Answers (now (src .entry)) (recordCreate c (storageOf (now (src .entry)) self)) self r) ⌝ }
     {
         let n = refusal(src, self.store);
         if n != 0 {
@@ -245,7 +245,7 @@ impl LocalStorage {
     // 4, 5, 6; "7. The collection to delete or to copy from is missing."
     pub fn delete_collection(self, src: &[u8], valid: bool, name: NameRef) -> Recorded
         requires { ⌜ Ready (now src) (self .store) × (valid ≡ true → Sound (now src) name) ⌝ }
-        ensures { λ r. ⌜ ((c : Name) → Given (now (src .entry)) valid name c → Answers (now (src .entry)) (recordDeleteCollection c (storeOf (now (src .entry)) (self .store))) self r) ⌝ }
+        ensures { λ r. ⌜ ((c : Name) → Given (now (src .entry)) valid name c → Answers (now (src .entry)) (recordDeleteCollection c (storageOf (now (src .entry)) self)) self r) ⌝ }
     {
         let n = refusal(src, self.store);
         if n != 0 {
@@ -270,7 +270,7 @@ impl LocalStorage {
         dest: NameRef,
     ) -> Recorded
         requires { ⌜ Ready (now src) (self .store) × ((«valid_source» ≡ true → Sound (now src) source) × («valid_dest» ≡ true → Sound (now src) dest)) ⌝ }
-        ensures { λ r. ⌜ ((a b : Name) → Given (now (src .entry)) «valid_source» source a → Given (now (src .entry)) «valid_dest» dest b → Answers (now (src .entry)) (recordCopy a b (storeOf (now (src .entry)) (self .store))) self r) ⌝ }
+        ensures { λ r. ⌜ ((a b : Name) → Given (now (src .entry)) «valid_source» source a → Given (now (src .entry)) «valid_dest» dest b → Answers (now (src .entry)) (recordCopy a b (storageOf (now (src .entry)) self)) self r) ⌝ }
     {
         let n = refusal(src, self.store);
         if n != 0 {

@@ -1,64 +1,48 @@
+-- `copy_collection` meets its contract.
+use borrow.Author.Tests.{not-false}
+use Rattle.local_storage.proofs.Collections.{copy-4-5, copy-6, copy-7, copy-6-again, copy-0}
 use borrow.Author.Needs.{needs}
 use Rattle.local_storage.proofs.LocalStorage.copy_collection.Statement.{statement}
 use Rattle.local_storage.proofs.LocalStorage.copy_collection.Tie as tie
-use Rattle.local_storage.proofs.LocalStorage.copy_collection.Reads as reads
-use Rattle.local_storage.proofs.LocalStorage.copy_collection.Lts as lts
-use Rattle.local_storage.proofs.accepted.Reads as accepted-reads
-use Rattle.local_storage.proofs.has_dir.Reads as has-dir-reads
-use Rattle.local_storage.proofs.refusal.Reads as refusal-reads
-use Rattle.local_storage.proofs.refused.Reads as refused-reads
 
--- src/lib.rt:275:13
 refusal-requires : tie.Need-refusal-requires
 refusal-requires c κs = search needs
 
--- src/lib.rt:277:13
 refused-requires : tie.Need-refused-requires
 refused-requires c κs = search needs
 
--- src/lib.rt:277:13
 returns : tie.Need-returns
-returns c = ?
+returns c = λ n m w u. copy-4-5 (c .before .before .before .before .pre .0 .sound) (c .before .before .refusal .ensures) w u (c .before .if1 .taken) (c .refused .ensures)
 
--- src/lib.rt:280:13
 refused-requires-2 : tie.Need-refused-requires-2
 refused-requires-2 c κs = search needs
 
--- src/lib.rt:280:13
 returns-2 : tie.Need-returns-2
-returns-2 c = ?
+returns-2 c = λ n m w u. copy-6 (c .before .before .before .before .before .pre .0 .sound) (c .before .before .before .refusal .ensures) w u (c .before .before .if1 .left) (c .before .if2 .taken) (c .refused2 .ensures)
 
--- src/lib.rt:282:13
 has-dir-requires : tie.Need-has-dir-requires
-has-dir-requires c κs = ?
+has-dir-requires c κs = (c .before .before .before .before .pre .0 .sound, c .before .before .before .before .pre .1 .0 (not-false (c .before .before .before .before .args .«valid_source») (c .if2 .left)))
 
--- src/lib.rt:283:13
 refused-requires-3 : tie.Need-refused-requires-3
 refused-requires-3 c κs = search needs
 
--- src/lib.rt:283:13
 returns-3 : tie.Need-returns-3
-returns-3 c = ?
+returns-3 c = λ n m w u. copy-7 (c .before .before .before .before .before .before .before .pre .0 .sound) (c .before .before .before .before .before .refusal .ensures) w u (c .before .before .before .before .if1 .left) (c .before .before .before .if2 .left) (c .before .before .has-dir .ensures) (c .before .if3 .taken) (c .refused3 .ensures)
 
--- src/lib.rt:286:13
 refused-requires-4 : tie.Need-refused-requires-4
 refused-requires-4 c κs = search needs
 
--- src/lib.rt:286:13
 returns-4 : tie.Need-returns-4
-returns-4 c = ?
+returns-4 c = λ n m w u. copy-6-again (c .before .before .before .before .before .before .before .before .pre .0 .sound) (c .before .before .before .before .before .before .refusal .ensures) w u (c .before .before .before .before .before .if1 .left) (c .before .before .before .before .if2 .left) (c .before .before .before .has-dir .ensures) (c .before .before .if3 .left) (c .before .if4 .taken) (c .refused4 .ensures)
 
--- src/lib.rt:288:13
 has-dir-requires-2 : tie.Need-has-dir-requires-2
-has-dir-requires-2 c κs = ?
+has-dir-requires-2 c κs = (c .before .before .before .before .before .before .before .pre .0 .sound, c .before .before .before .before .before .before .before .pre .1 .1 (not-false (c .before .before .before .before .before .before .before .args .«valid_dest») (c .if4 .left)))
 
--- src/lib.rt:289:9
 accepted-requires : tie.Need-accepted-requires
 accepted-requires c κs = search needs
 
--- src/lib.rt:264:5
 returns-5 : tie.Need-returns-5
-returns-5 c = ?
+returns-5 c = λ n m w u. copy-0 (c .before .before .before .before .before .before .before .before .before .pre .0 .sound) (c .before .before .before .before .before .before .before .refusal .ensures) w u (c .before .before .before .before .before .before .if1 .left) (c .before .before .before .before .before .if2 .left) (c .before .before .before .before .has-dir .ensures) (c .before .before .before .before .before .before .before .before .before .pre .1 .0 (not-false (c .before .before .before .before .before .before .before .before .before .args .«valid_source») (c .before .before .before .before .before .if2 .left))) (c .before .before .before .before .before .before .before .before .before .pre .1 .1 (not-false (c .before .before .before .before .before .before .before .before .before .args .«valid_dest») (c .before .before .if4 .left))) (c .before .before .before .if3 .left) (c .before .before .if4 .left) (c .before .has-dir2 .ensures) (c .accepted .ensures)
 
 pub copy-collection-spec : {M : Type 1} → statement M
 copy-collection-spec =

@@ -3,3 +3,4 @@ pub mod Outcomes
 pub mod Ends
 pub mod Stagings
 pub mod Collections
+pub mod Keyed

@@ -82,7 +82,10 @@ impl LocalStorage {
             return crate::refused(self, 10);
         }
         let t = stage(src, s, staged, number);
-        crate::accepted(LocalStorage { store: t }, Operation::Write(collection, key, staged))
+        crate::accepted(
+            LocalStorage { store: t },
+            Operation::Write(collection, key, staged),
+        )
     }
 
     // 4, 5, 6; "8. The key to delete is missing, after the case rename."
@@ -101,7 +104,10 @@ impl LocalStorage {
         if !crate::has_file(src, s.tree, collection, key) {
             return crate::refused(self, 8);
         }
-        crate::accepted(LocalStorage { store: s }, Operation::Delete(collection, key))
+        crate::accepted(
+            LocalStorage { store: s },
+            Operation::Delete(collection, key),
+        )
     }
 
     // 4, 5, 6. 01, Corners, local_collection.rs: "Deleting all in a missing collection is recorded."

@@ -12,6 +12,7 @@ ghost use Rattle.spans.specs.Spans.{nameOf, Sound};
 ghost use Rattle.store.specs.Tables.{mapOf, SoundTable};
 ghost use Rattle.store.specs.Stores.{storeOf, logBytes, SoundStore};
 ghost use Rattle.local_storage.specs.Recording.{Ready, storageOf, Answers, Given, isRecording, isWhole, hasFile, Opens, Admits, Discarded, refusedWith, recordedIn};
+
 mod collection;
 
 use spans::NameRef;

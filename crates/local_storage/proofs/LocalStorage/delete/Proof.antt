@@ -1,57 +1,42 @@
+-- `delete` meets its contract.
+use borrow.Author.Tests.{not-false}
+use Rattle.local_storage.proofs.Keyed.{delete-4-5, delete-6, delete-8, delete-0}
 use borrow.Author.Needs.{needs}
 use Rattle.local_storage.proofs.LocalStorage.delete.Statement.{statement}
 use Rattle.local_storage.proofs.LocalStorage.delete.Tie as tie
-use Rattle.local_storage.proofs.LocalStorage.delete.Reads as reads
-use Rattle.local_storage.proofs.LocalStorage.delete.Lts as lts
-use Rattle.local_collection.proofs.ensure_normalized_on_disk.Reads as ensure-normalized-on-disk-reads
-use Rattle.local_storage.proofs.accepted.Reads as accepted-reads
-use Rattle.local_storage.proofs.has_file.Reads as has-file-reads
-use Rattle.local_storage.proofs.refusal.Reads as refusal-reads
-use Rattle.local_storage.proofs.refused.Reads as refused-reads
 
--- src/collection.rt:90:13
 refusal-requires : tie.Need-refusal-requires
 refusal-requires c κs = search needs
 
--- src/collection.rt:92:13
 refused-requires : tie.Need-refused-requires
 refused-requires c κs = search needs
 
--- src/collection.rt:92:13
 returns : tie.Need-returns
-returns c = ?
+returns c = λ n m w. delete-4-5 (c .before .before .before .before .pre .0 .0 .sound) (c .before .before .refusal .ensures) w (c .before .if1 .taken) (c .refused .ensures)
 
--- src/collection.rt:95:13
 refused-requires-2 : tie.Need-refused-requires-2
 refused-requires-2 c κs = search needs
 
--- src/collection.rt:95:13
 returns-2 : tie.Need-returns-2
-returns-2 c = ?
+returns-2 c = λ n m w. delete-6 (c .before .before .before .before .before .pre .0 .0 .sound) (c .before .before .before .refusal .ensures) w (c .before .before .if1 .left) (c .before .if2 .taken) (c .refused2 .ensures)
 
--- src/collection.rt:97:13
 ensure-normalized-on-disk-requires : tie.Need-ensure-normalized-on-disk-requires
-ensure-normalized-on-disk-requires c κs = ?
+ensure-normalized-on-disk-requires c κs = (record { sound = c .before .before .before .before .pre .0 .0 .sound; within = c .before .before .before .before .pre .0 .1 }, ((c .before .before .before .before .pre .1 (not-false (c .before .before .before .before .args .valid) (c .if2 .left))) .0, (c .before .before .before .before .pre .1 (not-false (c .before .before .before .before .args .valid) (c .if2 .left))) .1))
 
--- src/collection.rt:98:13
 has-file-requires : tie.Need-has-file-requires
-has-file-requires c κs = ?
+has-file-requires c κs = (c .ensure-normalized-on-disk .ensures .fits .sound .tree, ((c .before .before .before .before .before .pre .1 (not-false (c .before .before .before .before .before .args .valid) (c .before .if2 .left))) .0, (c .before .before .before .before .before .pre .1 (not-false (c .before .before .before .before .before .args .valid) (c .before .if2 .left))) .1 .sound))
 
--- src/collection.rt:99:13
 refused-requires-3 : tie.Need-refused-requires-3
 refused-requires-3 c κs = search needs
 
--- src/collection.rt:99:13
 returns-3 : tie.Need-returns-3
-returns-3 c = ?
+returns-3 c = λ n m w. delete-8 (c .before .before .before .before .before .before .before .before .pre .0 .0 .sound) (c .before .before .before .before .before .before .refusal .ensures) w (c .before .before .before .before .before .if1 .left) (c .before .before .before .before .if2 .left) (c .before .before .before .ensure-normalized-on-disk .ensures) (c .before .before .has-file .ensures) (c .before .if3 .taken) (c .refused3 .ensures)
 
--- src/collection.rt:101:9
 accepted-requires : tie.Need-accepted-requires
 accepted-requires c κs = search needs
 
--- src/collection.rt:86:5
 returns-4 : tie.Need-returns-4
-returns-4 c = ?
+returns-4 c = λ n m w. delete-0 (c .before .before .before .before .before .before .before .before .pre .0 .0 .sound) (c .before .before .before .before .before .before .refusal .ensures) w (c .before .before .before .before .before .if1 .left) (c .before .before .before .before .if2 .left) (c .before .before .before .ensure-normalized-on-disk .ensures) (c .before .before .has-file .ensures) ((c .before .before .before .before .before .before .before .before .pre .1 (not-false (c .before .before .before .before .before .before .before .before .args .valid) (c .before .before .before .before .if2 .left))) .0) ((c .before .before .before .before .before .before .before .before .pre .1 (not-false (c .before .before .before .before .before .before .before .before .args .valid) (c .before .before .before .before .if2 .left))) .1 .sound) (c .before .if3 .left) (c .accepted .ensures)
 
 pub delete-spec : {M : Type 1} → statement M
 delete-spec =

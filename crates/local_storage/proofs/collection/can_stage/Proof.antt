@@ -23,7 +23,7 @@ returns-3 : tie.Need-returns-3
 returns-3 c = no-number _ _ _ (sym (bare-place (c .before .before .before .before .before .empty .ensures _) _ _ (c .before .before .before .before .has-file .ensures)) ∙ c .before .before .before .if1 .left) (omega (arith, table-length (c .before .before .before .before .before .before .before .pre .0))) (c .if3 .taken)
 
 returns-4 : tie.Need-returns-4
-returns-4 c = a-number _ _ _ (sym (bare-place (c .before .before .before .before .before .empty .ensures _) _ _ (c .before .before .before .before .has-file .ensures)) ∙ c .before .before .before .if1 .left) (omega (arith, table-length (c .before .before .before .before .before .before .before .pre .0))) (c .if3 .left) ?
+returns-4 c = a-number _ _ _ (sym (bare-place (c .before .before .before .before .before .empty .ensures _) _ _ (c .before .before .before .before .has-file .ensures)) ∙ c .before .before .before .if1 .left) (omega (arith, table-length (c .before .before .before .before .before .before .before .pre .0))) (c .if3 .left) (omega (arith, c .before .before .before .before .before .before .before .fits .number))
 
 pub can-stage-spec : {M : Type 1} → statement M
 can-stage-spec =

@@ -52,6 +52,12 @@ unfolding decodeFields encodeFields
 split-join [] h = unfold fieldsFrom in refl
 split-join (f ∷ fs) h = split-first f (flatMap encodeField fs) (h .0) ∙ rw (split-join fs (h .1))
 
+-- The bytes of fields one behind the other.
+pub encode-append : (a b : List Field) → encodeFields (a ++ b) ≡ encodeFields a ++ encodeFields b
+unfolding encodeFields
+encode-append [] b = refl
+encode-append (f ∷ a) b = ap (encodeField f ++_) (encode-append a b) ∙ sym (append-assoc (encodeField f) (encodeFields a) (encodeFields b))
+
 -- What splits was joined: for lists of bytes, splitting refuses all else.
 abbrev pub Byte : ℕ → Type 0
 Byte x = x < 256

@@ -12,12 +12,12 @@ use Rattle.model.specs.Order.{Name}
 use Rattle.model.specs.Map.{Map, Node}
 use Rattle.model.specs.Base.{Bytes, caseOption, if_then_else_, ifEmpty, isSome, sameBytes, allOf, anyOf}
 use Rattle.model.specs.Name.{validName}
-use Rattle.model.specs.Field.{littleEndian, Field, decodeFields, hasTag}
+use Rattle.model.specs.Field.{littleEndian, Field, encodeFields, decodeFields, hasTag}
 use Rattle.model.specs.Store.{Store, dirs, fileCount, validNumber, validNode, validNodes, validStaged, ascending, wellFormed}
 use Rattle.model.specs.Image.{nodeField, stagedField, logField, markField, imageFields, encode, treeOf, stagingOf, logOf, storeOf, decode}
 use Rattle.laws.specs.Tests.{and-both, and-made, leb-le, eqb-eq, same-eq, same-refl, All, all-append, all-of, all-map}
 use Rattle.laws.specs.ValidNames.{valid-length}
-use Rattle.laws.specs.FieldLaws.{le-four, Short, split-join}
+use Rattle.laws.specs.FieldLaws.{le-four, Short, split-join, encode-append}
 
 pub number-le : (x : ℕ) → validNumber x ≡ true → x ≤ 4294967295
 number-le x e = leb-le x numberLimit (and-both (leb 1 x) (leb x numberLimit) e .1)
@@ -177,6 +177,16 @@ tail-stood s = go (s .log) (s .openMark)
 pub regroup : (s : Store) → imageFields s ≡ map nodeField (s .tree) ++ (map stagedField (s .staging) ++ tail s)
 unfolding imageFields
 regroup s = simp append-assoc
+
+-- The field of a node in one of the two listings: the directories with their files, or the staging files.
+abbrev pub listed : Bool → Node → Field
+listed false n = nodeField n
+listed true n = stagedField n
+
+-- "A store image is, in this order": the bytes of its parts.
+pub encode-parts : (s : Store) → encode s ≡ encodeFields (map nodeField (s .tree)) ++ (encodeFields (map stagedField (s .staging)) ++ (encodeFields (logField (s .log)) ++ encodeFields (markField (s .openMark))))
+unfolding encode
+encode-parts s = ap encodeFields (regroup s) ∙ simp encode-append
 
 pub read-fields : (s : Store) → wellFormed s ≡ true → storeOf (imageFields s) ≡ s
 unfolding storeOf

@@ -1,51 +1,36 @@
 -- Trees within their limits: there is room for one node more, and every step that is allowed keeps them so.
-use mathlib.Core.Path.{_≡_, refl, sym, ap, _∙_}
-use mathlib.Core.List.{List, [], _∷_}
+use mathlib.Core.Path.{_≡_, refl}
+use mathlib.Core.List.{[]}
 use mathlib.Core.Option.{Option, none, some}
-use mathlib.Core.Bool.{Bool, true, false}
-use mathlib.Core.Logic.{_⊎_, inl, inr}
-use Prim.Native.Nat.{ℕ, suc, _+_, _≤_, _<_}
+use Prim.Native.Nat.{ℕ, _≤_, _<_}
 use native.Mathlib.Omega.{arith}
 use lib.ListN.{length}
 use lib.Dec.{ltb}
-use borrow.Author.Tests.{lt-ltb, ltb-true}
-use Rattle.model.specs.Order.{Cmp, lt, eq, gt, Name, Key, cmpName, caseCmp}
-use Rattle.model.specs.Map.{Node, Map, look, put, del, Has}
-use Rattle.model.specs.Base.{if_then_else_, caseOption, ifEmpty}
+use borrow.Author.Tests.{ltb-true}
+use Rattle.model.specs.Order.{Name, Key}
+use Rattle.model.specs.Map.{Map, look, put, del, Has}
+use Rattle.model.specs.Base.{if_then_else_, caseOption}
 use Rattle.model.specs.Store as model
-use Rattle.model.specs.Store.{dirs, fileCount, stagingKey, wellFormed}
+use Rattle.model.specs.Store.{dirs, fileCount, stagingKey}
 use Rattle.model.specs.Step as step
-use Rattle.model.specs.Step.{Step, apply, removeDir, renameDir, stepFault, newFile, Fault, fails, full}
-use Rattle.laws.specs.OrderLaws.{nameLaws, keyLaws, lt≢eq}
-use Rattle.laws.specs.MapLaws.{Sorted, none≢some, look-head, look-tail, look-put-other, look-del-other}
+use Rattle.model.specs.Step.{Step, apply, stepFault, newFile, fails, full}
+use Rattle.laws.specs.MapLaws.{Sorted}
 use Rattle.laws.specs.TreeLaws.{size, isFile, isDir, one, file-size, dir-size, length-size, size-put-le, size-put-has, size-del-le, size-del-has}
-use Rattle.laws.specs.Tests.{leb-le}
-use Rattle.laws.specs.ImageLaws.{parts}
-use Rattle.store.specs.Places.{tableRoom, putIn}
+use Rattle.laws.specs.StoreLaws.{Good, size-drop-le, size-rename-le}
+use Rattle.laws.specs.StepLaws.{not-full, file-weight}
+use Rattle.store.specs.Places.{tableRoom}
+use Rattle.store.proofs.Tally.{dirs-files}
 use Rattle.steps.specs.Steps.{Within, Allowed}
 
 -- A well-formed store is within its limits.
-pub of-well-formed : (s : model.Store) → wellFormed s ≡ true → Within (s .tree)
-of-well-formed s e =
-    let p = parts s e in
-    record { dirs = leb-le (length (dirs (s .tree))) 16 (p .dirsFit); files = leb-le (fileCount (s .tree)) 128 (p .filesFit) }
-
--- Directories and files are all nodes.
-both : (t : Map) → length t ≡ length (dirs t) + fileCount t
-unfolding dirs
-both [] = refl
-both (n ∷ r) = go (n .0 .1) (both r)
-  where
-    go : (f : Name) → length r ≡ length (dirs r) + fileCount r → suc (length r) ≡ length (ifEmpty f (n .0 .0 ∷ dirs r) (dirs r)) + ifEmpty f (fileCount r) (suc (fileCount r))
-    go [] h = omega arith
-    go (y ∷ ys) h = omega arith
+pub of-good : {N : Name → Type 0} {s : model.Store} → Good N s → Within (s .tree)
+of-good {s} g = record {
+  dirs = let p = dir-size (s .tree) in let q = g .tree .dirsFit in omega arith;
+  files = let p = file-size (s .tree) in let q = g .tree .filesFit in omega arith;
+}
 
 pub room : {t : Map} → Within t → length t < tableRoom
-room {t} w = let b = both t in let d = w .dirs in let f = w .files in omega arith
-
-pub put-fits : (k : Key) (v : ℕ) (m : Map) → length m < tableRoom → putIn k v m ≡ put k v m
-unfolding putIn
-put-fits k v m h = rw (lt-ltb (length m) tableRoom h)
+room {t} w = let b = dirs-files t in let d = w .dirs in let f = w .files in omega arith
 
 -- A removal makes room.
 pub del-room : (k : Key) (m : Map) → Has k m → length m ≤ tableRoom → length (del k m) < tableRoom
@@ -55,42 +40,125 @@ del-room k m h l =
     let b = length-size (del k m) in
     omega arith
 
--- A directory renamed: no node more, whatever the two names.
-module _ (w : Key → ℕ) (alike : (c d f : Name) → w (c, f) ≡ w (d, f)) (a b : Name) where
-  size-rename : (r t : Map) → Sorted r → ((f : Name) → Has (a, f) r → Has (a, f) t) → size w (renameDir a b r t) ≤ size w t
-  unfolding renameDir
-  size-rename [] t s h = omega arith
-  size-rename (n ∷ r) t s h = go (cmpName a (n .0 .0)) refl (λ u k. size-rename r u (s .1) k)
-    where
-      other : (f : Name) → Has (a, f) r → (a, f) ≡ n .0 → ⊥
-      other f z e = lt≢eq (sym (s .0 (a, f) (z .0) (z .1)) ∙ rw e (keyLaws .reflexive (n .0)))
+-- By the weights of directories and of files.
+by-size : {t : Map} → Within t → (u : Map) → size isDir u ≤ size isDir t → size isFile u ≤ size isFile t → Within u
+by-size {t} w u d f =
+    let a = dir-size t in
+    let b = dir-size u in
+    let c = file-size t in
+    let e = file-size u in
+    let x = w .dirs in
+    let y = w .files in
+    record { dirs = omega arith; files = omega arith }
 
-      up : (f : Name) → Has (a, f) r → Has (a, f) t
-      up f z = h f (z .0, look-tail (a, f) n r (other f z) ∙ z .1)
+-- One directory more, where there are under 16.
+more-dirs : {t : Map} (d : Name) → Within t → length (dirs t) < 16 → Within (put (d, []) 0 t)
+more-dirs {t} d w h =
+    let a = size-put-le isDir (d, []) 0 t in
+    let b = size-put-le isFile (d, []) 0 t in
+    let c = dir-size t in
+    let e = dir-size (put (d, []) 0 t) in
+    let f = file-size t in
+    let g = file-size (put (d, []) 0 t) in
+    let y = w .files in
+    record { dirs = omega arith; files = omega arith }
 
-      go : (c : Cmp) → cmpName a (n .0 .0) ≡ c → ((u : Map) → ((f : Name) → Has (a, f) r → Has (a, f) u) → size w (renameDir a b r u) ≤ size w u)
-          → size w (renameDir a b r (caseCmp c t (put (b, n .0 .1) (n .1) (del (n .0) t)) t)) ≤ size w t
-      go lt e ih = ih t up
-      go gt e ih = ih t up
-      go eq e ih =
-          let d : a ≡ n .0 .0 = nameLaws .equal a (n .0 .0) e in
-          let k : _≡_ {A = Key} (a, n .0 .1) (n .0) = λ i. (d i, n .0 .1) in
-          let x : Has (n .0) t = rw k at (h (n .0 .1) (n .1, rw k (look-head n r))) in
-          let p = size-put-le w (b, n .0 .1) (n .1) (del (n .0) t) in
-          let q = size-del-has w (n .0) t x in
-          let o : w (b, n .0 .1) ≡ w (n .0) = alike b (n .0 .0) (n .0 .1) in
-          let z = ih (put (b, n .0 .1) (n .1) (del (n .0) t)) (λ f z. let g = up f z in (
-            g .0,
-            look-put-other (b, n .0 .1) (a, f) (n .1) (del (n .0) t) (λ y. other f z (λ i. (d i, y i .1))) ∙ look-del-other (n .0) (a, f) t (other f z) ∙ g .1,
-          )) in
-          omega arith
-
-size-remove : (w : Key → ℕ) (d : Name) (t : Map) → size w (removeDir d t) ≤ size w t
-unfolding removeDir
-size-remove w d [] = omega arith
-size-remove w d (n ∷ r) = go (cmpName d (n .0 .0)) (size-remove w d r)
+-- A file put where one stands, or where there are under 128.
+file-put : {t : Map} (d k : Name) (x : ℕ) → (k ≡ [] → ⊥) → newFile (d, k) t ≡ none → Sorted t → Within t → Within (put (d, k) x t)
+file-put {t} d k x n h s w = go (look (d, k) t) refl h
   where
-    go : (c : Cmp) → size w (removeDir d r) ≤ size w r → size w (caseCmp c (n ∷ removeDir d r) (removeDir d r) (n ∷ removeDir d r)) ≤ w (n .0) + size w r
-    go lt h = omega arith
-    go eq h = omega arith
-    go gt h = omega arith
+    go : (o : Option ℕ) → look (d, k) t ≡ o → caseOption o (if ltb (fileCount t) 128 then none else some full) (λ x. none) ≡ none → Within (put (d, k) x t)
+    go none e h =
+        let v = file-weight d k n in
+        let vf = v .0 in
+        let vd = v .1 in
+        let a = size-put-le isDir (d, k) x t in
+        let b = size-put-le isFile (d, k) x t in
+        let l = ltb-true (fileCount t) 128 (not-full (ltb (fileCount t) 128) full h) in
+        let c = dir-size t in
+        let e = dir-size (put (d, k) x t) in
+        let f = file-size t in
+        let g = file-size (put (d, k) x t) in
+        let y = w .dirs in
+        record { dirs = omega arith; files = omega arith }
+    go (some y) e h =
+        let a = size-put-has isDir (d, k) x t s (y, e) in
+        let b = size-put-has isFile (d, k) x t s (y, e) in
+        by-size w (put (d, k) x t) (omega arith) (omega arith)
+
+-- A file renamed.
+renamed : {t : Map} (d a b : Name) → (a ≡ [] → ⊥) → (b ≡ [] → ⊥) → Within t → Within (caseOption (look (d, a) t) t (λ x. put (d, b) x (del (d, a) t)))
+renamed {t} d a b na nb w = go (look (d, a) t) refl
+  where
+    go : (o : Option ℕ) → look (d, a) t ≡ o → Within (caseOption o t (λ x. put (d, b) x (del (d, a) t)))
+    go none e = w
+    go (some x) e =
+        let va = file-weight d a na .0 in
+        let vb = file-weight d b nb in
+        let vf = vb .0 in
+        let vd = vb .1 in
+        let p = size-put-le isDir (d, b) x (del (d, a) t) in
+        let q = size-put-le isFile (d, b) x (del (d, a) t) in
+        let k = size-del-le isDir (d, a) t in
+        let l = size-del-has isFile (d, a) t (x, e) in
+        by-size w (put (d, b) x (del (d, a) t)) (omega arith) (omega arith)
+
+-- A number that is found and put as a file.
+found-put : {t : Map} (o : Option ℕ) (d k : Name) → (k ≡ [] → ⊥) → caseOption o (some fails) (λ x. newFile (d, k) t) ≡ none → Sorted t → Within t → Within (caseOption o t (λ x. put (d, k) x t))
+found-put none d k n h s w = w
+found-put (some x) d k n h s w = file-put d k x n h s w
+
+-- The files that a step makes have names.
+abbrev pub Named : Step → Type 0
+Named step.rewriteHeader = Unit {0}
+Named step.syncStaging = Unit {0}
+Named step.syncLog = Unit {0}
+Named step.removeLog = Unit {0}
+Named step.syncJournal = Unit {0}
+Named step.syncCollections = Unit {0}
+Named (step.makeDirectory d) = Unit {0}
+Named (step.renameFile d a b) = (a ≡ [] → ⊥) × (b ≡ [] → ⊥)
+Named (step.moveStaged f d k) = k ≡ [] → ⊥
+Named (step.renameDirectory a b) = Unit {0}
+Named (step.copyFile a b f) = f ≡ [] → ⊥
+Named (step.removeFile d f) = Unit {0}
+Named (step.removeDirectory d) = Unit {0}
+Named (step.removeStaging f) = Unit {0}
+Named (step.syncDirectory d) = Unit {0}
+
+pub kept : (x : Step) (s : model.Store) → Named x → Allowed x s → Sorted (s .tree) → Within (s .tree) → Within (apply x s .tree)
+unfolding apply stepFault
+kept step.rewriteHeader s n a o w = w
+kept step.syncStaging s n a o w = w
+kept step.syncLog s n a o w = w
+kept step.removeLog s n a o w = w
+kept step.syncJournal s n a o w = w
+kept step.syncCollections s n a o w = w
+kept (step.makeDirectory d) s n a o w = more-dirs d w (ltb-true (length (dirs (s .tree))) 16 (not-full (ltb (length (dirs (s .tree))) 16) full a))
+kept (step.renameFile d a b) s n h o w = renamed d a b (n .0) (n .1) w
+kept (step.moveStaged f d k) s n a o w = found-put (look (stagingKey f) (s .staging)) d k n a o w
+kept (step.renameDirectory a b) s n h o w =
+    by-size w _ (size-rename-le isDir (λ c d f. refl) a b (s .tree) (s .tree) o (λ f z. z)) (size-rename-le isFile (λ c d f. refl) a b (s .tree) (s .tree) o (λ f z. z))
+kept (step.copyFile a b f) s n h o w = found-put (look (a, f) (s .tree)) b f n h o w
+kept (step.removeFile d f) s n a o w = by-size w _ (size-del-le isDir (d, f) (s .tree)) (size-del-le isFile (d, f) (s .tree))
+kept (step.removeDirectory d) s n a o w = by-size w _ (size-drop-le isDir d (s .tree)) (size-drop-le isFile d (s .tree))
+kept (step.removeStaging f) s n a o w = w
+kept (step.syncDirectory d) s n a o w = w
+
+-- A step that does not fail is allowed.
+pub allowed : (x : Step) (s : model.Store) → stepFault x s ≡ none → Allowed x s
+allowed step.rewriteHeader s h = tt
+allowed step.syncStaging s h = tt
+allowed step.syncLog s h = tt
+allowed step.removeLog s h = tt
+allowed step.syncJournal s h = tt
+allowed step.syncCollections s h = tt
+allowed (step.makeDirectory d) s h = h
+allowed (step.renameFile d a b) s h = tt
+allowed (step.moveStaged f d k) s h = h
+allowed (step.renameDirectory a b) s h = tt
+allowed (step.copyFile a b f) s h = h
+allowed (step.removeFile d f) s h = tt
+allowed (step.removeDirectory d) s h = tt
+allowed (step.removeStaging f) s h = tt
+allowed (step.syncDirectory d) s h = tt

@@ -1,7 +1,7 @@
 -- What a `Step` stands for, and what lets it be done on a store.
 use mathlib.Core.Path.{_≡_}
 use mathlib.Core.Option.{none}
-use Prim.Native.Nat.{ℕ, _≤_}
+use Prim.Native.Nat.{_≤_}
 use lib.ListN.{length}
 use Rattle.model.specs.Limits.{dirLimit, fileLimit}
 use Rattle.model.specs.Base.{Bytes}

@@ -2,19 +2,23 @@
 ghost use mathlib.Core.Path.{_≡_};
 ghost use mathlib.Core.Option.{some};
 ghost use mathlib.Core.Bool.{true, false};
-ghost use Prim.Native.Nat.{_-_, _<_};
+ghost use mathlib.Core.List.{[], _∷_, _++_};
+ghost use Prim.Native.Nat.{_+_, _-_, _<_, _≤_};
 ghost use lib.ListN.{length};
 ghost use Rattle.model.specs.Base.{Bytes, caseOption, ifEmpty};
 ghost use Rattle.model.specs.Map.{look, put, del};
+ghost use Rattle.model.specs.Field.{encodeField};
 ghost use Rattle.model.specs.Store.{files};
-ghost use Rattle.model.specs.Step.{fails, newFile};
+ghost use Rattle.model.specs.Step.{fails, newFile, zeroSeparated, stepField};
 ghost use Rattle.model.specs.Answers.{commitNumber};
-ghost use Rattle.spans.specs.Spans.{nameOf, Sound};
+ghost use Rattle.field.specs.Writing.{written, field};
+ghost use Rattle.spans.specs.Spans.{nameOf, lengthOf, Sound};
 ghost use Rattle.store.specs.Tables.{keyOf, mapOf, SoundTable, Holds};
 ghost use Rattle.store.specs.Stores.{storeOf, SoundStore};
 ghost use Rattle.plans.specs.Machine.{single};
 ghost use Rattle.plans.specs.ModelPlans.{plain, careful, fault};
 ghost use Rattle.steps.specs.Steps.{stepOf, SoundStep, Fits, Allowed, Applied};
+ghost use Rattle.steps.specs.Fields.{Writes};
 ghost use Rattle.steps.specs.CodeRuns.{SoundRun, Fresh, Follows, Refuses};
 use spans::NameRef;
 use store::Held;
@@ -180,8 +184,7 @@ fn any_file(src: &[u8], t: Table, dir: NameRef) -> bool
         let xd = x.dir;
         let xf = x.file;
         if spans::length_of(xf) > 0 {
-            let of = store::same_name(src, dir, xd);
-            if of {
+            if spans::same(src, dir, xd) {
                 return true;
             }
         }
@@ -329,4 +332,91 @@ pub fn refuse(run: Run) -> Run
     let mut r = run;
     r.refusal = 14;
     r
+}
+
+// A field of a tag alone. It returns how long the field is; one that has no room is not written.
+fn write_tag(tag: u8, out: &mut [u8]) -> usize
+    ensures { λ r. ⌜ Writes (encodeField (field tag [])) (now (out .entry)) (now (out .exit)) r ⌝ }
+{
+    field::put_field_head(out, 0, tag, 0);
+    3
+}
+
+// The same with a name.
+fn write_one(src: &[u8], tag: u8, a: NameRef, out: &mut [u8]) -> usize
+    requires { ⌜ Sound (now src) a ⌝ }
+    ensures { λ r. ⌜ Writes (encodeField (field tag (nameOf (now (src .entry)) a))) (now (out .entry)) (now (out .exit)) r ⌝ }
+{
+    names::put_name_field(src, a, out, 0, tag);
+    3 + spans::length_of(a)
+}
+
+// A zero byte and a name written at `at`, and the place behind them.
+fn put_next(src: &[u8], r: NameRef, out: &mut [u8], at: usize) -> usize
+    requires { ⌜ Sound (now src) r × (at + 1 + lengthOf r ≤ length (now out)) ⌝ }
+    ensures { λ n. ⌜ (now (out .exit) ≡ written at (0 ∷ nameOf (now (src .entry)) r) (now (out .entry))) × (n ≡ at + 1 + lengthOf r) ⌝ }
+{
+    field::put_u8(out, at, 0);
+    names::put_name(src, r, out, at + 1);
+    at + 1 + spans::length_of(r)
+}
+
+// Two names behind a field's head, and the place behind them.
+fn put_two(src: &[u8], a: NameRef, b: NameRef, out: &mut [u8]) -> usize
+    requires { ⌜ (Sound (now src) a × Sound (now src) b) × (3 + lengthOf a + 1 + lengthOf b ≤ length (now out)) ⌝ }
+    ensures { λ n. ⌜ (now (out .exit) ≡ written 3 (nameOf (now (src .entry)) a ++ 0 ∷ nameOf (now (src .entry)) b) (now (out .entry))) × (n ≡ 3 + lengthOf a + 1 + lengthOf b) ⌝ }
+{
+    names::put_name(src, a, out, 3);
+    put_next(src, b, out, 3 + spans::length_of(a))
+}
+
+// A field of two names.
+fn write_two(src: &[u8], tag: u8, a: NameRef, b: NameRef, out: &mut [u8]) -> usize
+    requires { ⌜ Sound (now src) a × Sound (now src) b ⌝ }
+    ensures { λ r. ⌜ Writes (encodeField (field tag (zeroSeparated (nameOf (now (src .entry)) a ∷ nameOf (now (src .entry)) b ∷ [])))) (now (out .entry)) (now (out .exit)) r ⌝ }
+{
+    let n = spans::length_of(a) + 1 + spans::length_of(b);
+    if out.len() < 3 + n {
+        return 3 + n;
+    }
+    field::put_field_head(out, 0, tag, n as u16);
+    put_two(src, a, b, out)
+}
+
+// A field of three names.
+fn write_three(src: &[u8], tag: u8, a: NameRef, b: NameRef, c: NameRef, out: &mut [u8]) -> usize
+    requires { ⌜ (Sound (now src) a × Sound (now src) b) × Sound (now src) c ⌝ }
+    ensures { λ r. ⌜ Writes (encodeField (field tag (zeroSeparated (nameOf (now (src .entry)) a ∷ nameOf (now (src .entry)) b ∷ nameOf (now (src .entry)) c ∷ [])))) (now (out .entry)) (now (out .exit)) r ⌝ }
+{
+    let n = spans::length_of(a) + 1 + spans::length_of(b) + 1 + spans::length_of(c);
+    if out.len() < 3 + n {
+        return 3 + n;
+    }
+    field::put_field_head(out, 0, tag, n as u16);
+    let at = put_two(src, a, b, out);
+    put_next(src, c, out, at)
+}
+
+// The field of a step: 01, Listings and file steps, "A step is one field; names inside are parted by a zero byte."
+pub fn write_step(src: &[u8], x: Step, out: &mut [u8]) -> usize
+    requires { ⌜ SoundStep (now src) x ⌝ }
+    ensures { λ r. ⌜ Writes (stepField (stepOf (now (src .entry)) x)) (now (out .entry)) (now (out .exit)) r ⌝ }
+{
+    match x {
+        Step::RewriteHeader => write_tag(0x20, out),
+        Step::SyncStaging => write_tag(0x21, out),
+        Step::SyncLog => write_tag(0x22, out),
+        Step::MakeDirectory(d) => write_one(src, 0x23, d, out),
+        Step::RenameFile(d, a, b) => write_three(src, 0x24, d, a, b, out),
+        Step::MoveStaged(f, d, k) => write_three(src, 0x25, f, d, k, out),
+        Step::RenameDirectory(a, b) => write_two(src, 0x26, a, b, out),
+        Step::CopyFile(a, b, f) => write_three(src, 0x27, a, b, f, out),
+        Step::RemoveFile(d, f) => write_two(src, 0x28, d, f, out),
+        Step::RemoveDirectory(d) => write_one(src, 0x29, d, out),
+        Step::RemoveLog => write_tag(0x2B, out),
+        Step::RemoveStaging(f) => write_one(src, 0x2C, f, out),
+        Step::SyncDirectory(d) => write_one(src, 0x2D, d, out),
+        Step::SyncCollections => write_tag(0x2D, out),
+        Step::SyncJournal => write_tag(0x2E, out),
+    }
 }

@@ -1,8 +1,7 @@
 -- The six kinds: an operation from the values of its row, and back.
-use mathlib.Core.Path.{_≡_, refl, sym, ap, subst, _∙_}
+use mathlib.Core.Path.{_≡_, refl}
 use mathlib.Core.List.{List, [], _∷_, map}
-use mathlib.Core.Bool.{Bool, true, false}
-use mathlib.Core.Option.{none, some}
+use mathlib.Core.Bool.{Bool}
 use Prim.Native.Nat.{ℕ, zero, suc}
 use native.Mathlib.Omega.{arith}
 use lib.ListN.{length, take, getD}
@@ -11,8 +10,7 @@ use Rattle.model.specs.Operation.{fieldTable, fieldTags, kind, values, makers}
 use Rattle.laws.specs.Tests.{All}
 use Rattle.spans.specs.Spans.{nameOf, Sound}
 use Rattle.spans.specs.declared.NameRef.{NameRef}
-use Rattle.transaction.specs.Operations.{opOf, SoundOp}
-use Rattle.transaction.specs.Rows.{SoundParts, made, Makes, columnOf, SoundColumn, Columns}
+use Rattle.transaction.specs.Rows.{SoundParts, made, Makes, Columns}
 use Rattle.transaction.specs.declared.Operation.{Operation}
 use Rattle.transaction.specs.declared.Operation.the-variants as code
 use Rattle.transaction.specs.declared.Decoded.{Decoded}

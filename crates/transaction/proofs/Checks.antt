@@ -1,5 +1,5 @@
 -- What `valid_value` tests, by a field's tag.
-use mathlib.Core.Path.{_≡_, refl, sym, ap, _∙_}
+use mathlib.Core.Path.{_≡_, refl, ap}
 use mathlib.Core.List.{[], _∷_}
 use mathlib.Core.Bool.{Bool, true, false, _||_}
 use Prim.Native.Nat.{ℕ, _≤_}
@@ -11,7 +11,7 @@ use Rattle.model.specs.Base.{Bytes, if_then_else_, sameBytes}
 use Rattle.model.specs.Name.{validName}
 use Rattle.model.specs.Operation.{validValue}
 use Rattle.laws.specs.Tests.{same-eq}
-use Rattle.laws.specs.ImageLaws.{valid-length}
+use Rattle.laws.specs.ValidNames.{valid-length}
 use Rattle.field.specs.Writing.{field}
 
 module _ (tag : ℕ) (v : Bytes) where

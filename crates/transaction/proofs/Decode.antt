@@ -1,23 +1,21 @@
 -- A payload read field by field against the row of its kind.
-use mathlib.Core.Path.{_≡_, refl, sym, ap, ap₂, _∙_}
+use mathlib.Core.Path.{_≡_, refl, sym, ap, _∙_}
 use mathlib.Core.List.{List, [], _∷_, _++_, map, append-nil, append-assoc}
 use mathlib.Core.Bool.{Bool, true, false, _&&_}
 use mathlib.Core.Option.{Option, none, some}
-use mathlib.Core.Logic.{inl, inr}
-use Prim.Native.Nat.{ℕ, zero, suc, _+_, _-_, _≤_, _<_}
+use Prim.Native.Nat.{ℕ, suc, _+_, _-_, _≤_, _<_}
 use native.Mathlib.Omega.{arith}
 use native.Mathlib.Numerals.{add-one}
 use lib.Dec.{leb, eqb}
-use lib.ListN.{length, take, drop, set, getD, getElem?, length-drop, length-set, drop-of-length-le}
-use lib.Seq.{drop-cons, take-all, length-take-le, getD-take, take-suc-set}
+use lib.ListN.{length, take, drop, set, getD, length-drop, length-set, drop-of-length-le}
+use lib.Seq.{drop-cons, length-take-le, getD-take, take-suc-set}
 use borrow.Author.Tests.{leb-true, leb-false, eqb-true, eqb-false}
 use types.Run.{OneOf}
 use denote.Enum.Declared.{tagOf}
 use Rattle.model.specs.Base.{Bytes, caseOption, if_then_else_, sameBytes, allOf}
 use Rattle.model.specs.Field.{Field, fromLittleEndian, fieldsFrom, decodeFields}
-use Rattle.model.specs.Operation.{Op, fieldTags, makers, validValue, opOfFields, decodePayload}
+use Rattle.model.specs.Operation.{validValue}
 use Rattle.laws.specs.OrderLaws.{natLaws}
-use Rattle.laws.specs.Tests.{All}
 use Rattle.spans.specs.Spans.{nameOf, Sound, Names}
 use Rattle.spans.specs.declared.NameRef.{NameRef}
 use Rattle.field.specs.Reading.{fieldOf, Reads, Stands}
@@ -25,7 +23,7 @@ use Rattle.field.proofs.Fields.{no-field}
 use Rattle.field.specs.declared.Item.{Item}
 use Rattle.field.specs.declared.Read.{Read}
 use Rattle.field.proofs.Read.{the-type}
-use Rattle.transaction.specs.Rows.{tagsIn, matchRow, SoundParts, Matches, made}
+use Rattle.transaction.specs.Rows.{tagsIn, matchRow, SoundParts, Matches}
 use Rattle.transaction.proofs.Lists.{map-append, all-set}
 use Rattle.transaction.proofs.Same.{not-same}
 use Rattle.transaction.proofs.Checks.{short-value}

@@ -1,7 +1,7 @@
--- What a test of the code says of `sameBytes`.
-use mathlib.Core.Path.{_≡_, refl, sym, ap, _∙_}
-use mathlib.Core.List.{List, [], _∷_}
-use mathlib.Core.Bool.{Bool, true, false, false≢true}
+-- What tests of the code say of the model's.
+use mathlib.Core.Path.{_≡_, refl, sym, ap}
+use mathlib.Core.List.{[], _∷_}
+use mathlib.Core.Bool.{Bool, true, false, _&&_, false≢true}
 use Prim.Native.Nat.{ℕ}
 use native.Mathlib.Omega.{arith}
 use lib.Dec.{eqb}
@@ -9,6 +9,10 @@ use lib.ListN.{length, getD}
 use borrow.Author.Tests.{eqb-true, eq-eqb}
 use Rattle.model.specs.Base.{Bytes, sameBytes}
 use Rattle.laws.specs.Tests.{same-eq, same-refl}
+
+pub and-right : (a : Bool) → (a && false) ≡ false
+and-right true = refl
+and-right false = refl
 
 -- A test that holds exactly where two strings are equal.
 pub same-as : (a b : Bytes) (t : Bool) → (t ≡ true → a ≡ b) → (a ≡ b → t ≡ true) → sameBytes a b ≡ t

@@ -1,11 +1,11 @@
 -- The table of the code is the model's, with 0 behind the last tag of a row.
 use mathlib.Core.Path.{_≡_, refl, sym, ap, _∙_}
-use mathlib.Core.List.{List, [], _∷_, _++_, append-nil, append-assoc}
+use mathlib.Core.List.{List, [], _∷_, _++_, map, append-nil, append-assoc}
 use Prim.Native.Nat.{ℕ, zero, suc, _+_, _-_, _≤_, _<_}
 use native.Mathlib.Omega.{arith}
 use native.Mathlib.Numerals.{add-one}
-use lib.ListN.{length, take, drop, getD}
-use lib.Seq.{take-suc, drop-cons, take-length, drop-length}
+use lib.ListN.{length, take, drop, getD, List·getD-map, List·getD-eq-default}
+use lib.Seq.{take-suc, drop-cons, drop-length}
 use Rattle.model.specs.Operation.{fieldTable, fieldTags}
 use Rattle.transaction.specs.Rows.{tagsIn}
 
@@ -19,17 +19,18 @@ rows =
     ∷ (1 ∷ 2 ∷ 5 ∷ 6 ∷ [])
     ∷ []
 
--- Row by row.
-pub row-tags : (k : ℕ) → 1 ≤ k → k ≤ 6 → tagsIn (getD rows (k - 1) []) ≡ fieldTags k
-unfolding rows fieldTags fieldTable
-row-tags zero h g = absurd (omega arith)
-row-tags (suc zero) h g = refl
-row-tags (suc (suc zero)) h g = refl
-row-tags (suc (suc (suc zero))) h g = refl
-row-tags (suc (suc (suc (suc zero)))) h g = refl
-row-tags (suc (suc (suc (suc (suc zero))))) h g = refl
-row-tags (suc (suc (suc (suc (suc (suc zero)))))) h g = refl
-row-tags (suc (suc (suc (suc (suc (suc (suc k))))))) h g = absurd (omega arith)
+-- Every row at once.
+table : map tagsIn rows ≡ fieldTable
+unfolding rows fieldTable
+table = refl
+
+-- The row of a kind; the table ends with the sixth.
+pub row-tags : (k : ℕ) → 1 ≤ k → tagsIn (getD rows (k - 1) []) ≡ fieldTags k
+unfolding fieldTags
+row-tags zero h = absurd (omega arith)
+row-tags (suc i) h =
+    let e : suc i - 1 ≡ i = omega arith in
+    rw e (sym (List·getD-map tagsIn rows i []) ∙ ap (λ (t : List (List ℕ)). getD t i []) table)
 
 pub no-row : (k : ℕ) → k < 1 → [] ≡ fieldTags k
 unfolding fieldTags
@@ -39,13 +40,7 @@ no-row (suc k) h = absurd (omega arith)
 pub past-rows : (k : ℕ) → 6 < k → [] ≡ fieldTags k
 unfolding fieldTags fieldTable
 past-rows zero h = absurd (omega arith)
-past-rows (suc zero) h = absurd (omega arith)
-past-rows (suc (suc zero)) h = absurd (omega arith)
-past-rows (suc (suc (suc zero))) h = absurd (omega arith)
-past-rows (suc (suc (suc (suc zero)))) h = absurd (omega arith)
-past-rows (suc (suc (suc (suc (suc zero))))) h = absurd (omega arith)
-past-rows (suc (suc (suc (suc (suc (suc zero)))))) h = absurd (omega arith)
-past-rows (suc (suc (suc (suc (suc (suc (suc k))))))) h = refl
+past-rows (suc i) h = sym (List·getD-eq-default fieldTable [] {n = i} (omega arith))
 
 -- Counting a row's fields: none of the first n tags is 0.
 pub record Counting (row : List ℕ) (n : ℕ) : Type 0 where

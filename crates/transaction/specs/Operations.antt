@@ -1,7 +1,6 @@
 -- What an `Operation` stands for, and what decoding answers.
 use mathlib.Core.Path.{_≡_}
 use Prim.Native.Nat.{ℕ, _-_, _≤_}
-use mathlib.Core.List.{List, [], _∷_}
 use mathlib.Core.Option.{Option, none, some}
 use mathlib.Core.Bool.{Bool, _&&_}
 use lib.ListN.{length, take, drop}
@@ -42,6 +41,11 @@ SoundDecoded src (Is o) = SoundOp src o
 SoundDecoded src Undecodable = Unit {0}
 
 -- A part of the bytes that spans can point into: their starts are numbers of two bytes.
+pub record Bounds (src : Bytes) (start end : ℕ) : Type 0 where
+  pub ordered : start ≤ end
+  pub within : end ≤ length src
+  pub short : length src ≤ 0xFFFF
+
 unfoldable pub inBounds : Bytes → ℕ → ℕ → Bool
 inBounds src start end = leb start end && leb end (length src) && leb (length src) 0xFFFF
 

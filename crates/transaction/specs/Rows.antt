@@ -6,7 +6,7 @@ use mathlib.Core.Option.{Option, none, some}
 use mathlib.Core.Bool.{_&&_}
 use lib.ListN.{length, take, drop, getElem?}
 use Rattle.model.specs.Base.{Bytes, caseOption, if_then_else_, sameBytes, allOf}
-use Rattle.model.specs.Field.{Field, encodeField, decodeFields}
+use Rattle.model.specs.Field.{encodeField, decodeFields}
 use Rattle.model.specs.Operation.{Op, fieldTags, kind, values, makers, validValue}
 use Rattle.laws.specs.Tests.{All}
 use Rattle.field.specs.Writing.{written, field}

@@ -7,7 +7,7 @@ ghost use Rattle.model.specs.Base.{if_then_else_, sameBytes};
 ghost use Rattle.model.specs.Operation.{fieldTags, kind, validValue, encodePayload};
 ghost use Rattle.field.specs.Writing.{field};
 ghost use Rattle.spans.specs.Spans.{nameOf, Sound};
-ghost use Rattle.transaction.specs.Operations.{opOf, SoundOp, Decodes, Encodes, Writes};
+ghost use Rattle.transaction.specs.Operations.{opOf, SoundOp, inBounds, Decodes, Encodes, Writes};
 ghost use Rattle.transaction.specs.Rows.{tagsIn, SoundParts, Matches, Makes, SoundColumn, Columns, Puts};
 use field::Read;
 use spans::NameRef;
@@ -198,17 +198,24 @@ fn operation_of(src: &[u8], kind: u8, parts: [NameRef; 4]) -> Decoded
     }
 }
 
+// Whether spans can point into the part between two places: their starts are numbers of two bytes.
+pub fn in_bounds(src: &[u8], start: usize, end: usize) -> bool
+    ensures { λ r. ⌜ r ≡ inBounds (now (src .entry)) start end ⌝ }
+{
+    if end < start {
+        return false;
+    }
+    if src.len() < end {
+        return false;
+    }
+    src.len() <= 0xFFFF
+}
+
 // The operation of the payload between two places: the kind's field says which row the fields must fit.
 pub fn decode_operation(src: &[u8], start: usize, end: usize) -> Decoded
     ensures { λ r. ⌜ Decodes (now (src .entry)) start end r ⌝ }
 {
-    if end < start {
-        return Decoded::Undecodable;
-    }
-    if src.len() < end {
-        return Decoded::Undecodable;
-    }
-    if 0xFFFF < src.len() {
+    if !in_bounds(src, start, end) {
         return Decoded::Undecodable;
     }
     let s = &src[..end];

@@ -1,11 +1,9 @@
 // The log: wal.rs. 01, How a store is handed over: the header and the entries; Corners, wal.rs.
 ghost use mathlib.Core.Path.{_≡_};
-ghost use Prim.Native.Nat.{_≤_};
-ghost use lib.ListN.{length};
 ghost use Rattle.model.specs.Operation.{encodePayload};
 ghost use Rattle.model.specs.Log.{header, entry, entries, readJournal};
 ghost use Rattle.field.specs.Writing.{written};
-ghost use Rattle.transaction.specs.Operations.{opOf, SoundOp, Writes};
+ghost use Rattle.transaction.specs.Operations.{opOf, SoundOp, Bounds, Writes};
 ghost use Rattle.wal.specs.Logs.{journalOf, payloadAt, EntryAt, ReadsLog, WalksLog};
 use spans::NameRef;
 use transaction::Decoded;
@@ -13,10 +11,12 @@ use transaction::Operation;
 
 // "0xCA" and "0x01 Committing" of the header.
 const WAL_MAGIC: u8 = 0xCA;
+
 const STATUS_COMMITTING: u8 = 0x01;
 
 // Header and entry head have eight bytes each.
 const WAL_FILE_HEADER_SIZE: usize = 8;
+
 const ENTRY_HEADER_SIZE: usize = 8;
 
 // A log's status; one without a valid header is as if absent.
@@ -58,7 +58,9 @@ const NO_NAME: NameRef = NameRef {
     baks: 0,
 };
 
-const NO_OPERATION: Logged = Logged { op: Operation::DeleteAll(NO_NAME) };
+const NO_OPERATION: Logged = Logged {
+    op: Operation::DeleteAll(NO_NAME),
+};
 
 // The log's header: magic, status, two zero bytes, and the checksum of the first two.
 pub fn encode_header(status: u8) -> [u8; 8]
@@ -134,6 +136,48 @@ pub fn entry_at(log: &[u8], at: usize) -> Entry
     Entry::Payload(start, end)
 }
 
+// The log walker: it borrows the log and remembers its next entry. 01, Forms that change shape: "The loop of `read_wal`".
+pub struct Walker<'a> {
+    pub log: &'a [u8],
+    pub at: usize,
+}
+
+impl<'a> Walker<'a> {
+    // A walker behind the header.
+    pub fn new(log: &'a [u8]) -> Walker<'a>
+        ensures { λ w. ⌜ (w .log ≡ log .entry) × (w .at ≡ 8) ⌝ }
+    {
+        Walker {
+            log,
+            at: WAL_FILE_HEADER_SIZE,
+        }
+    }
+
+    // The walker's next entry.
+    pub fn next(self) -> Entry
+        ensures { λ e. ⌜ EntryAt (now (self .entry .log)) (self .entry .at) e ⌝ }
+    {
+        entry_at(self.log, self.at)
+    }
+
+    // The walker behind the payload that ends at `end`.
+    pub fn advance(self, end: usize) -> Walker<'a>
+        ensures { λ w. ⌜ (w .log ≡ self .entry .log) × (w .at ≡ end) ⌝ }
+    {
+        Walker {
+            log: self.log,
+            at: end,
+        }
+    }
+}
+
+// The entry that a walker at `at` comes to.
+pub fn entry_from(log: &[u8], at: usize) -> Entry
+    ensures { λ e. ⌜ EntryAt (now (log .entry)) at e ⌝ }
+{
+    Walker::new(log).advance(at).next()
+}
+
 // The answer of a walk.
 fn ended(ops: [Logged; 32], len: usize, ending: Ending) -> WalRead
     ensures { λ r. ⌜ (r .ops ≡ ops) × ((r .len ≡ len) × (r .ending ≡ ending)) ⌝ }
@@ -147,7 +191,7 @@ fn ended(ops: [Logged; 32], len: usize, ending: Ending) -> WalRead
 
 // The entries from `first` on, up to `end`: at most 32 operations. An undecodable payload ends the walk at once.
 fn walk_entries(src: &[u8], first: usize, end: usize) -> WalRead
-    requires { ⌜ (first ≤ end) × ((end ≤ length (now src)) × (length (now src) ≤ 0xFFFF)) ⌝ }
+    requires { ⌜ Bounds (now src) first end ⌝ }
     ensures { λ r. ⌜ WalksLog (now (src .entry)) first end r ⌝ }
 {
     let mut ops = [NO_OPERATION; 32];
@@ -158,7 +202,7 @@ fn walk_entries(src: &[u8], first: usize, end: usize) -> WalRead
         if end <= at {
             return ended(ops, n, Ending::Whole);
         }
-        let Entry::Payload(from, to) = entry_at(log, at) else {
+        let Entry::Payload(from, to) = entry_from(log, at) else {
             return ended(ops, n, Ending::Truncated);
         };
         let Decoded::Is(op) = transaction::decode_operation(src, from, to) else {
@@ -178,13 +222,7 @@ fn walk_entries(src: &[u8], first: usize, end: usize) -> WalRead
 pub fn read_wal(src: &[u8], start: usize, end: usize) -> WalRead
     ensures { λ r. ⌜ ReadsLog (now (src .entry)) start end r ⌝ }
 {
-    if end < start {
-        return ended([NO_OPERATION; 32], 0, Ending::Undecodable);
-    }
-    if src.len() < end {
-        return ended([NO_OPERATION; 32], 0, Ending::Undecodable);
-    }
-    if 0xFFFF < src.len() {
+    if !transaction::in_bounds(src, start, end) {
         return ended([NO_OPERATION; 32], 0, Ending::Undecodable);
     }
     if end - start < WAL_FILE_HEADER_SIZE {

@@ -22,7 +22,7 @@ array-copy-out-result c = search needs
 
 returns-3 : tie.Need-returns-3
 unfolding rows
-returns-3 c = row-tags _ (omega arith) (omega arith)
+returns-3 c = row-tags _ (omega arith)
 
 pub row-of-spec : {M : Type 1} → statement M
 row-of-spec =

@@ -1,0 +1,9 @@
+pub mod Ahead
+pub mod Rows
+pub mod Nodes
+pub mod Tests
+pub mod Steps
+pub mod Choices
+pub mod Progress
+pub mod Single
+pub mod Whole

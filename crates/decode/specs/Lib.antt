@@ -1,0 +1,4 @@
+pub mod Reading
+pub mod Listing
+pub mod Spots
+pub mod Decoding

@@ -1,21 +1,21 @@
 -- The keys of a listing, node by node.
 use mathlib.Core.Path.{_≡_, refl, sym, ap, _∙_}
-use mathlib.Core.List.{List, [], _∷_, _++_}
-use mathlib.Core.Option.{Option, none, some}
+use mathlib.Core.List.{[], _∷_, _++_}
+use mathlib.Core.Option.{some}
 use mathlib.Core.Bool.{Bool, true, false, not, _&&_, _||_, false≢true}
 use Prim.Native.Nat.{ℕ, _+_, _*_, _≤_, _<_}
 use native.Mathlib.Omega.{arith}
 use lib.ListN.{length, drop, getD, length-append}
 use Rattle.model.specs.Order.{Name}
 use Rattle.model.specs.Map as model
-use Rattle.model.specs.Base.{Bytes, if_then_else_, ifEmpty, isSome, sameBytes, flatMap}
+use Rattle.model.specs.Base.{Bytes, if_then_else_, ifEmpty, sameBytes, flatMap}
 use Rattle.model.specs.Name.{lower, isBackup, isTmp}
 use Rattle.model.specs.Field.{encodeField}
 use Rattle.model.specs.Store.{files}
 use Rattle.model.specs.Record.{otherCase}
 use Rattle.field.specs.Writing.{written, field}
 use Rattle.field.proofs.Written.{written-written, written-nil, length-written}
-use Rattle.spans.specs.Spans.{nameOf, lengthOf, Sound}
+use Rattle.spans.specs.Spans.{nameOf, Sound}
 use Rattle.spans.specs.declared.NameRef.{NameRef}
 use Rattle.spans.proofs.Parts.{length-name}
 use Rattle.store.specs.declared.Node.{Node}
@@ -23,7 +23,6 @@ use Rattle.store.specs.declared.Table.{Table}
 use Rattle.store.specs.Tables.{nodeOf, mapOf, SoundNode, SoundTable}
 use Rattle.store.proofs.Live.{rest, finished, sound-at}
 use Rattle.store.proofs.Sweep.{by-same}
-use Rattle.steps.specs.Steps.{FileName}
 use Rattle.local_collection.specs.declared.OtherCase.the-variants.{Is, Nothing}
 use Rattle.local_collection.specs.Keys.{isKey, isFileOf, isKeyOf, keysOf, OtherCaseOf, Puts}
 

@@ -1,6 +1,6 @@
 -- `ensure_normalized_on_disk`: what was found decides whether a file is renamed.
-use mathlib.Core.Path.{_≡_, refl, sym, ap, _∙_}
-use mathlib.Core.Option.{Option, none, some}
+use mathlib.Core.Path.{_≡_, sym, ap, _∙_}
+use mathlib.Core.Option.{none, some}
 use Prim.Native.Nat.{ℕ}
 use Rattle.model.specs.Order.{Name}
 use Rattle.model.specs.Map.{look}
@@ -21,7 +21,7 @@ use Rattle.steps.specs.Steps.{stepOf, FileName, SoundStep, Fits, Allowed, Appli
 use Rattle.steps.specs.declared.Step.the-variants.{RenameFile}
 use Rattle.local_collection.specs.declared.OtherCase.{OtherCase}
 use Rattle.local_collection.specs.declared.OtherCase.the-variants.{Is, Nothing}
-use Rattle.local_collection.specs.Keys.{caseOf, SoundCase, OtherCaseOf, Normalized}
+use Rattle.local_collection.specs.Keys.{caseOf, OtherCaseOf, Normalized}
 
 -- The model's rename, by what stands at the key and what is found in another case.
 module _ (c k : Name) (s : model.Store) where

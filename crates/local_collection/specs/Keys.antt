@@ -3,7 +3,7 @@ use mathlib.Core.Path.{_≡_}
 use Prim.Native.Nat.{ℕ, _≤_}
 use mathlib.Core.List.{List, []}
 use mathlib.Core.Option.{Option, none, some}
-use mathlib.Core.Bool.{Bool, true, false, not, _&&_, _||_}
+use mathlib.Core.Bool.{Bool, false, not, _&&_, _||_}
 use lib.ListN.{length}
 use Rattle.model.specs.Order.{Name}
 use Rattle.model.specs.Map.{Node, Map}
@@ -13,7 +13,7 @@ use Rattle.model.specs.Field.{encodeField}
 use Rattle.model.specs.Store.{files}
 use Rattle.model.specs.Record.{otherCase, caseRenamed}
 use Rattle.field.specs.Writing.{written, field}
-use Rattle.spans.specs.Spans.{nameOf, Sound}
+use Rattle.spans.specs.Spans.{nameOf}
 use Rattle.spans.specs.declared.NameRef.{NameRef}
 use Rattle.store.specs.Stores.{storeOf}
 use Rattle.store.specs.declared.Store.{Store}

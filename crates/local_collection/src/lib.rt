@@ -1,13 +1,10 @@
 // The files of one collection as keys: local_collection.rs. A key that is given stands in the lent bytes in lower case.
 ghost use mathlib.Core.Path.{_≡_};
-ghost use mathlib.Core.Bool.{not, _&&_};
 ghost use Prim.Native.Nat.{_≤_};
 ghost use lib.ListN.{length};
 ghost use Rattle.model.specs.Base.{sameBytes};
-ghost use Rattle.model.specs.Name.{lower, isBackup, isTmp};
+ghost use Rattle.model.specs.Name.{lower};
 ghost use Rattle.model.specs.Store.{files};
-ghost use Rattle.model.specs.Field.{encodeField};
-ghost use Rattle.model.specs.Record.{otherCase};
 ghost use Rattle.field.specs.Writing.{written, field};
 ghost use Rattle.spans.specs.Spans.{nameOf, Sound};
 ghost use Rattle.store.specs.Tables.{nodeOf, mapOf, SoundNode, SoundTable};
@@ -26,7 +23,7 @@ pub enum OtherCase {
     Nothing,
 }
 
-// 01, Sixteen numbers: "8,576 for a key list". The tag of a key's field.
+// 01, Modules in port order: "key list (0x03 fields)".
 const KEY_TAG: u8 = 3;
 
 // Whether a name in lower case is the key (`eq_ignore_ascii_case`).
@@ -40,8 +37,9 @@ fn lowers_to(src: &[u8], file: NameRef, key: NameRef) -> bool
     }
     let mut i: usize = 0;
     while i < n {
-        let x = paths::lower_byte(spans::byte_at(src, file, i));
-        if x != spans::byte_at(src, key, i) {
+        let raw = spans::byte_at(src, file, i);
+        let low = paths::lower_byte(raw);
+        if low != spans::byte_at(src, key, i) {
             return false;
         }
         i += 1;

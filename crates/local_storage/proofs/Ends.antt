@@ -1,12 +1,11 @@
 -- `begin_transaction` and `rollback` as answers.
-use mathlib.Core.Path.{_≡_, refl, sym, ap, _∙_}
+use mathlib.Core.Path.{_≡_, refl}
 use mathlib.Core.List.{[]}
-use mathlib.Core.Option.{none, some}
-use mathlib.Core.Bool.{Bool, true, false, not}
+use mathlib.Core.Bool.{true, false, not}
 use native.Mathlib.Omega.{arith}
 use Rattle.model.specs.Base.{Bytes}
 use Rattle.model.specs.Record.{beginTransaction, discard}
-use Rattle.store.specs.Tables.{mapOf, Holds}
+use Rattle.store.specs.Tables.{Holds}
 use Rattle.store.specs.Stores.{storeOf, logBytes, SoundStore}
 use Rattle.store.specs.declared.Store.{Store}
 use Rattle.store.specs.declared.Table.{Table}

@@ -1,29 +1,27 @@
 -- `delete` and `write`, test by test.
-use mathlib.Core.Path.{_≡_, refl, sym, ap, _∙_}
-use mathlib.Core.Bool.{Bool, true, false, not, _&&_}
-use mathlib.Core.Option.{Option, none, some}
+use mathlib.Core.Path.{_≡_, sym, ap, _∙_}
+use mathlib.Core.Bool.{Bool, true, false, not}
 use Prim.Native.Nat.{ℕ}
 use native.Mathlib.Omega.{arith}
 use borrow.Author.Tests.{not-true, not-false}
 use Rattle.model.specs.Order.{Name}
-use Rattle.model.specs.Base.{Bytes, isSome, caseOption}
-use Rattle.model.specs.Map.{Map, look, put}
-use Rattle.model.specs.Name.{validName, lower}
-use Rattle.model.specs.Operation.{write, delete}
+use Rattle.model.specs.Base.{Bytes, isSome}
+use Rattle.model.specs.Map.{Map, look}
+use Rattle.model.specs.Name.{lower}
+use Rattle.model.specs.Operation.{write}
 use Rattle.model.specs.Store as model
-use Rattle.model.specs.Store.{stagingKey}
-use Rattle.model.specs.Record.{Outcome, give, appended, caseRenamed, recordWrite, recordDelete}
-use Rattle.spans.specs.Spans.{nameOf, Sound, Names}
+use Rattle.model.specs.Record.{give, appended, caseRenamed, recordWrite, recordDelete}
+use Rattle.spans.specs.Spans.{nameOf}
 use Rattle.spans.specs.declared.NameRef.{NameRef}
 use Rattle.store.specs.Tables.{mapOf}
-use Rattle.store.specs.Stores.{storeOf, logBytes, SoundStore}
+use Rattle.store.specs.Stores.{storeOf, SoundStore}
 use Rattle.store.specs.declared.Store.{Store}
 use Rattle.transaction.specs.declared.Operation.the-variants.{Write, Delete}
 use Rattle.local_collection.specs.Keys.{Normalized}
 use Rattle.local_storage.specs.declared.LocalStorage.{LocalStorage}
 use Rattle.local_storage.specs.declared.Recorded.{Recorded}
 use Rattle.local_storage.specs.Recording.{storageOf, refusedWith, recordedIn, Answers, GivenKey, GivenWrite, Admits, canStage, hasFile, Staged}
-use Rattle.local_storage.proofs.Outcomes.{refused, accepted, not-admitted, admitted, fails, holds}
+use Rattle.local_storage.proofs.Outcomes.{accepted, not-admitted, admitted, fails, holds}
 
 -- The store after the case rename, and whether the key stands there, by the given names.
 module _ {src : Bytes} {v : Bool} {d f : NameRef} {c k : Name} (w : GivenKey src v d f c k) (h : not v ≡ false) {o s : Store} (m : Normalized src d f o s) where
@@ -53,10 +51,10 @@ module _ {src : Bytes} {self : LocalStorage} {r : Recorded} {n : ℕ} (g : Sound
       unfolding recordDelete
       delete-8 q e = admitted a _ z (holds 6 _ (sym (w .valid) ∙ not-false v h) (fails _ g (key-stands w h m p (not-true b q)) (omega arith) e))
 
-      pub delete-0 : Sound src d → Sound src f → not b ≡ false → r ≡ recordedIn (record { store = s }) (Delete d f) → Answers src (recordDelete c k (storageOf src self)) self r
+      pub delete-0 : not b ≡ false → r ≡ recordedIn (record { store = s }) (Delete d f) → Answers src (recordDelete c k (storageOf src self)) self r
       unfolding recordDelete
-      delete-0 x y q e =
-          admitted a _ z (holds 6 _ (sym (w .valid) ∙ not-false v h) (holds 8 _ (key-stands w h m p (not-false b q)) (accepted (m .fits .sound) e (x, y)
+      delete-0 q e =
+          admitted a _ z (holds 6 _ (sym (w .valid) ∙ not-false v h) (holds 8 _ (key-stands w h m p (not-false b q)) (accepted (m .fits .sound) e (w .names (not-false v h) .sound, w .keys (not-false v h) .sound)
           (rw (← renamed-store w h m, ← w .names (not-false v h) .same, ← w .keys (not-false v h) .same)))))
 
   module _ {v : Bool} {d f t : NameRef} {c k i : Name} (x : ℕ) (w : GivenWrite src v d f t c k i) where
@@ -73,8 +71,8 @@ module _ {src : Bytes} {self : LocalStorage} {r : Recorded} {n : ℕ} (g : Sound
       unfolding recordWrite canStage
       write-10 q e = admitted a _ z (holds 6 _ (sym (w .valid) ∙ not-false v h) (fails _ g (can-add x (mapOf src (self .store .staging)) w h p (not-true b q)) (omega arith) e))
 
-      pub write-0 : {s : Store} → Sound src d → Sound src f → Sound src t → not b ≡ false → Staged src t x (self .store) s → r ≡ recordedIn (record { store = s }) (Write d f t) → Answers src (recordWrite c k i x (storageOf src self)) self r
+      pub write-0 : {s : Store} → not b ≡ false → Staged src t x (self .store) s → r ≡ recordedIn (record { store = s }) (Write d f t) → Answers src (recordWrite c k i x (storageOf src self)) self r
       unfolding recordWrite canStage
-      write-0 {s} o y u q m e =
-          admitted a _ z (holds 6 _ (sym (w .valid) ∙ not-false v h) (holds 10 _ (can-add x (mapOf src (self .store .staging)) w h p (not-false b q)) (accepted (m .sound) e (o, (y, u))
+      write-0 {s} q m e =
+          admitted a _ z (holds 6 _ (sym (w .valid) ∙ not-false v h) (holds 10 _ (can-add x (mapOf src (self .store .staging)) w h p (not-false b q)) (accepted (m .sound) e (w .names (not-false v h) .sound, (w .keys (not-false v h) .sound, w .staged (not-false v h) .sound))
           (rw (← w .names (not-false v h) .same, ← w .keys (not-false v h) .same, ← w .staged (not-false v h) .same) (ap (λ (j : model.Store). give (appended (write (record { collection = nameOf src d; key = nameOf src f; staged = nameOf src t })) j)) (sym (m .same)))))))

@@ -1,30 +1,29 @@
 -- The open transaction: mark, header and entries of the log.
 use mathlib.Core.Path.{_≡_, refl, sym, ap, subst, _∙_}
-use mathlib.Core.List.{List, map}
+use mathlib.Core.List.{List}
 use mathlib.Core.Option.{Option, none, some}
 use mathlib.Core.Bool.{Bool, true, false, not, _&&_, false≢true}
 use Prim.Native.Nat.{ℕ, zero, suc, _+_, _-_, _≤_, _<_}
 use native.Mathlib.Omega.{arith}
 use lib.ListN.{length, take, drop, getD, length-map}
 use lib.Seq.{length-take-le}
-use lib.Dec.{leb}
 use borrow.Author.Tests.{not-true, not-false, le-leb, lt-leb}
-use Rattle.model.specs.Base.{Bytes, caseOption, if_then_else_}
+use Rattle.model.specs.Base.{Bytes, if_then_else_}
 use Rattle.model.specs.Operation.{Op}
 use Rattle.model.specs.Log.{Journal, absent, recording, committing, journal, readJournal, byStatus, validHeader, Entries, entries}
 use Rattle.model.specs.Store as model
-use Rattle.model.specs.Record.{Outcome, refuse, transaction, recordedOps, recordInto}
+use Rattle.model.specs.Record.{transaction, recordedOps}
 use Rattle.store.specs.Stores.{storeOf, logBytes}
 use Rattle.store.specs.declared.Store.{Store}
-use Rattle.transaction.specs.Operations.{inBounds, part}
-use Rattle.wal.specs.Logs.{journalOf, endingOf, loggedOf, opsRead, entriesOf, entriesAt, SoundRead, ReadsLog}
+use Rattle.transaction.specs.Operations.{inBounds}
+use Rattle.wal.specs.Logs.{journalOf, endingOf, loggedOf, opsRead, entriesOf, entriesAt, ReadsLog}
 use Rattle.wal.specs.declared.Status.{Status}
 use Rattle.wal.specs.declared.Status.the-variants.{Absent, Recording, Committing}
 use Rattle.wal.specs.declared.Ending.{Ending}
 use Rattle.wal.specs.declared.Ending.the-variants.{Whole, Truncated, Undecodable, TooMany}
 use Rattle.wal.specs.declared.WalRead.{WalRead}
 use Rattle.local_storage.specs.declared.Transaction.{Transaction}
-use Rattle.local_storage.specs.Recording.{Ready, isRecording, isWhole, operationsOf, Opens, Admits}
+use Rattle.local_storage.specs.Recording.{Ready, isRecording, isWhole, Opens, Admits}
 
 -- The bytes of a log that stands.
 abbrev bytesOf : Bytes → Store → Bytes

@@ -1,12 +1,11 @@
 -- Refusals and accepted operations as answers, and the tests before them.
 use mathlib.Core.Path.{_≡_, refl, sym, ap, subst, _∙_}
 use mathlib.Core.List.{[]}
-use mathlib.Core.Option.{Option, none, some}
-use mathlib.Core.Bool.{Bool, true, false, not, _&&_}
+use mathlib.Core.Bool.{Bool, true, false}
 use Prim.Native.Nat.{ℕ}
 use lib.Dec.{eqb}
-use borrow.Author.Tests.{ne-eqb, not-true, not-false}
-use Rattle.model.specs.Base.{Bytes, if_then_else_, isSome}
+use borrow.Author.Tests.{ne-eqb}
+use Rattle.model.specs.Base.{Bytes, isSome}
 use Rattle.model.specs.Map.{Map, look}
 use Rattle.model.specs.Order.{Name, Key}
 use Rattle.model.specs.Store as model

@@ -1,7 +1,7 @@
 -- The staging file of a Write: whether it is refused with 10, and what it adds.
-use mathlib.Core.Path.{_≡_, refl, sym, ap, _∙_}
+use mathlib.Core.Path.{_≡_}
 use mathlib.Core.List.{[]}
-use mathlib.Core.Bool.{Bool, true, false, not, _&&_}
+use mathlib.Core.Bool.{true, false, not, _&&_}
 use Prim.Native.Nat.{ℕ, _≤_, _<_}
 use native.Mathlib.Omega.{arith}
 use lib.ListN.{length}
@@ -9,15 +9,15 @@ use lib.Dec.{leb}
 use borrow.Author.Tests.{le-leb, lt-leb, leb-false, not-true}
 use Rattle.model.specs.Limits.{stagingLimit, numberLimit}
 use Rattle.model.specs.Order.{Name}
-use Rattle.model.specs.Map.{Map, look, put}
+use Rattle.model.specs.Map.{Map, look}
 use Rattle.model.specs.Base.{Bytes, isSome}
 use Rattle.model.specs.Store.{stagingKey, validNumber}
 use Rattle.laws.specs.Tests.{and-both}
-use Rattle.spans.specs.Spans.{nameOf, Sound, Names}
+use Rattle.spans.specs.Spans.{Sound, Names}
 use Rattle.spans.specs.declared.NameRef.{NameRef}
 use Rattle.store.specs.Places.{tableRoom, putIn}
 use Rattle.store.specs.Tables.{keyOf, mapOf, SoundNode, SoundTable, Holds}
-use Rattle.store.specs.Stores.{storeOf, logBytes, SoundStore}
+use Rattle.store.specs.Stores.{SoundStore}
 use Rattle.store.specs.declared.Store.{Store}
 use Rattle.store.specs.declared.Table.{Table}
 use Rattle.store.proofs.Room.{room-put}

@@ -1,6 +1,6 @@
 -- What the methods of a `LocalStorage` answer: the model's outcomes.
 use mathlib.Core.Path.{_≡_}
-use Prim.Native.Nat.{ℕ, _≤_, _<_}
+use Prim.Native.Nat.{ℕ, _≤_}
 use mathlib.Core.List.{List, []}
 use mathlib.Core.Option.{Option, none, some}
 use mathlib.Core.Bool.{Bool, true, false, not, _&&_}
@@ -12,11 +12,11 @@ use Rattle.model.specs.Map.{Map, look, put}
 use Rattle.model.specs.Base.{Bytes, if_then_else_, isSome}
 use Rattle.model.specs.Name.{validName, lower}
 use Rattle.model.specs.Operation.{Op}
-use Rattle.model.specs.Log.{Journal, absent, recording, committing, journal, header}
+use Rattle.model.specs.Log.{Journal, absent, recording, committing, header}
 use Rattle.model.specs.Store as model
 use Rattle.model.specs.Store.{stagingKey, validNumber}
 use Rattle.model.specs.Record.{Outcome, refuse, give, transaction, recordInto, appended}
-use Rattle.spans.specs.Spans.{nameOf, Sound, Names}
+use Rattle.spans.specs.Spans.{nameOf, Names}
 use Rattle.spans.specs.declared.NameRef.{NameRef}
 use Rattle.store.specs.Tables.{mapOf}
 use Rattle.store.specs.Stores.{storeOf, logBytes, SoundStore}

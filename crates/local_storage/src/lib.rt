@@ -2,8 +2,7 @@
 // store and hands it on. A given name is tested beforehand; where it is valid, it stands in the lent bytes, a key in lower case.
 ghost use mathlib.Core.Path.{_≡_};
 ghost use mathlib.Core.Bool.{true, _&&_};
-ghost use Prim.Native.Nat.{ℕ, _≤_, _<_};
-ghost use lib.ListN.{length};
+ghost use Prim.Native.Nat.{_<_};
 ghost use Rattle.model.specs.Order.{Name};
 ghost use Rattle.model.specs.Base.{Bytes};
 ghost use Rattle.model.specs.Log.{journal};

@@ -42,7 +42,7 @@ accepted-requires : tie.Need-accepted-requires
 accepted-requires c κs = search needs
 
 returns-5 : tie.Need-returns-5
-returns-5 c = λ n m w u. copy-0 (c .before .before .before .before .before .before .before .before .before .pre .0 .sound) (c .before .before .before .before .before .before .before .refusal .ensures) w u (c .before .before .before .before .before .before .if1 .left) (c .before .before .before .before .before .if2 .left) (c .before .before .before .before .has-dir .ensures) (c .before .before .before .before .before .before .before .before .before .pre .1 .0 (not-false (c .before .before .before .before .before .before .before .before .before .args .valid-source) (c .before .before .before .before .before .if2 .left))) (c .before .before .before .before .before .before .before .before .before .pre .1 .1 (not-false (c .before .before .before .before .before .before .before .before .before .args .valid-dest) (c .before .before .if4 .left))) (c .before .before .before .if3 .left) (c .before .before .if4 .left) (c .before .has-dir2 .ensures) (c .accepted .ensures)
+returns-5 c = λ n m w u. copy-0 (c .before .before .before .before .before .before .before .before .before .pre .0 .sound) (c .before .before .before .before .before .before .before .refusal .ensures) w u (c .before .before .before .before .before .before .if1 .left) (c .before .before .before .before .before .if2 .left) (c .before .before .before .before .has-dir .ensures) (c .before .before .before .if3 .left) (c .before .before .if4 .left) (c .before .has-dir2 .ensures) (c .accepted .ensures)
 
 pub copy-collection-spec : {M : Type 1} → statement M
 copy-collection-spec =

@@ -33,7 +33,7 @@ accepted-requires : tie.Need-accepted-requires
 accepted-requires c κs = search needs
 
 returns-4 : tie.Need-returns-4
-returns-4 c = λ n w. create-0 (c .before .before .before .before .before .before .before .pre .0 .sound) (c .before .before .before .before .before .refusal .ensures) w (c .before .before .before .before .if1 .left) (c .before .before .before .if2 .left) (c .before .before .has-dir .ensures) (c .before .before .before .before .before .before .before .pre .1 (not-false (c .before .before .before .before .before .before .before .args .valid) (c .before .before .before .if2 .left))) (c .before .if3 .left) (c .accepted .ensures)
+returns-4 c = λ n w. create-0 (c .before .before .before .before .before .before .before .pre .0 .sound) (c .before .before .before .before .before .refusal .ensures) w (c .before .before .before .before .if1 .left) (c .before .before .before .if2 .left) (c .before .before .has-dir .ensures) (c .before .if3 .left) (c .accepted .ensures)
 
 pub create-collection-spec : {M : Type 1} → statement M
 create-collection-spec =

@@ -1,5 +1,4 @@
 -- `delete_all` meets its contract.
-use borrow.Author.Tests.{not-false}
 use Rattle.local_storage.proofs.Collections.{all-4-5, all-6, all-0}
 use borrow.Author.Needs.{needs}
 use Rattle.local_storage.proofs.LocalStorage.delete_all.Statement.{statement}
@@ -24,7 +23,7 @@ accepted-requires : tie.Need-accepted-requires
 accepted-requires c κs = search needs
 
 returns-3 : tie.Need-returns-3
-returns-3 c = λ n w. all-0 (c .before .before .before .before .before .pre .0 .sound) (c .before .before .before .refusal .ensures) w (c .before .before .if1 .left) (c .before .if2 .left) (c .before .before .before .before .before .pre .1 (not-false (c .before .before .before .before .before .args .valid) (c .before .if2 .left))) (c .accepted .ensures)
+returns-3 c = λ n w. all-0 (c .before .before .before .before .before .pre .0 .sound) (c .before .before .before .refusal .ensures) w (c .before .before .if1 .left) (c .before .if2 .left) (c .accepted .ensures)
 
 pub delete-all-spec : {M : Type 1} → statement M
 delete-all-spec =

@@ -38,7 +38,7 @@ accepted-requires : tie.Need-accepted-requires
 accepted-requires c κs = search needs
 
 returns-4 : tie.Need-returns-4
-returns-4 c = λ n m f w. write-0 (c .before .before .before .before .before .before .before .before .before .pre .0 .sound) (c .before .before .before .before .before .before .before .refusal .ensures) _ w (c .before .before .before .before .before .before .if1 .left) (c .before .before .before .before .before .if2 .left) (c .before .before .before .can-stage .ensures) ((c .before .before .before .before .before .before .before .before .before .pre .1 (not-false (c .before .before .before .before .before .before .before .before .before .args .valid) (c .before .before .before .before .before .if2 .left))) .0) ((c .before .before .before .before .before .before .before .before .before .pre .1 (not-false (c .before .before .before .before .before .before .before .before .before .args .valid) (c .before .before .before .before .before .if2 .left))) .1 .0) ((c .before .before .before .before .before .before .before .before .before .pre .1 (not-false (c .before .before .before .before .before .before .before .before .before .args .valid) (c .before .before .before .before .before .if2 .left))) .1 .1) (c .before .before .if3 .left) (c .before .stage .ensures) (c .accepted .ensures)
+returns-4 c = λ n m f w. write-0 (c .before .before .before .before .before .before .before .before .before .pre .0 .sound) (c .before .before .before .before .before .before .before .refusal .ensures) _ w (c .before .before .before .before .before .before .if1 .left) (c .before .before .before .before .before .if2 .left) (c .before .before .before .can-stage .ensures) (c .before .before .if3 .left) (c .before .stage .ensures) (c .accepted .ensures)
 
 pub write-spec : {M : Type 1} → statement M
 write-spec =

@@ -1,0 +1,6 @@
+pub mod Opened
+pub mod Outcomes
+pub mod Ends
+pub mod Stagings
+pub mod Collections
+pub mod Keyed

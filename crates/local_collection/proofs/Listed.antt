@@ -11,8 +11,8 @@ use Rattle.model.specs.Map as model
 use Rattle.model.specs.Base.{Bytes, if_then_else_, ifEmpty, sameBytes, flatMap}
 use Rattle.model.specs.Name.{lower, isBackup, isTmp}
 use Rattle.model.specs.Field.{encodeField}
-use Rattle.model.specs.Store.{files}
-use Rattle.model.specs.Record.{otherCase}
+use Rattle.model.specs.Store.{Store, files}
+use Rattle.model.specs.Record.{otherCase, keyList}
 use Rattle.field.specs.Writing.{written, field}
 use Rattle.field.proofs.Written.{written-written, written-nil, length-written}
 use Rattle.spans.specs.Spans.{nameOf, Sound}
@@ -24,7 +24,7 @@ use Rattle.store.specs.Tables.{nodeOf, mapOf, SoundNode, SoundTable}
 use Rattle.store.proofs.Live.{rest, finished, sound-at}
 use Rattle.store.proofs.Sweep.{by-same}
 use Rattle.local_collection.specs.declared.OtherCase.the-variants.{Is, Nothing}
-use Rattle.local_collection.specs.Keys.{isKey, isFileOf, isKeyOf, keysOf, OtherCaseOf, Puts}
+use Rattle.local_collection.specs.Keys.{isKey, isFileOf, isKeyOf, keysOf, OtherCaseOf, Puts, Lists}
 
 -- The tests of the code, each in its two ways.
 module _ (f : Name) where
@@ -230,8 +230,18 @@ module _ {src : Bytes} {t : Table} {dir : NameRef} {before now : Bytes} {at i : 
   unfolding keysOf files
   none-left = ap (keysOf (nameOf src dir)) (finished src i (w .sound .sized) h)
 
-  pub listed-all : now ≡ written 0 (keysOf (nameOf src dir) (mapOf src t)) before
-  listed-all = sym (written-nil at now) ∙ ap (λ (l : Bytes). written at l now) (sym none-left) ∙ w .wrote
+  pub listed-all : Lists (keysOf (nameOf src dir) (mapOf src t)) before now at
+  listed-all = record {
+    out = sym (written-nil at now) ∙ ap (λ (l : Bytes). written at l now) (sym none-left) ∙ w .wrote;
+    size = let e : length (keysOf (nameOf src dir) (drop i (mapOf src t))) ≡ 0 = ap length none-left in omega (arith, w .told);
+  }
 
-  pub listed-length : at ≡ length (keysOf (nameOf src dir) (mapOf src t))
-  listed-length = let e : length (keysOf (nameOf src dir) (drop i (mapOf src t))) ≡ 0 = ap length none-left in omega (arith, w .told)
+-- The model's key list is that of its tree.
+module _ (c : Name) (s : Store) where
+  pub keys-room : {n : ℕ} → length (keyList c s) ≤ n → length (keysOf c (s .tree)) ≤ n
+  unfolding keysOf keyList
+  keys-room h = h
+
+  pub keys-listed : {before after : Bytes} {n : ℕ} → Lists (keysOf c (s .tree)) before after n → Lists (keyList c s) before after n
+  unfolding keysOf keyList
+  keys-listed w = w

@@ -4,3 +4,4 @@ pub mod Ends
 pub mod Stagings
 pub mod Collections
 pub mod Keyed
+pub mod Asked

@@ -1,19 +1,14 @@
 -- What stands behind the last node of a listing, by the field's tag.
 use mathlib.Core.Path.{_≡_, refl, sym, ap, subst, _∙_}
-use mathlib.Core.Bool.{Bool, true, false, _||_}
-use mathlib.Core.List.{List, [], _∷_}
+use mathlib.Core.Bool.{Bool, true, false}
+use mathlib.Core.List.{[], _∷_}
 use Prim.Native.Nat.{ℕ, _≤_}
-use native.Mathlib.Omega.{arith}
-use lib.Dec.{eqb}
 use lib.ListN.{length}
 use types.Run.{OneOf}
 use denote.Enum.Declared.{tagOf}
 use borrow.Author.Tests.{ne-eqb}
 use Rattle.model.specs.Limits.{imageRoom}
-use Rattle.model.specs.Order.{Name}
 use Rattle.model.specs.Base.{Bytes}
-use Rattle.model.specs.Name.{validName}
-use Rattle.model.specs.Field.{Field}
 use Rattle.laws.specs.ImageLaws.{node-parts}
 use Rattle.field.specs.declared.Item.{Item}
 use Rattle.field.specs.declared.Read.{Read}
@@ -21,11 +16,9 @@ use Rattle.field.specs.declared.Read.the-variants.{Is}
 use Rattle.field.proofs.Read.{the-type}
 use Rattle.field.specs.Reading.{Reads}
 use Rattle.field.proofs.Fields.{is-field}
-use Rattle.spans.specs.declared.NameRef.{NameRef}
-use Rattle.spans.specs.Spans.{nameOf, lengthOf, Sound}
+use Rattle.spans.specs.Spans.{nameOf, lengthOf}
 use Rattle.spans.proofs.Parts.{length-name}
 use Rattle.decode.specs.declared.Spot.{Spot}
-use Rattle.decode.specs.Reading.{Ahead, starts}
 use Rattle.decode.specs.Listing.{own}
 use Rattle.decode.specs.Spots.{SoundSpot, Stops, Breaks, AtField, InDir}
 use Rattle.decode.proofs.Ahead.{no-bytes, first, nothing}

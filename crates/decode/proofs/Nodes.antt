@@ -1,29 +1,26 @@
 -- Nodes and their fields.
-use mathlib.Core.Path.{_≡_, refl, sym, ap, ap₂, _∙_}
-use mathlib.Core.Bool.{Bool, true, false, _&&_, _||_, false≢true}
-use mathlib.Core.List.{List, [], _∷_, _++_}
-use Prim.Native.Nat.{ℕ, _+_, _-_, _≤_, _<_}
+use mathlib.Core.Path.{_≡_, refl, sym, ap, _∙_}
+use mathlib.Core.Bool.{Bool, true, false, _&&_}
+use mathlib.Core.List.{[], _∷_, _++_}
+use Prim.Native.Nat.{ℕ, _+_, _-_, _≤_}
 use native.Mathlib.Omega.{arith}
 use lib.ListN.{length, take, drop, length-append, take-append-drop}
 use lib.Seq.{take-at, drop-at, length-take-le}
-use lib.Dec.{leb, eqb}
-use Rattle.model.specs.Order.{Cmp, lt, eq, gt, thenCmp, Name, Key, cmpName, cmpKey}
-use Rattle.model.specs.Map.{Map, Node}
+use lib.Dec.{eqb}
+use Rattle.model.specs.Order.{Name}
+use Rattle.model.specs.Map.{Node}
 use Rattle.model.specs.Base.{Bytes, ifEmpty, sameBytes}
 use Rattle.model.specs.Name.{validName}
 use Rattle.model.specs.Field.{Field, littleEndian, fromLittleEndian}
-use Rattle.model.specs.Store.{belowFirst, validNumber, validNode, validNodes, validStaged}
-use Rattle.model.specs.Image.{nodeField, stagedField}
-use Rattle.laws.specs.Tests.{All, and-both, and-made, le-leb, eqb-eq, same-refl}
-use Rattle.laws.specs.OrderLaws.{nameLaws, lt≢eq, lt≢gt}
+use Rattle.model.specs.Store.{validNumber, validNode, validStaged}
+use Rattle.model.specs.Image.{nodeField}
+use Rattle.laws.specs.Tests.{All, eqb-eq}
 use Rattle.laws.specs.FieldLaws.{Byte, le-four}
 use Rattle.laws.specs.ImageLaws.{listed, number-le, node-parts, file-parts, staged-parts}
-use Rattle.laws.specs.TreeLaws.{isDir, isFile}
 use Rattle.field.specs.Writing.{field}
 use Rattle.field.proofs.Numbers.{bytes-again}
-use Rattle.decode.specs.Listing.{fileTag, own, filesOf, validAt, validFrom, Fits}
+use Rattle.decode.specs.Listing.{fileTag, own, validAt}
 use Rattle.decode.specs.Spots.{InDir}
-use Rattle.decode.proofs.Rows.{invalid-nil}
 
 -- Every field of a listing has one of its tags.
 pub own-listed : (staged : Bool) (n : Node) → own staged (listed staged n .tag) ≡ true

@@ -2,26 +2,25 @@
 use mathlib.Core.Path.{_≡_, refl, sym, ap, subst, _∙_}
 use mathlib.Core.Bool.{Bool, true, false, false≢true}
 use mathlib.Core.List.{List, [], _∷_, _++_, map, map-append, append-assoc, append-nil}
-use mathlib.Core.Option.{none, some}
+use mathlib.Core.Option.{none}
 use Prim.Native.Nat.{ℕ, _+_, _≤_, _<_}
 use native.Mathlib.Omega.{arith}
 use lib.ListN.{length, drop, set}
 use lib.Seq.{append-snoc}
-use Rattle.model.specs.Limits.{dirLimit, fileLimit}
+use Rattle.model.specs.Limits.{fileLimit}
 use Rattle.model.specs.Order.{lt, Name, Key, cmpName, cmpKey}
 use Rattle.model.specs.Map as model
 use Rattle.model.specs.Map.{Map}
-use Rattle.model.specs.Base.{Bytes, flatMap}
+use Rattle.model.specs.Base.{Bytes}
 use Rattle.model.specs.Name.{validName}
 use Rattle.model.specs.Field.{Field, encodeField, encodeFields, fieldsFrom}
 use Rattle.model.specs.Store.{ascending}
-use Rattle.laws.specs.Tests.{and-both}
 use Rattle.laws.specs.MapLaws.{Sorted}
 use Rattle.laws.specs.FieldLaws.{encode-append}
 use Rattle.laws.specs.ImageLaws.{listed, node-parts, staged-parts}
 use Rattle.laws.specs.TreeLaws.{size, isDir, isFile, sorted-ascending}
 use Rattle.spans.specs.declared.NameRef.{NameRef}
-use Rattle.spans.specs.Spans.{nameOf, Names}
+use Rattle.spans.specs.Spans.{Names}
 use Rattle.store.specs.declared.Table.{Table}
 use Rattle.store.specs.Places.{tableRoom}
 use Rattle.store.specs.Tables.{keyOf, nodeOf, mapOf, Holds}
@@ -30,8 +29,8 @@ use Rattle.store.proofs.End.{ascending-above, appended}
 use Rattle.decode.specs.declared.Spot.{Spot}
 use Rattle.decode.specs.declared.Next.{Next}
 use Rattle.decode.specs.declared.Next.the-variants.{Is, Other, Broken}
-use Rattle.decode.specs.Reading.{Ahead, starts, Reads}
-use Rattle.decode.specs.Listing.{own, filesOf, validAt, validFrom, Formed, lastKey, Fits}
+use Rattle.decode.specs.Reading.{Ahead, starts}
+use Rattle.decode.specs.Listing.{own, filesOf, validAt, Formed, lastKey, Fits}
 use Rattle.decode.specs.Spots.{LastDir, SoundSpot, Follows, Stops, Breaks, Comes}
 use Rattle.decode.specs.Decoding.{ReadsNodes}
 use Rattle.decode.proofs.Ahead.{one-more}

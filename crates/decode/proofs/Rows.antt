@@ -1,15 +1,15 @@
 -- A listing with one node more, and a listing's node behind those before it.
-use mathlib.Core.Path.{_≡_, refl, sym, ap, _∙_}
-use mathlib.Core.Bool.{Bool, true, false, _&&_, false≢true}
-use mathlib.Core.List.{List, [], _∷_, _++_}
-use Prim.Native.Nat.{ℕ, suc, _+_, _≤_}
+use mathlib.Core.Path.{_≡_, refl, sym}
+use mathlib.Core.Bool.{Bool, true, false, false≢true}
+use mathlib.Core.List.{[], _∷_, _++_}
+use Prim.Native.Nat.{ℕ, suc, _+_}
 use native.Mathlib.Omega.{arith}
 use lib.ListN.{length}
 use Rattle.model.specs.Order.{Cmp, lt, eq, gt, Name, Key, cmpKey, caseCmp}
 use Rattle.model.specs.Map.{Map, Node}
 use Rattle.model.specs.Base.{allOf}
 use Rattle.model.specs.Name.{validName}
-use Rattle.model.specs.Store.{validNode, validNodes, validStaged}
+use Rattle.model.specs.Store.{validNodes, validStaged}
 use Rattle.laws.specs.Tests.{nil≢cons, and-both, and-made}
 use Rattle.laws.specs.ImageLaws.{staged-parts}
 use Rattle.laws.specs.ValidNames.{valid-named}

@@ -1,5 +1,5 @@
 -- The parts of an image that are one field or none: the log and the open mark.
-use mathlib.Core.Path.{_≡_, refl, sym, ap, subst, _∙_}
+use mathlib.Core.Path.{_≡_, refl, sym, ap, _∙_}
 use mathlib.Core.Bool.{Bool, true, false, false≢true}
 use mathlib.Core.List.{List, [], _∷_, _++_, append-nil}
 use mathlib.Core.Option.{Option, none, some}
@@ -7,25 +7,21 @@ use mathlib.Core.Logic.{_⊎_, inl, inr}
 use Prim.Native.Nat.{ℕ, _+_, _-_, _≤_, _<_}
 use native.Mathlib.Omega.{arith}
 use lib.Dec.{eqb}
-use lib.ListN.{length, take, drop, length-drop}
-use lib.Seq.{length-take-le}
+use lib.ListN.{length, drop}
 use types.Run.{OneOf}
 use denote.Enum.Declared.{tagOf}
 use borrow.Author.Tests.{eq-eqb, ne-eqb}
-use Rattle.model.specs.Limits.{imageRoom, logLimit}
+use Rattle.model.specs.Limits.{logLimit}
 use Rattle.model.specs.Base.{Bytes}
 use Rattle.model.specs.Field.{Field, encodeField, encodeFields}
 use Rattle.model.specs.Image.{logField, markField}
 use Rattle.laws.specs.StoreLaws.{LogFits}
 use Rattle.field.specs.declared.Item.{Item}
 use Rattle.field.specs.declared.Read.{Read}
-use Rattle.field.specs.declared.Read.the-variants.{Is}
 use Rattle.field.proofs.Read.{the-type}
 use Rattle.field.specs.Reading.{fieldOf, Stands}
 use Rattle.field.specs.Reading as reading
 use Rattle.field.specs.Writing.{field}
-use Rattle.field.proofs.Fields.{is-field}
-use Rattle.store.specs.declared.LogRef.{LogRef}
 use Rattle.store.specs.Stores.{logBytes}
 use Rattle.decode.specs.Reading.{Ahead, starts, Reads}
 use Rattle.decode.specs.Decoding.{ReadsLog, ReadsMark}

@@ -1,19 +1,19 @@
 -- One field of a listing: the node that it gives, or that it gives none.
 use mathlib.Core.Path.{_≡_, refl, sym, ap, _∙_}
 use mathlib.Core.Bool.{Bool, true, false}
-use mathlib.Core.List.{List, [], _∷_, _++_}
+use mathlib.Core.List.{[], _∷_}
 use mathlib.Core.Logic.{_↔_}
-use mathlib.Core.Option.{none, some}
-use Prim.Native.Nat.{ℕ, suc, _+_, _-_, _≤_, _<_}
+use mathlib.Core.Option.{none}
+use Prim.Native.Nat.{ℕ, _+_, _-_, _≤_, _<_}
 use native.Mathlib.Omega.{arith}
 use lib.ListN.{length, take, drop, getD, length-drop}
 use lib.Seq.{length-take-le, take-take, drop-drop}
 use Rattle.model.specs.Limits.{dirLimit, numberLimit, imageRoom}
 use Rattle.model.specs.Order.{lt, Name, cmpName}
 use Rattle.model.specs.Map as model
-use Rattle.model.specs.Base.{Bytes, caseOption}
+use Rattle.model.specs.Base.{Bytes}
 use Rattle.model.specs.Name.{validName}
-use Rattle.model.specs.Field.{Field, fromLittleEndian, encodeField, fieldsFrom}
+use Rattle.model.specs.Field.{fromLittleEndian}
 use Rattle.laws.specs.ListLaws.{drop-take}
 use Rattle.laws.specs.Tests.{all-at}
 use Rattle.laws.specs.FieldLaws.{Byte}
@@ -21,17 +21,16 @@ use Rattle.laws.specs.ValidNames.{valid-length}
 use Rattle.laws.specs.TreeLaws.{isDir, isFile}
 use Rattle.laws.specs.ImageLaws.{listed}
 use Rattle.field.specs.declared.Item.{Item}
-use Rattle.field.specs.Reading.{u32At, fieldOf, Stands}
+use Rattle.field.specs.Reading.{u32At, fieldOf}
 use Rattle.field.specs.Writing.{field}
 use Rattle.field.proofs.Fields.{number-there}
 use Rattle.spans.specs.declared.NameRef.{NameRef}
 use Rattle.spans.specs.Spans.{nameOf, Names}
-use Rattle.store.specs.Tables.{keyOf, nodeOf, SoundNode}
+use Rattle.store.specs.Tables.{keyOf, nodeOf}
 use Rattle.store.proofs.Lists.{all-take, all-drop}
 use Rattle.decode.specs.declared.Spot.{Spot}
-use Rattle.decode.specs.Reading.{Ahead, starts}
 use Rattle.decode.specs.Listing.{fileTag, own, filesOf, isBelow}
-use Rattle.decode.specs.Spots.{LastDir, SoundSpot, FitsAt, Follows, Breaks, AtField, InDir}
+use Rattle.decode.specs.Spots.{SoundSpot, FitsAt, Follows, Breaks, AtField, InDir}
 use Rattle.decode.proofs.Ahead.{valueOf, value-length, first}
 use Rattle.decode.proofs.Rows.{below}
 use Rattle.decode.proofs.Nodes.{numberOf, own-file}

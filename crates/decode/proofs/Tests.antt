@@ -1,15 +1,15 @@
 -- The tests that a directory's and a file's field must pass: exactly then the node fits.
 use mathlib.Core.Path.{_≡_, refl, sym, ap, _∙_}
-use mathlib.Core.Bool.{Bool, true, false, _&&_}
-use mathlib.Core.List.{List, [], _∷_, _++_}
-use Prim.Native.Nat.{ℕ, suc, _+_, _≤_, _<_}
+use mathlib.Core.Bool.{Bool, true, false}
+use mathlib.Core.List.{[], _∷_, _++_}
+use Prim.Native.Nat.{ℕ, _+_, _≤_, _<_}
 use native.Mathlib.Omega.{arith}
 use lib.ListN.{length, take, drop}
 use lib.Dec.{leb}
 use Rattle.model.specs.Limits.{dirLimit, numberLimit}
 use Rattle.model.specs.Order.{Cmp, lt, eq, gt, thenCmp, Name, Key, cmpName, cmpKey}
 use Rattle.model.specs.Map.{Node}
-use Rattle.model.specs.Base.{Bytes, ifEmpty, sameBytes}
+use Rattle.model.specs.Base.{Bytes, sameBytes}
 use Rattle.model.specs.Name.{validName}
 use Rattle.model.specs.Field.{littleEndian}
 use Rattle.model.specs.Store.{validNumber, validNode, validStaged}

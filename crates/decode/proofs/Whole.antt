@@ -1,28 +1,28 @@
 -- The four parts of an image, one behind the other.
-use mathlib.Core.Path.{_≡_, refl, sym, ap, ap₂, subst, _∙_}
+use mathlib.Core.Path.{_≡_, refl, sym, ap, subst, _∙_}
 use mathlib.Core.Bool.{Bool, true, false, _&&_, false≢true}
-use mathlib.Core.List.{List, [], _∷_, _++_, map, append-assoc, append-nil}
+use mathlib.Core.List.{[], _∷_, _++_, map, append-nil}
 use mathlib.Core.Option.{Option, none, some}
 use Prim.Native.Nat.{ℕ, _+_, _≤_, _<_}
 use native.Mathlib.Omega.{arith}
 use lib.Dec.{leb, eqb}
-use lib.ListN.{length, drop, drop-of-length-le}
+use lib.ListN.{length, drop-of-length-le}
 use borrow.Author.Tests.{eq-eqb, eqb-true}
 use Rattle.model.specs.Limits.{imageRoom}
 use Rattle.model.specs.Map.{Map}
 use Rattle.model.specs.Base.{Bytes, caseOption}
-use Rattle.model.specs.Field.{Field, encodeFields, fieldsFrom, decodeFields}
+use Rattle.model.specs.Field.{encodeFields, decodeFields}
 use Rattle.model.specs.Store as model
 use Rattle.model.specs.Store.{dirs, fileCount, wellFormed}
-use Rattle.model.specs.Image.{nodeField, stagedField, logField, markField, imageFields, encode, decode}
+use Rattle.model.specs.Image.{nodeField, stagedField, logField, markField, imageFields, decode}
 use Rattle.laws.specs.Tests.{and-both, and-made, le-leb}
-use Rattle.laws.specs.ImageLaws.{listed, Parts, parts, of-parts, regroup, encode-parts, tail, split-encode, decode-encode, decode-only}
-use Rattle.laws.specs.TreeLaws.{size, isDir, isFile, one, dir-size, file-size, length-size}
+use Rattle.laws.specs.ImageLaws.{Parts, parts, of-parts, regroup, encode-parts, tail, split-encode, decode-encode, decode-only}
+use Rattle.laws.specs.TreeLaws.{size, isFile, one, dir-size, file-size, length-size}
 use Rattle.laws.specs.StoreLaws.{LogFits, Good, good}
 use Rattle.laws.specs.ValidNames.{Valid, validNaming}
 use Rattle.laws.specs.LengthLaws.{encode-length}
-use Rattle.store.specs.Tables.{mapOf, Holds}
-use Rattle.store.specs.Stores.{storeOf, SoundStore}
+use Rattle.store.specs.Tables.{Holds}
+use Rattle.store.specs.Stores.{storeOf}
 use Rattle.store.specs.declared.Table.{Table}
 use Rattle.store.specs.declared.Store.{Store}
 use Rattle.store.proofs.Lists.{drop-zero}

@@ -1,7 +1,7 @@
 -- The two listings of an image: the directories with their files, and the staging files. One word for what differs: `staged`.
 use mathlib.Core.Path.{_≡_}
 use mathlib.Core.Bool.{Bool, true, false, _&&_, _||_}
-use mathlib.Core.List.{List, [], _∷_}
+use mathlib.Core.List.{[], _∷_}
 use Prim.Native.Nat.{ℕ, _+_, _≤_}
 use lib.Dec.{eqb}
 use Rattle.model.specs.Limits.{dirLimit, fileLimit, stagingLimit}

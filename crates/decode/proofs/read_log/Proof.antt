@@ -1,5 +1,4 @@
 -- `decode::read_log` meets its contract: no log, one that is too long, or the log.
-use mathlib.Core.Path.{sym}
 use native.Mathlib.Omega.{arith}
 use borrow.Author.Needs.{needs}
 use Rattle.laws.specs.StoreLaws.{LogFits}

@@ -1,0 +1,111 @@
+-- How many bytes the parts of an image have.
+use mathlib.Core.Path.{_≡_, sym, ap, _∙_}
+use mathlib.Core.Bool.{Bool, true, false}
+use mathlib.Core.List.{[], _++_, map}
+use Prim.Native.Nat.{ℕ, _+_, _*_, _-_, _≤_, _<_}
+use native.Mathlib.Omega.{arith}
+use lib.ListN.{length, take, drop, getD, length-append}
+use Rattle.model.specs.Map as model
+use Rattle.model.specs.Base.{Bytes}
+use Rattle.model.specs.Field.{encodeField, encodeFields}
+use Rattle.model.specs.Log.{markCommitting}
+use Rattle.laws.specs.ImageLaws.{listed}
+use Rattle.field.specs.Writing.{field}
+use Rattle.field.proofs.Written.{encoded-length}
+use Rattle.spans.specs.Spans.{nameOf, lengthOf}
+use Rattle.spans.proofs.Parts.{length-name}
+use Rattle.store.specs.declared.Node.{Node}
+use Rattle.store.specs.declared.Table.{Table}
+use Rattle.store.specs.declared.LogRef.{LogRef}
+use Rattle.store.specs.Tables.{nodeOf, mapOf, SoundNode, Sized, SoundTable}
+use Rattle.store.specs.Stores.{SoundLog}
+use Rattle.store.proofs.Lists.{drop-zero}
+use Rattle.store.proofs.Live.{rest, finished, sound-at}
+use Rattle.encode.specs.Sizes.{nodeBound, NodeSize, NodesSize, LogSize}
+use Rattle.encode.proofs.Shapes.{staged-field, dir-field, file-field, numbered-length, part-length, marked-length, log-absent, log-plain, log-marked, log-length}
+
+-- One node.
+module _ {x : Node} {n : ℕ} (e : n ≡ lengthOf (x .file)) (b : n < 2_048) where
+  name-length : {src : Bytes} → SoundNode src x → length (nameOf src (x .file)) ≡ n
+  name-length s = length-name (s .file) ∙ sym e
+
+  pub staged-size : {staged : Bool} → staged ≡ true → NodeSize staged x (7 + n)
+  staged-size w = record { bound = omega arith; same = λ src s. rw (staged-field s w) (sym (numbered-length 0x12 (x .number) (nameOf src (x .file)) ∙ ap (7 +_) (name-length s))) }
+
+  pub file-size : {staged : Bool} → staged ≡ false → (n ≡ 0 → ⊥) → NodeSize staged x (7 + n)
+  file-size w h = record {
+    bound = omega arith;
+    same = λ src s. rw (file-field s w (λ z. h (e ∙ z))) (sym (numbered-length 0x11 (x .number) (nameOf src (x .file)) ∙ ap (7 +_) (name-length s)));
+  }
+
+  pub dir-size : {staged : Bool} {m : ℕ} → staged ≡ false → n ≡ 0 → m ≡ lengthOf (x .dir) → m < 2_048 → NodeSize staged x (3 + m)
+  dir-size w h f c = record {
+    bound = omega arith;
+    same = λ src s. rw (dir-field s w (sym e ∙ h)) (sym (encoded-length (field 0x10 (nameOf src (x .dir))) ∙ ap (3 +_) (length-name (s .dir) ∙ sym f)));
+  }
+
+-- The bytes of a table's nodes: of all, of the one at i, and from i on.
+abbrev pub bytesOf : Bool → Bytes → Table → Bytes
+bytesOf staged src t = encodeFields (map (listed staged) (mapOf src t))
+
+abbrev pub bytesAt : Bool → Bytes → Table → ℕ → Node → Bytes
+bytesAt staged src t i d = encodeField (listed staged (nodeOf src (getD (t .nodes) i d)))
+
+abbrev pub bytesFrom : Bool → Bytes → Table → ℕ → Bytes
+bytesFrom staged src t i = encodeFields (map (listed staged) (drop i (mapOf src t)))
+
+module _ (staged : Bool) (src : Bytes) {t : Table} (i : ℕ) (s : Sized t) where
+  pub next-bytes : (d : Node) → i < t .len → bytesFrom staged src t i ≡ bytesAt staged src t i d ++ bytesFrom staged src t (i + 1)
+  unfolding encodeFields
+  next-bytes d h = rw (rest src s i d h)
+
+  pub next-length : (d : Node) → i < t .len → length (bytesFrom staged src t i) ≡ length (bytesAt staged src t i d) + length (bytesFrom staged src t (i + 1))
+  next-length d h = ap length (next-bytes d h) ∙ length-append (bytesAt staged src t i d) (bytesFrom staged src t (i + 1))
+
+  pub last-bytes : t .len ≤ i → bytesFrom staged src t i ≡ []
+  unfolding encodeFields
+  last-bytes h = rw (finished src i s h)
+
+-- The loop over the nodes: those before i are counted.
+pub record Counting (staged : Bool) (t : Table) (n i : ℕ) : Type 0 where
+  pub sized : Sized t
+  pub within : i ≤ t .len
+  pub bound : n ≤ i * nodeBound
+  pub same : (src : Bytes) → SoundTable src t → n + length (bytesFrom staged src t i) ≡ length (bytesOf staged src t)
+
+pub start : {staged : Bool} {t : Table} → Sized t → Counting staged t 0 0
+start {staged} {t} s = record { sized = s; within = omega arith; bound = omega arith; same = λ src h. rw (drop-zero (mapOf src t)) (omega arith) }
+
+module _ {staged : Bool} {t : Table} {n i : ℕ} (w : Counting staged t n i) where
+  pub counted : (d : Node) {k : ℕ} → i < t .len → NodeSize staged (getD (t .nodes) i d) k → Counting staged t (n + k) (i + 1)
+  counted d {k} h z = record {
+    sized = w .sized;
+    within = omega arith;
+    bound = omega (arith, w .bound, z .bound);
+    same = λ src s. omega (arith, next-length staged src i (w .sized) d h, w .same src s, z .same src (sound-at i d s h));
+  }
+
+  pub all-counted : t .len ≤ i → NodesSize staged t n
+  all-counted h = record {
+    bound = omega (arith, w .bound, w .within, w .sized .room);
+    same = λ src s. omega (arith, ap length (last-bytes staged src i (w .sized) h), w .same src s);
+  }
+
+-- The log.
+module _ {l : LogRef} where
+  pub no-log : l .stands ≡ false → LogSize l 0
+  unfolding encodeFields
+  no-log e = record { bound = omega arith; same = λ src s. rw (log-absent src l e) }
+
+  module _ {n : ℕ} (z : n ≡ l .len) (b : n < 65536) (e : l .stands ≡ true) where
+    log-part : (src : Bytes) → SoundLog src l → length (take (l .len) (drop (l .start) src)) ≡ n
+    log-part src s = part-length src (l .start) (l .len) (s .inside) ∙ sym z
+
+    pub plain-log : l .marked ≡ false → LogSize l (3 + n)
+    plain-log f = record { bound = omega arith; same = λ src s. rw (log-plain src l e f) (sym (log-length (take (l .len) (drop (l .start) src)) ∙ ap (3 +_) (log-part src s))) }
+
+    pub marked-log : {k : ℕ} → l .marked ≡ true → k ≡ n - 8 → LogSize l (11 + k)
+    marked-log {k} f h = record {
+      bound = omega arith;
+      same = λ src s. rw (log-marked src l e f) (omega (arith, log-length (markCommitting (take (l .len) (drop (l .start) src))), marked-length (take (l .len) (drop (l .start) src)), log-part src s));
+    }

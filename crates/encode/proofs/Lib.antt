@@ -1,0 +1,4 @@
+pub mod Shapes
+pub mod Counting
+pub mod Placing
+pub mod Image

@@ -1,0 +1,93 @@
+-- The fields of an image: which one a node has, and how long they are.
+use mathlib.Core.Path.{_≡_, refl, sym, ap, _∙_}
+use mathlib.Core.Bool.{Bool, true, false}
+use mathlib.Core.List.{[], _∷_, _++_, append-nil}
+use mathlib.Core.Option.{Option, none, some}
+use Prim.Native.Nat.{ℕ, _+_, _-_, _≤_}
+use native.Mathlib.Omega.{arith}
+use lib.ListN.{length, take, drop, length-append, length-drop}
+use lib.Seq.{length-take-le}
+use Rattle.model.specs.Order.{Name}
+use Rattle.model.specs.Map as model
+use Rattle.model.specs.Base.{Bytes, ifEmpty}
+use Rattle.model.specs.Field.{Field, littleEndian, encodeField, encodeFields}
+use Rattle.model.specs.Log.{header, markCommitting}
+use Rattle.model.specs.Image.{logField}
+use Rattle.laws.specs.ImageLaws.{listed}
+use Rattle.field.specs.Writing.{field}
+use Rattle.field.proofs.Written.{encoded-length}
+use Rattle.spans.specs.Spans.{nameOf, lengthOf}
+use Rattle.spans.proofs.Parts.{length-name}
+use Rattle.store.specs.declared.Node.{Node}
+use Rattle.store.specs.declared.LogRef.{LogRef}
+use Rattle.store.specs.Tables.{nodeOf, SoundNode}
+use Rattle.store.specs.Stores.{logBytes}
+
+-- The bytes of one field.
+pub one-field : (f : Field) → encodeFields (f ∷ []) ≡ encodeField f
+unfolding encodeFields
+one-field f = append-nil (encodeField f)
+
+-- The field of a node of the tree.
+pub dir-listed : (n : model.Node) → length (n .0 .1) ≡ 0 → listed false n ≡ field 0x10 (n .0 .0)
+dir-listed n e = go (n .0 .1) e
+  where
+    go : (f : Name) → length f ≡ 0 → ifEmpty f (field 0x10 (n .0 .0)) (field 0x11 (littleEndian 4 (n .1) ++ n .0 .1)) ≡ field 0x10 (n .0 .0)
+    go [] e = refl
+    go (y ∷ ys) e = absurd (omega arith)
+
+pub file-listed : (n : model.Node) → (length (n .0 .1) ≡ 0 → ⊥) → listed false n ≡ field 0x11 (littleEndian 4 (n .1) ++ n .0 .1)
+file-listed n h = go (n .0 .1) h
+  where
+    go : (f : Name) → (length f ≡ 0 → ⊥) → ifEmpty f (field 0x10 (n .0 .0)) (field 0x11 (littleEndian 4 (n .1) ++ n .0 .1)) ≡ field 0x11 (littleEndian 4 (n .1) ++ n .0 .1)
+    go [] h = absurd (h refl)
+    go (y ∷ ys) h = refl
+
+pub numbered-length : (tag x : ℕ) (f : Bytes) → length (encodeField (field tag (littleEndian 4 x ++ f))) ≡ 7 + length f
+unfolding littleEndian
+numbered-length tag x f = encoded-length (field tag (littleEndian 4 x ++ f)) ∙ omega arith
+
+-- A log, and one with the header rewritten.
+pub part-length : (src : Bytes) (start len : ℕ) → start + len ≤ length src → length (take len (drop start src)) ≡ len
+part-length src start len h =
+    let l : length (drop start src) ≡ length src - start = length-drop start src in
+    length-take-le len (drop start src) (omega arith)
+
+pub header-length : length (header 1) ≡ 8
+unfolding header littleEndian
+header-length = refl
+
+pub marked-length : (l : Bytes) → length (markCommitting l) ≡ 8 + (length l - 8)
+unfolding markCommitting
+marked-length l = omega (arith, length-append (header 1) (drop 8 l), header-length, length-drop 8 l)
+
+-- The log that a store holds: none, as it stands, or marked.
+module _ (src : Bytes) (l : LogRef) where
+  pub log-absent : l .stands ≡ false → logBytes src l ≡ none
+  unfolding logBytes
+  log-absent e = rw e
+
+  pub log-plain : l .stands ≡ true → l .marked ≡ false → logBytes src l ≡ some (take (l .len) (drop (l .start) src))
+  unfolding logBytes
+  log-plain e f = rw (e, f)
+
+  pub log-marked : l .stands ≡ true → l .marked ≡ true → logBytes src l ≡ some (markCommitting (take (l .len) (drop (l .start) src)))
+  unfolding logBytes
+  log-marked e f = rw (e, f)
+
+pub log-field : {o : Option Bytes} {v : Bytes} → o ≡ some v → encodeFields (logField o) ≡ encodeField (field 0x13 v)
+log-field {o} {v} e = rw e (one-field (field 0x13 v))
+
+pub log-length : (v : Bytes) → length (encodeFields (logField (some v))) ≡ 3 + length v
+log-length v = ap length (one-field (field 0x13 v)) ∙ encoded-length (field 0x13 v)
+
+-- The field of a node that the code holds.
+module _ {staged : Bool} {src : Bytes} {x : Node} (s : SoundNode src x) where
+  pub staged-field : staged ≡ true → listed staged (nodeOf src x) ≡ field 0x12 (littleEndian 4 (x .number) ++ nameOf src (x .file))
+  staged-field w = rw w
+
+  pub dir-field : staged ≡ false → lengthOf (x .file) ≡ 0 → listed staged (nodeOf src x) ≡ field 0x10 (nameOf src (x .dir))
+  dir-field w z = rw w (dir-listed (nodeOf src x) (length-name (s .file) ∙ z))
+
+  pub file-field : staged ≡ false → (lengthOf (x .file) ≡ 0 → ⊥) → listed staged (nodeOf src x) ≡ field 0x11 (littleEndian 4 (x .number) ++ nameOf src (x .file))
+  file-field w h = rw w (file-listed (nodeOf src x) (λ z. h (sym (length-name (s .file)) ∙ z)))

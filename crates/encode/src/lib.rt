@@ -1,0 +1,196 @@
+// A store's image, written at the front of the lent output: 01, How a store is handed over.
+ghost use mathlib.Core.Path.{_≡_};
+ghost use mathlib.Core.List.{_++_, map};
+ghost use Prim.Native.Nat.{_+_, _-_, _≤_, _<_};
+ghost use lib.ListN.{length, take, drop};
+ghost use Rattle.model.specs.Field.{littleEndian, encodeField, encodeFields};
+ghost use Rattle.model.specs.Log.{markCommitting};
+ghost use Rattle.model.specs.Image.{logField, markField, encode};
+ghost use Rattle.laws.specs.ImageLaws.{listed};
+ghost use Rattle.field.specs.Writing.{written, field};
+ghost use Rattle.spans.specs.Spans.{nameOf, Sound};
+ghost use Rattle.store.specs.Tables.{nodeOf, mapOf, SoundNode, Sized, SoundTable};
+ghost use Rattle.store.specs.Stores.{logBytes, storeOf, SoundLog, SoundStore};
+ghost use Rattle.encode.specs.Sizes.{NodeSize, NodesSize, LogSize};
+ghost use Rattle.encode.specs.Encoding.{Encodes};
+use spans::NameRef;
+use store::LogRef;
+use store::Node;
+use store::Store;
+use store::Table;
+
+fn wide(x: u16) -> usize
+    ensures { λ r. ⌜ (r ≡ x) × (r < 65536) ⌝ }
+{
+    x as usize
+}
+
+// How much of a log of `len` bytes its header is (wal.rs, `WAL_FILE_HEADER_SIZE`).
+fn header_of(len: usize) -> usize
+    ensures { λ r. ⌜ (r ≤ 8) × ((r ≤ len) × (len - r ≡ len - 8)) ⌝ }
+{
+    if len < 8 { len } else { 8 }
+}
+
+// How many bytes the field of a node has.
+fn node_size(x: Node, staged: bool) -> usize
+    ensures { λ r. ⌜ NodeSize staged x r ⌝ }
+{
+    let file = x.file;
+    let n = spans::length_of(file);
+    if staged {
+        return 7 + n;
+    }
+    if n == 0 {
+        let dir = x.dir;
+        return 3 + spans::length_of(dir);
+    }
+    7 + n
+}
+
+// How many bytes the directories with their files, or the staging files, have.
+fn nodes_size(t: Table, staged: bool) -> usize
+    requires { ⌜ Sized t ⌝ }
+    ensures { λ r. ⌜ NodesSize staged t r ⌝ }
+{
+    let n = t.len;
+    let mut size: usize = 0;
+    let mut i: usize = 0;
+    while i < n {
+        let x = t.nodes[i];
+        size += node_size(x, staged);
+        i += 1;
+    }
+    size
+}
+
+fn log_size(l: LogRef) -> usize
+    ensures { λ r. ⌜ LogSize l r ⌝ }
+{
+    if !l.stands {
+        return 0;
+    }
+    let n = wide(l.len);
+    if l.marked {
+        return 11 + (n - header_of(n));
+    }
+    3 + n
+}
+
+fn mark_size(mark: bool) -> usize
+    ensures { λ r. ⌜ (r ≤ 3) × (r ≡ length (encodeFields (markField mark))) ⌝ }
+{
+    if mark { 3 } else { 0 }
+}
+
+// "0x11 (number, name)" and "0x12 (number, name)".
+fn put_numbered(src: &[u8], name: NameRef, number: u32, out: &mut [u8], at: usize, tag: u8)
+    requires { ⌜ Sound (now src) name ⌝ }
+    ensures { λ _. ⌜ now (out .exit) ≡ written at (encodeField (field tag (littleEndian 4 number ++ nameOf (now (src .entry)) name))) (now (out .entry)) ⌝ }
+{
+    let n = spans::length_of(name);
+    if 7 + n <= field::left(out.len(), at) {
+        field::put_field_head(out, at, tag, (4 + n) as u16);
+        field::put_u32(out, at + 3, number);
+        names::put_name(src, name, out, at + 7);
+    }
+}
+
+// "for each directory […] 0x10 (name), followed by its files […], 0x11 (number, name); staging files […], 0x12 (number, name)"
+fn put_node(src: &[u8], x: Node, staged: bool, out: &mut [u8], at: usize)
+    requires { ⌜ SoundNode (now src) x ⌝ }
+    ensures { λ _. ⌜ now (out .exit) ≡ written at (encodeField (listed staged (nodeOf (now (src .entry)) x))) (now (out .entry)) ⌝ }
+{
+    let file = x.file;
+    if staged {
+        put_numbered(src, file, x.number, out, at, 0x12);
+        return;
+    }
+    if spans::length_of(file) == 0 {
+        let dir = x.dir;
+        names::put_name_field(src, dir, out, at, 0x10);
+        return;
+    }
+    put_numbered(src, file, x.number, out, at, 0x11);
+}
+
+// The directories with their files, or the staging files.
+fn put_nodes(src: &[u8], t: Table, staged: bool, out: &mut [u8], at: usize)
+    requires { ⌜ SoundTable (now src) t × (at + length (encodeFields (map (listed staged) (mapOf (now src) t))) ≤ length (now out)) ⌝ }
+    ensures { λ _. ⌜ now (out .exit) ≡ written at (encodeFields (map (listed staged) (mapOf (now (src .entry)) t))) (now (out .entry)) ⌝ }
+{
+    let n = t.len;
+    let mut p = at;
+    let mut i: usize = 0;
+    while i < n {
+        let x = t.nodes[i];
+        put_node(src, x, staged, out, p);
+        p += node_size(x, staged);
+        i += 1;
+    }
+}
+
+// A log whose header was rewritten with Committing.
+fn put_marked(src: &[u8], start: usize, len: usize, out: &mut [u8], at: usize)
+    requires { ⌜ (start + len ≤ length (now src)) × (len < 65536) ⌝ }
+    ensures { λ _. ⌜ now (out .exit) ≡ written at (encodeField (field 0x13 (markCommitting (take len (drop start (now (src .entry))))))) (now (out .entry)) ⌝ }
+{
+    let h = header_of(len);
+    let n = len - h;
+    let rest = start + h;
+    let end = start + len;
+    if 11 + n <= field::left(out.len(), at) {
+        field::put_field_head(out, at, 0x13, (8 + n) as u16);
+        wal::mark_committing(out, at + 3);
+        field::put_bytes(out, at + 11, &src[rest..end]);
+    }
+}
+
+// "the log, 0x13, absent if there is none"
+fn put_log(src: &[u8], l: LogRef, out: &mut [u8], at: usize)
+    requires { ⌜ SoundLog (now src) l ⌝ }
+    ensures { λ _. ⌜ now (out .exit) ≡ written at (encodeFields (logField (logBytes (now (src .entry)) l))) (now (out .entry)) ⌝ }
+{
+    if !l.stands {
+        return;
+    }
+    let start = wide(l.start);
+    let len = wide(l.len);
+    if l.marked {
+        put_marked(src, start, len, out, at);
+        return;
+    }
+    let end = start + len;
+    field::write_field(out, at, 0x13, &src[start..end]);
+}
+
+// "0x14 of length 0 if a transaction is open"
+fn put_mark(mark: bool, out: &mut [u8], at: usize)
+    ensures { λ _. ⌜ now (out .exit) ≡ written at (encodeFields (markField mark)) (now (out .entry)) ⌝ }
+{
+    if mark {
+        field::put_field_head(out, at, 0x14, 0);
+    }
+}
+
+// "A store image is, in this order": written whole, or not at all where it has no room. The answer is how many bytes were written.
+pub fn encode(src: &[u8], s: Store, out: &mut [u8]) -> usize
+    requires { ⌜ SoundStore (now src) s ⌝ }
+    ensures { λ r. ⌜ Encodes (encode (storeOf (now (src .entry)) s)) (now (out .entry)) (now (out .exit)) r ⌝ }
+{
+    let tree = s.tree;
+    let staging = s.staging;
+    let log = s.log;
+    let a = nodes_size(tree, false);
+    let b = a + nodes_size(staging, true);
+    let c = b + log_size(log);
+    let n = c + mark_size(s.open_mark);
+    if out.len() < n {
+        return 0;
+    }
+    put_nodes(src, tree, false, out, 0);
+    put_nodes(src, staging, true, out, a);
+    put_log(src, log, out, b);
+    put_mark(s.open_mark, out, c);
+    n
+}

@@ -195,7 +195,7 @@ sorted-drop d (n ∷ r) s = go (sorted-drop d r (s .1)) (cmpName d (n .0 .0))
     go ih eq = ih
     go ih gt = (λ j x h. s .0 j x (look-drop-some d j r x h), ih)
 
-size-drop-le : (w : Key → ℕ) (d : Name) (m : Map) → size w (removeDir d m) ≤ size w m
+pub size-drop-le : (w : Key → ℕ) (d : Name) (m : Map) → size w (removeDir d m) ≤ size w m
 unfolding removeDir
 size-drop-le w d [] = omega arith
 size-drop-le w d (n ∷ r) = go (size-drop-le w d r) (cmpName d (n .0 .0))
@@ -257,6 +257,36 @@ pub log-marked : (l : Option Bytes) → LogFits l → LogFits (marked l)
 unfolding markCommitting header littleEndian
 log-marked none h = tt
 log-marked (some l) h = let p = length-drop 8 l in omega arith
+
+-- A directory renamed: no node more, whatever the two names. The weights of a file and of a directory go by the file name alone.
+module _ (w : Key → ℕ) (alike : (c d f : Name) → w (c, f) ≡ w (d, f)) (a b : Name) where
+  pub size-rename-le : (r t : Map) → Sorted r → ((f : Name) → Has (a, f) r → Has (a, f) t) → size w (renameDir a b r t) ≤ size w t
+  unfolding renameDir
+  size-rename-le [] t s h = omega arith
+  size-rename-le (n ∷ r) t s h = go (cmpName a (n .0 .0)) refl (λ u k. size-rename-le r u (s .1) k)
+    where
+      other : (f : Name) → Has (a, f) r → (a, f) ≡ n .0 → ⊥
+      other f z e = lt≢eq (sym (s .0 (a, f) (z .0) (z .1)) ∙ rw e (keyLaws .reflexive (n .0)))
+
+      up : (f : Name) → Has (a, f) r → Has (a, f) t
+      up f z = h f (z .0, look-tail (a, f) n r (other f z) ∙ z .1)
+
+      go : (c : Cmp) → cmpName a (n .0 .0) ≡ c → ((u : Map) → ((f : Name) → Has (a, f) r → Has (a, f) u) → size w (renameDir a b r u) ≤ size w u)
+          → size w (renameDir a b r (caseCmp c t (put (b, n .0 .1) (n .1) (del (n .0) t)) t)) ≤ size w t
+      go lt e ih = ih t up
+      go gt e ih = ih t up
+      go eq e ih =
+          let d : a ≡ n .0 .0 = nameLaws .equal a (n .0 .0) e in
+          let k : _≡_ {A = Key} (a, n .0 .1) (n .0) = λ i. (d i, n .0 .1) in
+          let x : Has (n .0) t = rw k at (h (n .0 .1) (n .1, rw k (look-head n r))) in
+          let p = size-put-le w (b, n .0 .1) (n .1) (del (n .0) t) in
+          let q = size-del-has w (n .0) t x in
+          let o : w (b, n .0 .1) ≡ w (n .0) = alike b (n .0 .0) (n .0 .1) in
+          let z = ih (put (b, n .0 .1) (n .1) (del (n .0) t)) (λ f z. let g = up f z in (
+            g .0,
+            look-put-other (b, n .0 .1) (a, f) (n .1) (del (n .0) t) (λ y. other f z (λ i. (d i, y i .1))) ∙ look-del-other (n .0) (a, f) t (other f z) ∙ g .1,
+          )) in
+          omega arith
 
 -- A directory renamed: its files stand under the new name, over those that stood there.
 module _ (a b : Name) (apart : a ≡ b → ⊥) where
@@ -329,41 +359,12 @@ module _ (a b : Name) (apart : a ≡ b → ⊥) where
       go (inl k) = rw (k .1) s
       go (inr k) = rw (k .1) (sorted-put (b, n .0 .1) (n .1) (del (n .0) t) (sorted-del (n .0) t s))
 
-  -- The weights of a file and of a directory go by the name alone.
-  size-move-le : (w : Key → ℕ) → ((c d f : Name) → w (c, f) ≡ w (d, f)) → (r t : Map) → Sorted r → ((f : Name) → Has (a, f) r → Has (a, f) t) → size w (renameDir a b r t) ≤ size w t
-  unfolding renameDir moved
-  size-move-le w v [] t s h = omega arith
-  size-move-le w v (n ∷ r) t s h = go (λ k. size-move-le w v r (moved n t) (s .1) k) (moved-as n t)
-    where
-      low : (f : Name) (z : Has (a, f) r) → (a, f) ≡ n .0 → ⊥
-      low f z e = lt≢eq (sym (s .0 (a, f) (z .0) (z .1)) ∙ rw e (keyLaws .reflexive (n .0)))
-
-      up : (f : Name) → Has (a, f) r → Has (a, f) t
-      up f z = h f (z .0, look-tail (a, f) n r (low f z) ∙ z .1)
-
-      go : (((f : Name) → Has (a, f) r → Has (a, f) (moved n t)) → size w (renameDir a b r (moved n t)) ≤ size w (moved n t)) →
-          ((a ≡ n .0 .0 → ⊥) × (moved n t ≡ t)) ⊎ ((a ≡ n .0 .0) × (moved n t ≡ put (b, n .0 .1) (n .1) (del (n .0) t))) → size w (renameDir a b r (moved n t)) ≤ size w t
-      go ih (inl k) =
-          let z = ih (λ f z. let g = up f z in (g .0, ap (look (a, f)) (k .1) ∙ g .1)) in
-          let y : size w (moved n t) ≡ size w t = ap (size w) (k .1) in
-          omega arith
-      go ih (inr k) =
-          let m : Map = put (b, n .0 .1) (n .1) (del (n .0) t) in
-          let e : _≡_ {A = Key} (a, n .0 .1) (n .0) = λ i. (k .0 i, n .0 .1) in
-          let x : Has (n .0) t = rw e at (h (n .0 .1) (n .1, rw e (look-head n r))) in
-          let p = size-put-le w (b, n .0 .1) (n .1) (del (n .0) t) in
-          let q = size-del-has w (n .0) t x in
-          let o : w (b, n .0 .1) ≡ w (n .0) = v b (n .0 .0) (n .0 .1) in
-          let y : size w (moved n t) ≤ size w t = rw (k .1) (omega arith) in
-          let z = ih (λ f z. let g = up f z in (g .0, ap (look (a, f)) (k .1) ∙ look-put-other (b, n .0 .1) (a, f) (n .1) (del (n .0) t) (λ i. apart (first i)) ∙ look-del-other (n .0) (a, f) t (low f z) ∙ g .1)) in
-          omega arith
-
   pub tree-move : {N : Name → Type 0} (t : Map) → Tree N t → N b → Tree N (renameDir a b t t)
   tree-move {N} t g v = record {
     sorted = sorted-move t t (g .sorted);
     node = λ c f x l. at c f x l (name-dec c a) (name-dec c b);
-    dirsFit = let p = size-move-le isDir (λ c d f. refl) t t (g .sorted) (λ f h. h) in let q = g .dirsFit in omega arith;
-    filesFit = let p = size-move-le isFile (λ c d f. refl) t t (g .sorted) (λ f h. h) in let q = g .filesFit in omega arith;
+    dirsFit = let p = size-rename-le isDir (λ c d f. refl) a b t t (g .sorted) (λ f h. h) in let q = g .dirsFit in omega arith;
+    filesFit = let p = size-rename-le isFile (λ c d f. refl) a b t t (g .sorted) (λ f h. h) in let q = g .filesFit in omega arith;
   }
     where
       u : Map

@@ -21,7 +21,7 @@ pub data Outcome : Type 0 where
   refuse : ℕ → Outcome
   give : Store → Outcome
 
--- The operations of "an untruncated, decodable Recording log of at most 32 operations".
+-- 01, Sixteen numbers, 4: the operations of an "untruncated, decodable Recording log of at most 32 operations".
 abbrev pub recordedOps : Journal → Option (List Op)
 recordedOps absent = none
 recordedOps (recording o whole) = some o

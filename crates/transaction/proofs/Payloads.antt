@@ -14,7 +14,7 @@ use denote.Enum.Declared.{tagOf}
 use Rattle.model.specs.Base.{Bytes, caseOption, if_then_else_, sameBytes, allOf}
 use Rattle.model.specs.Field.{Field, fieldsFrom, decodeFields}
 use Rattle.model.specs.Operation.{fieldTags, makers, validValue, opOfFields, decodePayload}
-use Rattle.laws.specs.Tests.{All}
+use Rattle.laws.specs.Tests.{and-both, All}
 use Rattle.spans.specs.Spans.{backups, nameOf, Sound}
 use Rattle.spans.specs.declared.NameRef.{NameRef}
 use Rattle.field.specs.Reading.{fieldOf, Reads, Stands}
@@ -22,7 +22,7 @@ use Rattle.field.proofs.Fields.{no-field}
 use Rattle.field.specs.declared.Item.{Item}
 use Rattle.field.specs.declared.Read.{Read}
 use Rattle.field.proofs.Read.{the-type}
-use Rattle.transaction.specs.Operations.{inBounds, part, decodedAt, Decodes}
+use Rattle.transaction.specs.Operations.{Bounds, inBounds, part, decodedAt, Decodes}
 use Rattle.transaction.specs.Rows.{matchRow, SoundParts, Matches, made, Makes}
 use Rattle.transaction.specs.declared.Decoded.{Decoded}
 use Rattle.transaction.specs.declared.Decoded.the-variants.{Undecodable}
@@ -93,36 +93,42 @@ module _ (e : ℕ) (src : Bytes) (k : e ≤ length src) where
   pub wide-parts : {l : List NameRef} → SoundParts (take e src) l → SoundParts src l
   wide-parts {l} h = record { size = h .size; sound = wide-sounds l (h .sound) }
 
--- Out of bounds.
+-- The tests of `in_bounds`, and what it says.
 module _ (src : Bytes) (start end : ℕ) where
-  pub end-first : end < start → inBounds src start end ≡ false
+  pub end-first : end < start → false ≡ inBounds src start end
   unfolding inBounds
   end-first h = rw (lt-leb start end h)
 
-  pub past-end : length src < end → inBounds src start end ≡ false
+  pub past-end : length src < end → false ≡ inBounds src start end
   unfolding inBounds
   past-end h = rw (lt-leb end (length src) h, and-right (leb start end))
 
-  pub too-long : 0xFFFF < length src → inBounds src start end ≡ false
+  pub last-test : start ≤ end → end ≤ length src → leb (length src) 0xFFFF ≡ inBounds src start end
   unfolding inBounds
-  too-long h = rw (lt-leb (length src) 0xFFFF h, and-right (leb start end && leb end (length src)))
+  last-test a b = rw (le-leb start end a, le-leb end (length src) b)
+
+  pub bounds : inBounds src start end ≡ true → Bounds src start end
+  unfolding inBounds
+  bounds h =
+      let p = and-both (leb start end && leb end (length src)) (leb (length src) 0xFFFF) h in
+      let q = and-both (leb start end) (leb end (length src)) (p .0) in
+      record { ordered = leb-true start end (q .0); within = leb-true end (length src) (q .1); short = leb-true (length src) 0xFFFF (p .1) }
+
+pub in-bounds : {src : Bytes} {start end : ℕ} → Bounds src start end → inBounds src start end ≡ true
+in-bounds {src} {start} {end} b = sym (last-test src start end (b .ordered) (b .within)) ∙ le-leb (length src) 0xFFFF (b .short)
 
 pub nowhere : {src : Bytes} {start end : ℕ} → inBounds src start end ≡ false → Decodes src start end Undecodable
 unfolding decodedAt
 nowhere h = record { sound = tt; same = rw h }
 
 -- In bounds: what is left to be shown is what the payload decodes to.
-pub in-bounds : (src : Bytes) (start end : ℕ) → start ≤ end → end ≤ length src → length src ≤ 0xFFFF → inBounds src start end ≡ true
-unfolding inBounds
-in-bounds src start end a b c = rw (le-leb start end a, le-leb end (length src) b, le-leb (length src) 0xFFFF c)
-
-module _ (src : Bytes) (start end : ℕ) (a : start ≤ end) (b : end ≤ length src) (c : length src ≤ 0xFFFF) where
+module _ {src : Bytes} {start end : ℕ} (b : Bounds src start end) where
   pub decoded-there : decodedAt src start end ≡ decodePayload (part src start end)
   unfolding decodedAt
-  decoded-there = rw (in-bounds src start end a b c)
+  decoded-there = rw (in-bounds b)
 
   there : decodedAt src start end ≡ decodePayload (drop start (take end src))
-  there = decoded-there ∙ ap decodePayload (part-drop start end src a)
+  there = decoded-there ∙ ap decodePayload (part-drop start end src (b .ordered))
 
   pub undecodable : decodePayload (drop start (take end src)) ≡ none → Decodes src start end Undecodable
   undecodable h = record { sound = tt; same = sym (there ∙ h) }
@@ -137,5 +143,5 @@ module _ (src : Bytes) (start end : ℕ) (a : start ≤ end) (b : end ≤ length
     pub fits : {d : Decoded} → v .fit ≡ true → Makes src k (v .parts) d → Decodes src start end d
     fits f d = record {
       sound = d .sound;
-      same = d .same ∙ sym (there ∙ found ∙ rw f (made-row (take end src) k (v .parts) (m .parts .size) ∙ ap (made k) (wide-names end src b (v .parts) (m .parts .sound))));
+      same = d .same ∙ sym (there ∙ found ∙ rw f (made-row (take end src) k (v .parts) (m .parts .size) ∙ ap (made k) (wide-names end src (b .within) (v .parts) (m .parts .sound))));
     }

@@ -41,6 +41,11 @@ SoundDecoded src (Is o) = SoundOp src o
 SoundDecoded src Undecodable = Unit {0}
 
 -- A part of the bytes that spans can point into: their starts are numbers of two bytes.
+pub record Bounds (src : Bytes) (start end : ℕ) : Type 0 where
+  pub ordered : start ≤ end
+  pub within : end ≤ length src
+  pub short : length src ≤ 0xFFFF
+
 unfoldable pub inBounds : Bytes → ℕ → ℕ → Bool
 inBounds src start end = leb start end && leb end (length src) && leb (length src) 0xFFFF
 

@@ -11,17 +11,18 @@ use lib.ListN.{length, replicate, take, drop, set, length-drop, length-set, drop
 use lib.Seq.{drop-cons, drop-drop, take-take, length-take-le, take-suc-set}
 use Rattle.model.specs.Base.{Bytes, caseOption}
 use Rattle.model.specs.Operation.{Op, decodePayload}
-use Rattle.model.specs.Log.{Entries, stop, after, firstPayload, walk, entries}
+use Rattle.model.specs.Log.{Entries, stop, after, firstPayload, walk, entries, readJournal}
 use Rattle.model.specs.Log as model
 use Rattle.laws.specs.Tests.{All}
-use Rattle.transaction.specs.Operations.{opOf, SoundOp, decodedOf, inBounds, part, Decodes}
+use Rattle.transaction.specs.Operations.{opOf, SoundOp, decodedOf, Bounds, inBounds, part, Decodes}
 use Rattle.transaction.specs.declared.Operation.{Operation}
 use Rattle.transaction.specs.declared.Operation.the-variants.{DeleteAll}
 use Rattle.transaction.specs.declared.Decoded.{Decoded}
 use Rattle.transaction.specs.declared.Decoded.the-variants.{Is, Undecodable}
 use Rattle.transaction.proofs.Lists.{map-append, all-set}
 use Rattle.transaction.proofs.Payloads.{part-drop, in-bounds, decoded-there}
-use Rattle.wal.specs.Logs.{EntryAt, endingOf, loggedOf, SoundLogged, entriesAt, ReadsLog, WalksLog}
+use Rattle.wal.specs.Logs.{journalOf, EntryAt, endingOf, loggedOf, entriesOf, SoundLogged, entriesAt, ReadsLog, WalksLog}
+use Rattle.wal.specs.declared.Status.{Status}
 use Rattle.wal.specs.declared.Entry.{Entry}
 use Rattle.wal.specs.declared.Entry.the-variants as entry
 use Rattle.wal.specs.declared.Ending.{Ending}
@@ -138,7 +139,7 @@ module _ {src : Bytes} {first end : ℕ} {ops : List Logged} {at n : ℕ} (w : W
         here = sym (found .same) ∙ ap some (narrow from to end src ordered last)
 
         decoded : decodedOf src d ≡ decodePayload (part src from to)
-        decoded = q .same ∙ decoded-there src from to ordered (omega (arith, last)) c
+        decoded = q .same ∙ decoded-there (record { ordered = ordered; within = omega (arith, last); short = c })
 
         pub at-undecodable : {r : WalRead} → d ≡ Undecodable → (r .ops ≡ ops) × ((r .len ≡ n) × (r .ending ≡ code.Undecodable)) → WalksLog src first end r
         at-undecodable u f =
@@ -169,18 +170,22 @@ no-log {src} {r = r} h (a, (b, c)) z s =
       same = rw h (rw (b, c));
     }
 
-pub entries-there : (src : Bytes) (start end : ℕ) → start ≤ end → end ≤ length src → length src ≤ 0xFFFF → entriesAt src start end ≡ entries (part src start end)
+pub entries-there : {src : Bytes} {start end : ℕ} → Bounds src start end → entriesAt src start end ≡ entries (part src start end)
 unfolding entriesAt
-entries-there src start end a b c = rw (in-bounds src start end a b c)
+entries-there b = rw (in-bounds b)
 
-pub behind-header : {src : Bytes} {start end at : ℕ} {r : WalRead} → start ≤ end → end ≤ length src → length src ≤ 0xFFFF → (at ≡ start + 8) ⊎ ((at ≡ end) × (end ≤ start + 8)) → WalksLog src at end r → ReadsLog src start end r
+pub behind-header : {src : Bytes} {start end at : ℕ} {r : WalRead} → Bounds src start end → (at ≡ start + 8) ⊎ ((at ≡ end) × (end ≤ start + 8)) → WalksLog src at end r → ReadsLog src start end r
 unfolding entries
-behind-header {src} {start} {end} {at} a b c f w =
-    let d : drop 8 (part src start end) ≡ drop (start + 8) (take end src) = ap (drop 8) (part-drop start end src a) ∙ drop-drop 8 start (take end src) in
-    record { held = w .held; same = w .same ∙ sym (entries-there src start end a b c ∙ ap (walk 32 0) (d ∙ sym (go f))) }
+behind-header {src} {start} {end} {at} b f w =
+    let d : drop 8 (part src start end) ≡ drop (start + 8) (take end src) = ap (drop 8) (part-drop start end src (b .ordered)) ∙ drop-drop 8 start (take end src) in
+    record { held = w .held; same = w .same ∙ sym (entries-there b ∙ ap (walk 32 0) (d ∙ sym (go f))) }
   where
     go : (at ≡ start + 8) ⊎ ((at ≡ end) × (end ≤ start + 8)) → drop at (take end src) ≡ drop (start + 8) (take end src)
     go (inl e) = ap (λ (n : ℕ). drop n (take end src)) e
     go (inr (e, h)) =
-        let l : length (take end src) ≡ end = length-take-le end src b in
+        let l : length (take end src) ≡ end = length-take-le end src (b .within) in
         drop-of-length-le (take end src) {i = at} (omega arith) ∙ sym (drop-of-length-le (take end src) {i = start + 8} (omega arith))
+
+-- For callers: the status and the entries that were read are the model's journal.
+pub journal-read : {src : Bytes} {start end : ℕ} (s : Status) {r : WalRead} → Bounds src start end → journalOf s (entries (part src start end)) ≡ readJournal (part src start end) → ReadsLog src start end r → journalOf s (entriesOf src r) ≡ readJournal (part src start end)
+journal-read s b o w = ap (journalOf s) (w .same ∙ entries-there b) ∙ o

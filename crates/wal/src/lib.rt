@@ -1,27 +1,25 @@
 // The log: wal.rs. 01, How a store is handed over: the header and the entries; Corners, wal.rs.
 ghost use mathlib.Core.Path.{_≡_};
-ghost use Prim.Native.Nat.{_≤_};
-ghost use lib.ListN.{length};
 ghost use Rattle.model.specs.Operation.{encodePayload};
 ghost use Rattle.model.specs.Log.{header, entry, entries, readJournal};
 ghost use Rattle.field.specs.Writing.{written};
-ghost use Rattle.transaction.specs.Operations.{opOf, SoundOp, Writes};
+ghost use Rattle.transaction.specs.Operations.{opOf, SoundOp, Bounds, Writes};
 ghost use Rattle.wal.specs.Logs.{journalOf, payloadAt, EntryAt, ReadsLog, WalksLog};
 use spans::NameRef;
 use transaction::Decoded;
 use transaction::Operation;
 
-// "0xCA" and "0x01 Committing" of the header.
+// 01, How a store is handed over: "The log header: 0xCA, status (0x00 Recording, 0x01 Committing), two zero bytes, CRC-32 of the first two".
 const WAL_MAGIC: u8 = 0xCA;
 
 const STATUS_COMMITTING: u8 = 0x01;
 
-// Header and entry head have eight bytes each.
+// The bytes of a header, and those of an entry before its payload.
 const WAL_FILE_HEADER_SIZE: usize = 8;
 
 const ENTRY_HEADER_SIZE: usize = 8;
 
-// A log's status; one without a valid header is as if absent.
+// A log's status (`WalStatus`); one without a valid header is as if absent.
 pub enum Status {
     Absent,
     Recording,
@@ -47,7 +45,7 @@ pub struct Logged {
     pub op: Operation,
 }
 
-// The operations of a log, those before `len`, and how the walk ended.
+// The operations of a log, those before `len`, and how the walk ended (`WalReadResult`).
 pub struct WalRead {
     pub ops: [Logged; 32],
     pub len: usize,
@@ -64,7 +62,7 @@ const NO_OPERATION: Logged = Logged {
     op: Operation::DeleteAll(NO_NAME),
 };
 
-// The log's header: magic, status, two zero bytes, and the checksum of the first two.
+// The log's header with a status.
 pub fn encode_header(status: u8) -> [u8; 8]
     ensures { λ r. ⌜ r ≡ header status ⌝ }
 {
@@ -82,7 +80,7 @@ pub fn mark_committing(out: &mut [u8], at: usize)
     field::put_bytes(out, at, &h);
 }
 
-// The status of a log.
+// The status of a log. 01, Corners, wal.rs: what is as if absent.
 pub fn open_wal(log: &[u8]) -> Status
     ensures { λ r. ⌜ journalOf r (entries (now (log .entry))) ≡ readJournal (now (log .entry)) ⌝ }
 {
@@ -103,7 +101,7 @@ pub fn open_wal(log: &[u8]) -> Status
     }
 }
 
-// An entry's payload: the part of the lent log between its bounds; an empty one where these do not hold.
+// An entry's payload, handed out as that part of the lent log; an empty part where the bounds do not hold.
 pub fn payload(log: &[u8], start: usize, end: usize) -> &[u8]
     ensures { λ r. ⌜ now r ≡ payloadAt (now (log .entry)) start end ⌝ }
 {
@@ -116,7 +114,7 @@ pub fn payload(log: &[u8], start: usize, end: usize) -> &[u8]
     &log[start..end]
 }
 
-// The entry that stands at `at`. Truncated are: fewer than eight bytes, payload length 0, payload past the end, wrong checksum.
+// The entry that stands at `at`. 01, Corners, wal.rs: what is truncated.
 pub fn entry_at(log: &[u8], at: usize) -> Entry
     ensures { λ r. ⌜ EntryAt (now (log .entry)) at r ⌝ }
 {
@@ -138,6 +136,48 @@ pub fn entry_at(log: &[u8], at: usize) -> Entry
     Entry::Payload(start, end)
 }
 
+// The log walker: it borrows the log and remembers its next entry. 01, Forms that change shape: "The loop of `read_wal`".
+pub struct Walker<'a> {
+    pub log: &'a [u8],
+    pub at: usize,
+}
+
+impl<'a> Walker<'a> {
+    // A walker behind the header.
+    pub fn new(log: &'a [u8]) -> Walker<'a>
+        ensures { λ w. ⌜ (w .log ≡ log .entry) × (w .at ≡ 8) ⌝ }
+    {
+        Walker {
+            log,
+            at: WAL_FILE_HEADER_SIZE,
+        }
+    }
+
+    // The walker's next entry.
+    pub fn next(self) -> Entry
+        ensures { λ e. ⌜ EntryAt (now (self .entry .log)) (self .entry .at) e ⌝ }
+    {
+        entry_at(self.log, self.at)
+    }
+
+    // The walker behind the payload that ends at `end`.
+    pub fn advance(self, end: usize) -> Walker<'a>
+        ensures { λ w. ⌜ (w .log ≡ self .entry .log) × (w .at ≡ end) ⌝ }
+    {
+        Walker {
+            log: self.log,
+            at: end,
+        }
+    }
+}
+
+// The entry that a walker at `at` comes to.
+pub fn entry_from(log: &[u8], at: usize) -> Entry
+    ensures { λ e. ⌜ EntryAt (now (log .entry)) at e ⌝ }
+{
+    Walker::new(log).advance(at).next()
+}
+
 // The answer of a walk.
 fn ended(ops: [Logged; 32], len: usize, ending: Ending) -> WalRead
     ensures { λ r. ⌜ (r .ops ≡ ops) × ((r .len ≡ len) × (r .ending ≡ ending)) ⌝ }
@@ -149,9 +189,9 @@ fn ended(ops: [Logged; 32], len: usize, ending: Ending) -> WalRead
     }
 }
 
-// The entries from `first` on, up to `end`: at most 32 operations. An undecodable payload ends the walk at once.
+// The entries from `first` on, up to `end`: at most 32 operations. 01: "an entry that does not decode ends the walk at once".
 fn walk_entries(src: &[u8], first: usize, end: usize) -> WalRead
-    requires { ⌜ (first ≤ end) × ((end ≤ length (now src)) × (length (now src) ≤ 0xFFFF)) ⌝ }
+    requires { ⌜ Bounds (now src) first end ⌝ }
     ensures { λ r. ⌜ WalksLog (now (src .entry)) first end r ⌝ }
 {
     let mut ops = [NO_OPERATION; 32];
@@ -162,7 +202,7 @@ fn walk_entries(src: &[u8], first: usize, end: usize) -> WalRead
         if end <= at {
             return ended(ops, n, Ending::Whole);
         }
-        let Entry::Payload(from, to) = entry_at(log, at) else {
+        let Entry::Payload(from, to) = entry_from(log, at) else {
             return ended(ops, n, Ending::Truncated);
         };
         let Decoded::Is(op) = transaction::decode_operation(src, from, to) else {
@@ -178,17 +218,11 @@ fn walk_entries(src: &[u8], first: usize, end: usize) -> WalRead
     ended(ops, n, Ending::Whole)
 }
 
-// The operations of the log between two places. A valid header alone: no operations, whole.
+// The operations of the log between two places of the bytes, in which their names lie.
 pub fn read_wal(src: &[u8], start: usize, end: usize) -> WalRead
     ensures { λ r. ⌜ ReadsLog (now (src .entry)) start end r ⌝ }
 {
-    if end < start {
-        return ended([NO_OPERATION; 32], 0, Ending::Undecodable);
-    }
-    if src.len() < end {
-        return ended([NO_OPERATION; 32], 0, Ending::Undecodable);
-    }
-    if 0xFFFF < src.len() {
+    if !transaction::in_bounds(src, start, end) {
         return ended([NO_OPERATION; 32], 0, Ending::Undecodable);
     }
     if end - start < WAL_FILE_HEADER_SIZE {

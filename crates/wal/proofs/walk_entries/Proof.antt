@@ -26,8 +26,8 @@ ended-requires c κs = search needs
 returns : tie.Need-returns Inv-loop μ-loop
 returns c = at-end (c .before .before .before .loop .inv) (omega arith) (omega arith) (c .ended .ensures)
 
-entry-at-requires : tie.Need-entry-at-requires Inv-loop μ-loop
-entry-at-requires c κs = search needs
+entry-from-requires : tie.Need-entry-from-requires Inv-loop μ-loop
+entry-from-requires c κs = search needs
 
 enum-known-from : tie.Need-enum-known-from Inv-loop μ-loop
 enum-known-from c = search needs
@@ -39,7 +39,7 @@ ended-requires-2 : tie.Need-ended-requires-2 Inv-loop μ-loop
 ended-requires-2 c κs = search needs
 
 returns-2 : tie.Need-returns-2 Inv-loop μ-loop
-returns-2 c = at-truncated (c .before .before .before .before .before .before .loop .inv) (omega arith) (omega arith) (omega arith) (c .before .before .before .entry-at .ensures) (c .before .enum-told .given .1) (c .ended2 .ensures)
+returns-2 c = at-truncated (c .before .before .before .before .before .before .loop .inv) (omega arith) (omega arith) (omega arith) (c .before .before .before .entry-from .ensures) (c .before .enum-told .given .1) (c .ended2 .ensures)
 
 decode-operation-requires : tie.Need-decode-operation-requires Inv-loop μ-loop
 decode-operation-requires c κs = search needs
@@ -54,7 +54,7 @@ ended-requires-3 : tie.Need-ended-requires-3 Inv-loop μ-loop
 ended-requires-3 c κs = search needs
 
 returns-3 : tie.Need-returns-3 Inv-loop μ-loop
-returns-3 c = at-undecodable (c .before .before .before .before .before .before .before .before .before .before .loop .inv) (omega arith) (omega arith) (omega arith) (omega arith) (c .before .before .before .before .before .before .before .entry-at .ensures) (c .before .before .before .before .before .from .given .1) (c .before .before .before .decode-operation .ensures) (c .before .enum-told2 .given .1) (c .ended3 .ensures)
+returns-3 c = at-undecodable (c .before .before .before .before .before .before .before .before .before .before .loop .inv) (omega arith) (omega arith) (omega arith) (omega arith) (c .before .before .before .before .before .before .before .entry-from .ensures) (c .before .before .before .before .before .from .given .1) (c .before .before .before .decode-operation .ensures) (c .before .enum-told2 .given .1) (c .ended3 .ensures)
 
 mul-ops : tie.Need-mul-ops Inv-loop μ-loop
 mul-ops c = search needs
@@ -69,7 +69,7 @@ loop-less : tie.Need-loop-less Inv-loop μ-loop
 loop-less c = search needs
 
 loop-again : tie.Need-loop-again Inv-loop μ-loop
-loop-again c = at-operation (c .before .before .before .before .before .before .before .before .before .before .loop .inv) (omega arith) (omega arith) (omega arith) (omega arith) (c .before .before .before .before .before .before .before .entry-at .ensures) (c .before .before .before .before .before .from .given .1) (c .before .before .before .decode-operation .ensures) _ (c .before .op .given .1)
+loop-again c = at-operation (c .before .before .before .before .before .before .before .before .before .before .loop .inv) (omega arith) (omega arith) (omega arith) (omega arith) (c .before .before .before .before .before .before .before .entry-from .ensures) (c .before .before .before .before .before .from .given .1) (c .before .before .before .decode-operation .ensures) _ (c .before .op .given .1)
 
 ended-requires-4 : tie.Need-ended-requires-4 Inv-loop μ-loop
 ended-requires-4 c κs = search needs
@@ -93,7 +93,7 @@ walk-entries-spec =
     loop-holds
     ended-requires
     returns
-    entry-at-requires
+    entry-from-requires
     enum-known-from
     enum-told
     ended-requires-2

@@ -1,0 +1,3 @@
+pub mod Lowered
+pub mod Listed
+pub mod Renamed

@@ -1,0 +1,66 @@
+-- The keys among the nodes of a tree, and what the functions over them answer.
+use mathlib.Core.Path.{_≡_}
+use Prim.Native.Nat.{ℕ, _≤_}
+use mathlib.Core.List.{List, []}
+use mathlib.Core.Option.{Option, none, some}
+use mathlib.Core.Bool.{Bool, false, not, _&&_, _||_}
+use lib.ListN.{length}
+use Rattle.model.specs.Order.{Name}
+use Rattle.model.specs.Map.{Node, Map}
+use Rattle.model.specs.Base.{Bytes, if_then_else_, ifEmpty, sameBytes, flatMap}
+use Rattle.model.specs.Name.{lower, isBackup, isTmp}
+use Rattle.model.specs.Field.{encodeField}
+use Rattle.model.specs.Store.{files}
+use Rattle.model.specs.Record.{otherCase, caseRenamed}
+use Rattle.field.specs.Writing.{written, field}
+use Rattle.spans.specs.Spans.{nameOf}
+use Rattle.spans.specs.declared.NameRef.{NameRef}
+use Rattle.store.specs.Stores.{storeOf}
+use Rattle.store.specs.declared.Store.{Store}
+use Rattle.steps.specs.Steps.{FileName, Fits}
+use Rattle.local_collection.specs.declared.OtherCase.{OtherCase}
+use Rattle.local_collection.specs.declared.OtherCase.the-variants.{Is, Nothing}
+
+-- A name that is listed as a key: no backup's and no staging file's.
+unfoldable pub isKey : Name → Bool
+isKey f = not (isBackup f) && not (isTmp f)
+
+-- A node that is a file of a directory; one that is listed as a key.
+unfoldable pub isFileOf : Name → Node → Bool
+isFileOf d n = ifEmpty (n .0 .1) false (sameBytes d (n .0 .0))
+
+unfoldable pub isKeyOf : Name → Node → Bool
+isKeyOf d n = isFileOf d n && isKey (n .0 .1)
+
+-- The key list of a tree (Record, `keyList`).
+unfoldable pub keysOf : Name → Map → Bytes
+keysOf c t = flatMap (λ f. if isBackup f || isTmp f then [] else encodeField (field 3 (lower f))) (files c t)
+
+abbrev pub caseOf : Bytes → OtherCase → Option Name
+caseOf src (Is f) = some (nameOf src f)
+caseOf src Nothing = none
+
+abbrev pub SoundCase : Bytes → OtherCase → Type 0
+SoundCase src (Is f) = FileName src f
+SoundCase src Nothing = Unit {0}
+
+-- What `other_case` answers.
+pub record OtherCaseOf (src : Bytes) (k : Name) (l : List Name) (o : OtherCase) : Type 0 where
+  pub sound : SoundCase src o
+  pub same : caseOf src o ≡ otherCase k l
+
+-- What `ensure_normalized_on_disk` answers.
+pub record Normalized (src : Bytes) (dir key : NameRef) (s r : Store) : Type 0 where
+  pub fits : Fits src r
+  pub same : storeOf src r ≡ caseRenamed (nameOf src dir) (nameOf src key) (storeOf src s)
+
+-- What `put_key` does: the lent bytes with a key's field, and how long that is.
+pub record Puts (key : Bytes) (at : ℕ) (before after : Bytes) (n : ℕ) : Type 0 where
+  pub out : after ≡ written at (encodeField (field 3 key)) before
+  pub size : n ≡ length (encodeField (field 3 key))
+  pub small : n ≤ 67
+
+-- What `list_keys` does: the lent bytes with the keys' fields at the start, and how long these are.
+pub record Lists (keys before after : Bytes) (n : ℕ) : Type 0 where
+  pub out : after ≡ written 0 keys before
+  pub size : n ≡ length keys

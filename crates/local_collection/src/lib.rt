@@ -1,0 +1,180 @@
+// The files of one collection as keys: local_collection.rs. A key that is given stands in the lent bytes in lower case.
+ghost use mathlib.Core.Path.{_≡_};
+ghost use Prim.Native.Nat.{_≤_};
+ghost use lib.ListN.{length};
+ghost use Rattle.model.specs.Base.{sameBytes};
+ghost use Rattle.model.specs.Name.{lower};
+ghost use Rattle.model.specs.Store.{files};
+ghost use Rattle.field.specs.Writing.{written, field};
+ghost use Rattle.spans.specs.Spans.{nameOf, Sound};
+ghost use Rattle.model.specs.Record.{keyList};
+ghost use Rattle.store.specs.Tables.{nodeOf, mapOf, SoundNode, SoundTable};
+ghost use Rattle.store.specs.Stores.{storeOf, SoundStore};
+ghost use Rattle.steps.specs.Steps.{FileName, Fits};
+ghost use Rattle.local_collection.specs.Keys.{isFileOf, isKey, isKeyOf, keysOf, Puts, Lists, OtherCaseOf, Normalized};
+use spans::NameRef;
+use steps::Step;
+use store::Held;
+use store::Node;
+use store::Store;
+use store::Table;
+
+// A file whose name is the key in another case, if there is one.
+pub enum OtherCase {
+    Is(NameRef),
+    Nothing,
+}
+
+// 01, Modules in port order: "key list (0x03 fields)".
+const KEY_TAG: u8 = 3;
+
+// Whether a name in lower case is the key (`eq_ignore_ascii_case`).
+fn lowers_to(src: &[u8], file: NameRef, key: NameRef) -> bool
+    requires { ⌜ Sound (now src) file × Sound (now src) key ⌝ }
+    ensures { λ r. ⌜ r ≡ sameBytes (lower (nameOf (now (src .entry)) file)) (nameOf (now (src .entry)) key) ⌝ }
+{
+    let n = spans::length_of(file);
+    if n != spans::length_of(key) {
+        return false;
+    }
+    let mut i: usize = 0;
+    while i < n {
+        let raw = spans::byte_at(src, file, i);
+        let low = paths::lower_byte(raw);
+        if low != spans::byte_at(src, key, i) {
+            return false;
+        }
+        i += 1;
+    }
+    true
+}
+
+// Whether a file is listed as a key: no backup, no staging file (`is_valid_key`).
+pub fn is_valid_key(src: &[u8], file: NameRef) -> bool
+    requires { ⌜ Sound (now src) file ⌝ }
+    ensures { λ r. ⌜ r ≡ isKey (nameOf (now (src .entry)) file) ⌝ }
+{
+    if spans::is_backup(src, file) {
+        return false;
+    }
+    !spans::is_tmp(src, file)
+}
+
+// Whether a node is a file of a directory.
+fn is_file_of(src: &[u8], x: Node, dir: NameRef) -> bool
+    requires { ⌜ SoundNode (now src) x × Sound (now src) dir ⌝ }
+    ensures { λ r. ⌜ r ≡ isFileOf (nameOf (now (src .entry)) dir) (nodeOf (now (src .entry)) x) ⌝ }
+{
+    let d = x.dir;
+    let f = x.file;
+    if spans::length_of(f) == 0 {
+        return false;
+    }
+    spans::same(src, dir, d)
+}
+
+// Whether a node is a file of a directory that is listed as a key.
+fn is_key_of(src: &[u8], x: Node, dir: NameRef) -> bool
+    requires { ⌜ SoundNode (now src) x × Sound (now src) dir ⌝ }
+    ensures { λ r. ⌜ r ≡ isKeyOf (nameOf (now (src .entry)) dir) (nodeOf (now (src .entry)) x) ⌝ }
+{
+    if !is_file_of(src, x, dir) {
+        return false;
+    }
+    let f = x.file;
+    is_valid_key(src, f)
+}
+
+// The first file of a listing that is the key in another case.
+pub fn other_case(src: &[u8], t: Table, dir: NameRef, key: NameRef) -> OtherCase
+    requires { ⌜ SoundTable (now src) t × (Sound (now src) dir × Sound (now src) key) ⌝ }
+    ensures { λ r. ⌜ OtherCaseOf (now (src .entry)) (nameOf (now (src .entry)) key) (files (nameOf (now (src .entry)) dir) (mapOf (now (src .entry)) t)) r ⌝ }
+{
+    let n = t.len;
+    let mut i: usize = 0;
+    while i < n {
+        let x = t.nodes[i];
+        if is_key_of(src, x, dir) {
+            let f = x.file;
+            if lowers_to(src, f, key) {
+                return OtherCase::Is(f);
+            }
+        }
+        i += 1;
+    }
+    OtherCase::Nothing
+}
+
+// A file that is the key in another case is renamed, unless the key's own stands (`ensure_normalized_on_disk`).
+pub fn ensure_normalized_on_disk(src: &[u8], s: Store, dir: NameRef, key: NameRef) -> Store
+    requires { ⌜ Fits (now src) s × (Sound (now src) dir × FileName (now src) key) ⌝ }
+    ensures { λ r. ⌜ Normalized (now (src .entry)) dir key s r ⌝ }
+{
+    let h = store::look(src, s.tree, dir, key);
+    match h {
+        Held::Number(_) => s,
+        Held::Nothing => {
+            let o = other_case(src, s.tree, dir, key);
+            match o {
+                OtherCase::Is(f) => steps::apply(src, s, Step::RenameFile(dir, f, key)),
+                OtherCase::Nothing => s,
+            }
+        }
+    }
+}
+
+// A name in lower case, written at `at` (`normalize_key`).
+fn put_lower(src: &[u8], file: NameRef, out: &mut [u8], at: usize)
+    requires { ⌜ Sound (now src) file ⌝ }
+    ensures { λ _. ⌜ now (out .exit) ≡ written at (lower (nameOf (now (src .entry)) file)) (now (out .entry)) ⌝ }
+{
+    let n = spans::length_of(file);
+    if n <= field::left(out.len(), at) {
+        let mut i: usize = 0;
+        while i < n {
+            out[at + i] = paths::lower_byte(spans::byte_at(src, file, i));
+            i += 1;
+        }
+    }
+}
+
+// A key's field written at `at`, and how long it is.
+fn put_key(src: &[u8], file: NameRef, out: &mut [u8], at: usize) -> usize
+    requires { ⌜ Sound (now src) file ⌝ }
+    ensures { λ r. ⌜ Puts (lower (nameOf (now (src .entry)) file)) at (now (out .entry)) (now (out .exit)) r ⌝ }
+{
+    let n = spans::length_of(file);
+    if field::left(out.len(), at) < 3 + n {
+        return 3 + n;
+    }
+    field::put_field_head(out, at, KEY_TAG, n as u16);
+    put_lower(src, file, out, at + 3);
+    3 + n
+}
+
+// The keys of a tree's directory as fields at the start of the output, and how long they are.
+fn put_keys(src: &[u8], t: Table, dir: NameRef, out: &mut [u8]) -> usize
+    requires { ⌜ (SoundTable (now src) t × Sound (now src) dir) × (length (keysOf (nameOf (now src) dir) (mapOf (now src) t)) ≤ length (now out)) ⌝ }
+    ensures { λ r. ⌜ Lists (keysOf (nameOf (now (src .entry)) dir) (mapOf (now (src .entry)) t)) (now (out .entry)) (now (out .exit)) r ⌝ }
+{
+    let n = t.len;
+    let mut at: usize = 0;
+    let mut i: usize = 0;
+    while i < n {
+        let x = t.nodes[i];
+        if is_key_of(src, x, dir) {
+            let f = x.file;
+            at += put_key(src, f, out, at);
+        }
+        i += 1;
+    }
+    at
+}
+
+// 01, Modules in port order: "key list (0x03 fields)" (`list_keys_in_dir`); a missing collection reads as empty.
+pub fn list_keys(src: &[u8], s: Store, dir: NameRef, out: &mut [u8]) -> usize
+    requires { ⌜ (SoundStore (now src) s × Sound (now src) dir) × (length (keyList (nameOf (now src) dir) (storeOf (now src) s)) ≤ length (now out)) ⌝ }
+    ensures { λ r. ⌜ Lists (keyList (nameOf (now (src .entry)) dir) (storeOf (now (src .entry)) s)) (now (out .entry)) (now (out .exit)) r ⌝ }
+{
+    put_keys(src, s.tree, dir, out)
+}

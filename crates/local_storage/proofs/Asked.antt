@@ -1,0 +1,44 @@
+-- What a caller shows before a method, and what it reads off an answer.
+use mathlib.Core.Path.{_≡_, sym, ap, _∙_}
+use mathlib.Core.Bool.{Bool, true}
+use native.Mathlib.Omega.{arith}
+use lib.ListN.{length}
+use borrow.Author.Tests.{ne-eqb}
+use Rattle.model.specs.Order.{Name}
+use Rattle.model.specs.Base.{Bytes}
+use Rattle.model.specs.Name.{validName, lower}
+use Rattle.model.specs.Record.{Outcome, refuse, give}
+use Rattle.laws.specs.Tests.{and-both}
+use Rattle.laws.specs.ValidNames.{valid-length}
+use Rattle.spans.specs.Spans.{nameOf, Sound, Names}
+use Rattle.spans.specs.declared.NameRef.{NameRef}
+use Rattle.spans.proofs.Parts.{length-name}
+use Rattle.steps.specs.Steps.{FileName}
+use Rattle.local_storage.specs.declared.LocalStorage.{LocalStorage}
+use Rattle.local_storage.specs.declared.Recorded.{Recorded}
+use Rattle.local_storage.specs.Recording.{handedOn, Answers, Given, GivenKey, GivenWrite}
+
+-- A valid name is a file's: it is not empty.
+pub file-name : {src : Bytes} {r : NameRef} {n : Name} → Names src r n → validName n ≡ true → FileName src r
+file-name {src} {r} {n} w v =
+    let l = valid-length n v in
+    let e = length-name (w .sound) in
+    let q : length (nameOf src r) ≡ length n = ap length (w .same) in
+    record { sound = w .sound; some = omega arith }
+
+pub given-asks : {src : Bytes} {v : Bool} {r : NameRef} {n : Name} → Given src v r n → v ≡ true → Sound src r
+given-asks w h = w .names h .sound
+
+pub delete-asks : {src : Bytes} {v : Bool} {r k : NameRef} {n key : Name} → GivenKey src v r k n key → v ≡ true → Sound src r × FileName src k
+delete-asks {n = n} {key} w h = (w .names h .sound, file-name (w .keys h) (and-both (validName n) (validName (lower key)) (sym (w .valid) ∙ h) .1))
+
+pub write-asks : {src : Bytes} {v : Bool} {r k f : NameRef} {n key file : Name} → GivenWrite src v r k f n key file → v ≡ true → Sound src r × (Sound src k × Sound src f)
+write-asks w h = (w .names h .sound, (w .keys h .sound, w .staged h .sound))
+
+-- A number other than 0 refuses; 0 gives the store handed on.
+module _ {src : Bytes} {o : Outcome} {s : LocalStorage} {r : Recorded} (w : Answers src o s r) where
+  pub answer-refused : (r .number ≡ 0 → ⊥) → o ≡ refuse (r .number)
+  answer-refused h = sym (w .same) ∙ rw (ne-eqb (r .number) 0 h)
+
+  pub answer-given : r .number ≡ 0 → o ≡ give (handedOn src r)
+  answer-given h = sym (w .same) ∙ rw h

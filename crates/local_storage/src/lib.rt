@@ -1,0 +1,291 @@
+// Begin, the recorded operations and rollback: local_storage.rs, and the methods of local_collection.rs that record. Each consumes the
+// store and hands it on. A given name is tested beforehand; where it is valid, it stands in the lent bytes, a key in lower case.
+ghost use mathlib.Core.Path.{_≡_};
+ghost use mathlib.Core.Bool.{true, _&&_};
+ghost use Prim.Native.Nat.{_<_};
+ghost use Rattle.model.specs.Order.{Name};
+ghost use Rattle.model.specs.Base.{Bytes};
+ghost use Rattle.model.specs.Log.{journal};
+ghost use Rattle.model.specs.Record.{hasDir, beginTransaction, discard, recordCreate, recordDeleteCollection, recordCopy};
+ghost use Rattle.spans.specs.Spans.{nameOf, Sound};
+ghost use Rattle.store.specs.Tables.{mapOf, SoundTable};
+ghost use Rattle.store.specs.Stores.{storeOf, logBytes, SoundStore};
+ghost use Rattle.local_storage.specs.Recording.{Ready, storageOf, Answers, Given, isRecording, isWhole, hasFile, Opens, Admits, Discarded, refusedWith, recordedIn};
+
+mod collection;
+
+use spans::NameRef;
+use store::Held;
+use store::Store;
+use store::Table;
+use transaction::Operation;
+use wal::Ending;
+use wal::Status;
+use wal::WalRead;
+
+pub struct LocalStorage {
+    pub store: Store,
+}
+
+// How the log is written into the image: as it stands; as the header of a new one; with an operation's entry behind it.
+pub enum Tail {
+    Nothing,
+    Header,
+    Entry(Operation),
+}
+
+// A refusal's number, or 0 with the store handed on.
+pub struct Recorded {
+    pub number: u32,
+    pub storage: LocalStorage,
+    pub tail: Tail,
+}
+
+// The operations of the open transaction, where one is found.
+pub struct Transaction {
+    pub found: bool,
+    pub read: WalRead,
+}
+
+// 01, Corners, wal.rs: "32 operations and the end: accepted."
+const OPERATION_LIMIT: usize = 32;
+
+fn wide(x: u16) -> usize
+    ensures { λ r. ⌜ (r ≡ x) × (r < 65536) ⌝ }
+{
+    x as usize
+}
+
+// Whether the mark of an open transaction stands, with a log that is Recording.
+fn is_recording(src: &[u8], s: Store) -> bool
+    requires { ⌜ Ready (now src) s ⌝ }
+    ensures { λ r. ⌜ r ≡ (s .open_mark && isRecording (journal (logBytes (now (src .entry)) (s .log)))) ⌝ }
+{
+    if !s.open_mark {
+        return false;
+    }
+    let l = s.log;
+    if !l.stands {
+        return false;
+    }
+    let start = wide(l.start);
+    let end = start + wide(l.len);
+    let status = wal::open_wal(&src[start..end]);
+    match status {
+        Status::Recording => true,
+        Status::Absent => false,
+        Status::Committing => false,
+    }
+}
+
+// Whether the walk through a log ended at its end.
+fn is_whole(ending: Ending) -> bool
+    ensures { λ r. ⌜ r ≡ isWhole ending ⌝ }
+{
+    match ending {
+        Ending::Whole => true,
+        Ending::Truncated => false,
+        Ending::Undecodable => false,
+        Ending::TooMany => false,
+    }
+}
+
+// The open transaction. 01, Sixteen numbers, 4: "an untruncated, decodable Recording log of at most 32 operations".
+pub fn open_transaction(src: &[u8], s: Store) -> Transaction
+    requires { ⌜ Ready (now src) s ⌝ }
+    ensures { λ r. ⌜ Opens (now (src .entry)) (storeOf (now (src .entry)) s) r ⌝ }
+{
+    if !is_recording(src, s) {
+        return Transaction {
+            found: false,
+            read: wal::read_wal(src, 0, 0),
+        };
+    }
+    let l = s.log;
+    let start = wide(l.start);
+    let end = start + wide(l.len);
+    let read = wal::read_wal(src, start, end);
+    let ending = read.ending;
+    Transaction {
+        found: is_whole(ending),
+        read: read,
+    }
+}
+
+// 01, Sixteen numbers: "5. Recording meets 32 operations", after 4; 0 where it goes on.
+fn refusal(src: &[u8], s: Store) -> u32
+    requires { ⌜ Ready (now src) s ⌝ }
+    ensures { λ r. ⌜ Admits (storeOf (now (src .entry)) s) r ⌝ }
+{
+    let t = open_transaction(src, s);
+    if !t.found {
+        return 4;
+    }
+    let read = t.read;
+    if OPERATION_LIMIT <= read.len {
+        return 5;
+    }
+    0
+}
+
+// Whether a file stands in a table.
+fn has_file(src: &[u8], t: Table, dir: NameRef, file: NameRef) -> bool
+    requires { ⌜ SoundTable (now src) t × (Sound (now src) dir × Sound (now src) file) ⌝ }
+    ensures { λ r. ⌜ r ≡ hasFile (nameOf (now (src .entry)) dir) (nameOf (now (src .entry)) file) (mapOf (now (src .entry)) t) ⌝ }
+{
+    let h = store::look(src, t, dir, file);
+    match h {
+        Held::Number(_) => true,
+        Held::Nothing => false,
+    }
+}
+
+// Whether a collection stands.
+fn has_dir(src: &[u8], s: Store, name: NameRef) -> bool
+    requires { ⌜ SoundStore (now src) s × Sound (now src) name ⌝ }
+    ensures { λ r. ⌜ r ≡ hasDir (nameOf (now (src .entry)) name) (storeOf (now (src .entry)) s) ⌝ }
+{
+    has_file(src, s.tree, name, spans::empty())
+}
+
+// A store with the mark of an open transaction.
+fn marked(s: Store) -> Store
+    ensures { λ r. ⌜ r ≡ record { tree = s .tree; staging = s .staging; log = s .log; open_mark = true } ⌝ }
+{
+    let mut r = s;
+    r.open_mark = true;
+    r
+}
+
+// A store without log, staging files and mark.
+fn discarded(s: Store) -> Store
+    ensures { λ r. ⌜ ((src : Bytes) → Discarded src s r) ⌝ }
+{
+    let mut l = s.log;
+    l.stands = false;
+    let mut r = s;
+    r.staging = store::empty();
+    r.log = l;
+    r.open_mark = false;
+    r
+}
+
+fn refused(storage: LocalStorage, number: u32) -> Recorded
+    ensures { λ r. ⌜ r ≡ refusedWith storage number ⌝ }
+{
+    Recorded {
+        number: number,
+        storage: storage,
+        tail: Tail::Nothing,
+    }
+}
+
+fn accepted(storage: LocalStorage, op: Operation) -> Recorded
+    ensures { λ r. ⌜ r ≡ recordedIn storage op ⌝ }
+{
+    Recorded {
+        number: 0,
+        storage: storage,
+        tail: Tail::Entry(op),
+    }
+}
+
+impl LocalStorage {
+    // The mark, and a log made anew (`create_wal`).
+    pub fn begin_transaction(self) -> Recorded
+        ensures { λ r. ⌜ ((src : Bytes) → SoundStore src (self .store) → Answers src (beginTransaction (storageOf src self)) self r) ⌝ }
+    {
+        let s = self.store;
+        if s.open_mark {
+            return refused(self, 3);
+        }
+        let t = marked(s);
+        Recorded {
+            number: 0,
+            storage: LocalStorage { store: t },
+            tail: Tail::Header,
+        }
+    }
+
+    // Log, staging files and mark go (`discard`).
+    pub fn rollback(self, src: &[u8]) -> Recorded
+        requires { ⌜ Ready (now src) (self .store) ⌝ }
+        ensures { λ r. ⌜ Answers (now (src .entry)) (discard (storageOf (now (src .entry)) self)) self r ⌝ }
+    {
+        let t = open_transaction(src, self.store);
+        if !t.found {
+            return refused(self, 4);
+        }
+        let s = discarded(self.store);
+        Recorded {
+            number: 0,
+            storage: LocalStorage { store: s },
+            tail: Tail::Nothing,
+        }
+    }
+
+    // 4, 5, 6; "9. The collection to create exists."
+    pub fn create_collection(self, src: &[u8], valid: bool, name: NameRef) -> Recorded
+        requires { ⌜ Ready (now src) (self .store) × (valid ≡ true → Sound (now src) name) ⌝ }
+        ensures { λ r. ⌜ ((c : Name) → Given (now (src .entry)) valid name c → Answers (now (src .entry)) (recordCreate c (storageOf (now (src .entry)) self)) self r) ⌝ }
+    {
+        let n = refusal(src, self.store);
+        if n != 0 {
+            return refused(self, n);
+        }
+        if !valid {
+            return refused(self, 6);
+        }
+        if has_dir(src, self.store, name) {
+            return refused(self, 9);
+        }
+        accepted(self, Operation::CreateCollection(name))
+    }
+
+    // 4, 5, 6; "7. The collection to delete or to copy from is missing."
+    pub fn delete_collection(self, src: &[u8], valid: bool, name: NameRef) -> Recorded
+        requires { ⌜ Ready (now src) (self .store) × (valid ≡ true → Sound (now src) name) ⌝ }
+        ensures { λ r. ⌜ ((c : Name) → Given (now (src .entry)) valid name c → Answers (now (src .entry)) (recordDeleteCollection c (storageOf (now (src .entry)) self)) self r) ⌝ }
+    {
+        let n = refusal(src, self.store);
+        if n != 0 {
+            return refused(self, n);
+        }
+        if !valid {
+            return refused(self, 6);
+        }
+        if !has_dir(src, self.store, name) {
+            return refused(self, 7);
+        }
+        accepted(self, Operation::DeleteCollection(name))
+    }
+
+    // 4, 5, 6, 7; and 6 again: "copy's destination is tested after 7".
+    pub fn copy_collection(
+        self,
+        src: &[u8],
+        valid_source: bool,
+        source: NameRef,
+        valid_dest: bool,
+        dest: NameRef,
+    ) -> Recorded
+        requires { ⌜ Ready (now src) (self .store) × ((«valid_source» ≡ true → Sound (now src) source) × («valid_dest» ≡ true → Sound (now src) dest)) ⌝ }
+        ensures { λ r. ⌜ ((a b : Name) → Given (now (src .entry)) «valid_source» source a → Given (now (src .entry)) «valid_dest» dest b → Answers (now (src .entry)) (recordCopy a b (storageOf (now (src .entry)) self)) self r) ⌝ }
+    {
+        let n = refusal(src, self.store);
+        if n != 0 {
+            return refused(self, n);
+        }
+        if !valid_source {
+            return refused(self, 6);
+        }
+        if !has_dir(src, self.store, source) {
+            return refused(self, 7);
+        }
+        if !valid_dest {
+            return refused(self, 6);
+        }
+        let existed = has_dir(src, self.store, dest);
+        accepted(self, Operation::CopyCollection(source, dest, existed))
+    }
+}

@@ -1,0 +1,10 @@
+pub mod Machine
+pub mod MachineLaws
+pub mod Runs
+pub mod RunLaws
+pub mod Tries
+pub mod Endings
+pub mod Budget
+pub mod Listings
+pub mod ModelPlans
+pub mod ModelAnswers

@@ -1,0 +1,12 @@
+pub mod Follow
+pub mod Picks
+pub mod Nodes
+pub mod Seek
+pub mod Vacant
+pub mod Over
+pub mod Artifacts
+pub mod Pending
+pub mod Entries
+pub mod Journals
+pub mod Refusals
+pub mod Recovering

@@ -1,0 +1,40 @@
+-- Recovery from a Committing log, by how the walk through it ended.
+use mathlib.Core.Path.{_≡_, refl}
+use mathlib.Core.List.{List, [], _∷_}
+use mathlib.Core.Bool.{true, false}
+use native.Mathlib.Omega.{arith}
+use mathlib.Core.Logic.{inl, inr}
+use Prim.Native.Nat.{ℕ}
+use types.Run.{OneOf}
+use denote.Enum.Declared.{tagOf}
+use Rattle.model.specs.Map.{Map}
+use Rattle.model.specs.Base.{anyOf}
+use Rattle.model.specs.Operation.{Op}
+use Rattle.model.specs.Log.{committing, truncated}
+use Rattle.model.specs.Store.{Store, hasBackupFiles}
+use Rattle.model.specs.Plan.{inSequence, recoverParts, recoverFault, isNewArtifact}
+use Rattle.wal.specs.declared.Ending.{Ending}
+use Rattle.wal.specs.declared.Ending.the-variants.{Whole, Truncated, Undecodable, TooMany}
+use Rattle.wal.proofs.Ending.{the-type}
+use Rattle.wal.specs.Logs.{endingOf}
+use Rattle.recovery.specs.Walks.{cleanUp}
+use Rattle.recovery.specs.Recoveries.{refusalOf}
+
+module _ (o : List Op) (t : Map) where
+  pub backup-found : hasBackupFiles t ≡ true → _≡_ {A = ℕ} 13 (refusalOf (recoverFault (committing o truncated) t))
+  backup-found h = rw h
+
+  pub artifact-found : hasBackupFiles t ≡ false → anyOf (isNewArtifact t) o ≡ true → _≡_ {A = ℕ} 13 (refusalOf (recoverFault (committing o truncated) t))
+  artifact-found h k = rw (h, k)
+
+  pub nothing-found : hasBackupFiles t ≡ false → anyOf (isNewArtifact t) o ≡ false → _≡_ {A = ℕ} 0 (refusalOf (recoverFault (committing o truncated) t))
+  nothing-found h k = rw (h, k)
+
+-- What is not whole is not undone.
+pub only-cleaned : (o : List Op) (e : Ending) (s : Store) → OneOf (1 ∷ 2 ∷ 3 ∷ []) (tagOf the-type e) → cleanUp s ≡ inSequence (recoverParts (committing o (endingOf e))) s
+only-cleaned o Truncated s h = refl
+only-cleaned o Undecodable s h = refl
+only-cleaned o TooMany s h = refl
+only-cleaned o Whole s (inl z) = absurd (omega arith)
+only-cleaned o Whole s (inr (inl z)) = absurd (omega arith)
+only-cleaned o Whole s (inr (inr z)) = absurd (omega arith)

@@ -1,0 +1,48 @@
+-- What the small functions of recovery do, as plans. The model's plans are made of these (proofs/Plans.antt).
+use mathlib.Core.List.{List, [], _∷_, reverse}
+use mathlib.Core.Bool.{Bool, true, false}
+use Rattle.model.specs.Order.{Name, cmpName, caseCmp}
+use Rattle.model.specs.Map.{Node, look}
+use Rattle.model.specs.Base.{ifEmpty, ifPresent, ifMissing}
+use Rattle.model.specs.Name.{backupName}
+use Rattle.model.specs.Operation.{Op}
+use Rattle.model.specs.Store.{Store, files}
+use Rattle.model.specs.Step.{Step, removeFile, removeDirectory, removeLog, apply}
+use Rattle.model.specs.Plan.{inTurn, inSequence, undoSteps, restoreBackups, removeStagingFiles}
+use Rattle.plans.specs.Machine.{seq}
+
+-- A node is a file of d, or a directory's own.
+unfoldable pub isFileOf : Name → Node → Bool
+isFileOf d n = caseCmp (cmpName d (n .0 .0)) false (ifEmpty (n .0 .1) false true) false
+
+unfoldable pub isDir : Node → Bool
+isDir n = ifEmpty (n .0 .1) true false
+
+-- The plan of each file of d in turn, by the listing as it stands when the walk starts.
+unfoldable pub overFiles : (Name → Name → Store → List Step) → Name → Store → List Step
+overFiles g d s = inTurn (g d) (files d (s .tree)) s
+
+-- The removal of what stands.
+unfoldable pub clearFile : Name → Name → Store → List Step
+clearFile d f s = ifPresent (look (d, f) (s .tree)) (removeFile d f ∷ [])
+
+unfoldable pub clearDir : Name → Store → List Step
+clearDir d s = ifPresent (look (d, []) (s .tree)) (removeDirectory d ∷ [])
+
+-- The removal of the new artifact of a Write, of a CreateCollection, of a CopyCollection whose destination did not exist.
+unfoldable pub undoWrite : Name → Name → Store → List Step
+undoWrite c k s = ifPresent (look (c, k) (s .tree)) (ifMissing (look (c, backupName k) (s .tree)) (removeFile c k ∷ []))
+
+unfoldable pub undoCreate : Name → Store → List Step
+undoCreate c s = ifPresent (look (c, []) (s .tree)) (ifEmpty (files c (s .tree)) (removeDirectory c ∷ []) [])
+
+unfoldable pub undoCopy : Name → Store → List Step
+undoCopy b s = ifPresent (look (b, []) (s .tree)) (ifMissing (look (backupName b, []) (s .tree)) (removeDirectory b ∷ []))
+
+-- What undoes operations: their new artifacts go, the last operation's first; then the backups are restored.
+unfoldable pub undoAll : List Op → Store → List Step
+undoAll ops s = seq apply (inTurn undoSteps (reverse ops)) restoreBackups s
+
+-- What recovery does in any case where a valid log stands.
+abbrev pub cleanUp : Store → List Step
+cleanUp = inSequence ((λ s. removeLog ∷ []) ∷ removeStagingFiles ∷ [])

@@ -1,0 +1,633 @@
+// Recovery of an interrupted transaction: recovery.rs. A walk goes through the table as it stood where the walk starts: 01, Listings and
+// file steps, "A directory is listed as it stands when its walk starts, in ascending byte order".
+ghost use mathlib.Core.Path.{_≡_};
+ghost use mathlib.Core.List.{[], reverse};
+ghost use mathlib.Core.Bool.{true, false};
+ghost use Prim.Native.Nat.{_≤_};
+ghost use lib.ListN.{length};
+ghost use Rattle.model.specs.Base.{ifEmpty, isSome, anyOf};
+ghost use Rattle.model.specs.Map.{look};
+ghost use Rattle.model.specs.Name.{backupName};
+ghost use Rattle.model.specs.Log.{entries, journal, absent, committing};
+ghost use Rattle.model.specs.Store.{files, hasBackupFiles, hasPendingWork};
+ghost use Rattle.model.specs.Plan.{inTurn, inSequence, recoverParts, recoverFault, undoSteps, restoreFile, restoreDirectory, restoreBackups, removeBackupFile, removeBackupsIn, removeBackups, removeStagingFiles, removeStandingLog, isNewArtifact};
+ghost use Rattle.spans.specs.Spans.{nameOf, Sound};
+ghost use Rattle.store.specs.Tables.{keyOf, nodeOf, mapOf, SoundNode, SoundTable};
+ghost use Rattle.store.specs.Stores.{logBytes, storeOf, SoundLog, SoundStore};
+ghost use Rattle.plans.specs.ModelPlans.{plain};
+ghost use Rattle.steps.specs.Steps.{Fits};
+ghost use Rattle.steps.specs.CodeRuns.{SoundRun, Follows};
+ghost use Rattle.transaction.specs.Operations.{opOf, SoundOp};
+ghost use Rattle.wal.specs.Logs.{journalOf, endingOf, opsRead, entriesOf, SoundRead};
+ghost use Rattle.recovery.specs.Walks.{isFileOf, isDir, clearFile, clearDir, overFiles, undoWrite, undoCreate, undoCopy, undoAll, cleanUp};
+ghost use Rattle.recovery.specs.Recoveries.{logPart, refusalOf, Recovers};
+use spans::BackupName;
+use spans::NameRef;
+use spans::OriginalName;
+use steps::Run;
+use steps::Step;
+use store::Held;
+use store::LogRef;
+use store::Node;
+use store::Store;
+use store::Table;
+use transaction::Operation;
+use wal::Ending;
+use wal::Status;
+use wal::WalRead;
+
+// Whether a place holds something.
+fn exists(src: &[u8], t: Table, dir: NameRef, file: NameRef) -> bool
+    requires { ⌜ SoundTable (now src) t × (Sound (now src) dir × Sound (now src) file) ⌝ }
+    ensures { λ r. ⌜ r ≡ isSome (look (keyOf (now (src .entry)) dir file) (mapOf (now (src .entry)) t)) ⌝ }
+{
+    let h = store::look(src, t, dir, file);
+    match h {
+        Held::Number(_) => true,
+        Held::Nothing => false,
+    }
+}
+
+// Whether a directory stands.
+fn dir_exists(src: &[u8], t: Table, dir: NameRef) -> bool
+    requires { ⌜ SoundTable (now src) t × Sound (now src) dir ⌝ }
+    ensures { λ r. ⌜ r ≡ isSome (look (nameOf (now (src .entry)) dir, []) (mapOf (now (src .entry)) t)) ⌝ }
+{
+    exists(src, t, dir, spans::empty())
+}
+
+// Whether the backup of a file stands. One whose name has over 64 bytes stands nowhere.
+fn has_backup(src: &[u8], t: Table, dir: NameRef, file: NameRef) -> bool
+    requires { ⌜ SoundTable (now src) t × (Sound (now src) dir × Sound (now src) file) ⌝ }
+    ensures { λ r. ⌜ r ≡ isSome (look (nameOf (now (src .entry)) dir, backupName (nameOf (now (src .entry)) file)) (mapOf (now (src .entry)) t)) ⌝ }
+{
+    let b = spans::backup(src, file);
+    match b {
+        BackupName::Is(q) => exists(src, t, dir, q),
+        BackupName::TooLong => false,
+    }
+}
+
+// The same for a directory.
+fn has_backup_dir(src: &[u8], t: Table, dir: NameRef) -> bool
+    requires { ⌜ SoundTable (now src) t × Sound (now src) dir ⌝ }
+    ensures { λ r. ⌜ r ≡ isSome (look (backupName (nameOf (now (src .entry)) dir), []) (mapOf (now (src .entry)) t)) ⌝ }
+{
+    let b = spans::backup(src, dir);
+    match b {
+        BackupName::Is(q) => dir_exists(src, t, q),
+        BackupName::TooLong => false,
+    }
+}
+
+// Whether any backup stands. 01, Listings and file steps: "The search for a backup leaves both walks at the first hit."
+pub fn has_backup_files(src: &[u8], t: Table) -> bool
+    requires { ⌜ SoundTable (now src) t ⌝ }
+    ensures { λ r. ⌜ r ≡ hasBackupFiles (mapOf (now (src .entry)) t) ⌝ }
+{
+    let n = t.len;
+    let mut found = false;
+    let mut i: usize = 0;
+    'directories: while i < n {
+        let x = t.nodes[i];
+        let dir = x.dir;
+        if spans::is_backup(src, dir) {
+            found = true;
+            break 'directories;
+        }
+        // The nodes of this directory: its own, whose file name is empty, and those of its files.
+        while i < n {
+            let y = t.nodes[i];
+            let of = y.dir;
+            let file = y.file;
+            if !spans::same(src, dir, of) {
+                break;
+            }
+            if spans::is_backup(src, file) {
+                found = true;
+                break 'directories;
+            }
+            i += 1;
+        }
+    }
+    found
+}
+
+// Whether a previous run left work to do: 01, Modules in port order, "`has_pending_work` (yes or no)".
+pub fn has_pending_work(src: &[u8], s: Store) -> bool
+    requires { ⌜ SoundStore (now src) s ⌝ }
+    ensures { λ r. ⌜ r ≡ hasPendingWork (storeOf (now (src .entry)) s) ⌝ }
+{
+    let log = s.log;
+    if log.stands {
+        return true;
+    }
+    let t = s.tree;
+    if has_backup_files(src, t) {
+        return true;
+    }
+    let staging = s.staging;
+    staging.len > 0
+}
+
+// Whether an operation seems to have been applied: `has_new_artifacts`, for one operation. 01, Corners, recovery.rs: "A Write to an
+// existing key counts as a new artifact, though nothing was done."
+pub fn is_new_artifact(src: &[u8], t: Table, op: Operation) -> bool
+    requires { ⌜ SoundTable (now src) t × SoundOp (now src) op ⌝ }
+    ensures { λ r. ⌜ r ≡ isNewArtifact (mapOf (now (src .entry)) t) (opOf (now (src .entry)) op) ⌝ }
+{
+    match op {
+        Operation::Write(c, k, _) => {
+            if exists(src, t, c, k) {
+                return !has_backup(src, t, c, k);
+            }
+            false
+        }
+        Operation::CreateCollection(c) => dir_exists(src, t, c),
+        Operation::CopyCollection(_, b, existed) => {
+            if existed {
+                return false;
+            }
+            if dir_exists(src, t, b) {
+                return !has_backup_dir(src, t, b);
+            }
+            false
+        }
+        Operation::Delete(_, _) | Operation::DeleteAll(_) | Operation::DeleteCollection(_) => false,
+    }
+}
+
+// Whether any of the operations that were read seems to have been applied.
+fn has_new_artifacts(src: &[u8], t: Table, w: WalRead) -> bool
+    requires { ⌜ SoundTable (now src) t × SoundRead (now src) w ⌝ }
+    ensures { λ r. ⌜ r ≡ anyOf (isNewArtifact (mapOf (now (src .entry)) t)) (opsRead (now (src .entry)) w) ⌝ }
+{
+    let n = w.len;
+    let mut i: usize = 0;
+    while i < n {
+        let x = w.ops[i];
+        let op = x.op;
+        if is_new_artifact(src, t, op) {
+            return true;
+        }
+        i += 1;
+    }
+    false
+}
+
+// Whether a directory holds no file.
+fn is_dir_empty(src: &[u8], t: Table, dir: NameRef) -> bool
+    requires { ⌜ SoundTable (now src) t × Sound (now src) dir ⌝ }
+    ensures { λ r. ⌜ r ≡ ifEmpty (files (nameOf (now (src .entry)) dir) (mapOf (now (src .entry)) t)) true false ⌝ }
+{
+    let n = t.len;
+    let mut i: usize = 0;
+    while i < n {
+        let x = t.nodes[i];
+        if is_file_of(src, x, dir) {
+            return false;
+        }
+        i += 1;
+    }
+    true
+}
+
+// Whether a node is a file of a directory.
+fn is_file_of(src: &[u8], x: Node, dir: NameRef) -> bool
+    requires { ⌜ SoundNode (now src) x × Sound (now src) dir ⌝ }
+    ensures { λ r. ⌜ r ≡ isFileOf (nameOf (now (src .entry)) dir) (nodeOf (now (src .entry)) x) ⌝ }
+{
+    if is_dir(src, x) {
+        return false;
+    }
+    let of = x.dir;
+    spans::same(src, dir, of)
+}
+
+// Whether a node is a directory's own.
+fn is_dir(src: &[u8], x: Node) -> bool
+    requires { ⌜ SoundNode (now src) x ⌝ }
+    ensures { λ r. ⌜ r ≡ isDir (nodeOf (now (src .entry)) x) ⌝ }
+{
+    let file = x.file;
+    spans::length_of(file) == 0
+}
+
+// Removes the file that a Write made, unless its backup stands.
+fn undo_write(src: &[u8], run: Run, dir: NameRef, key: NameRef) -> Run
+    requires { ⌜ SoundRun (now src) run × (Sound (now src) dir × Sound (now src) key) ⌝ }
+    ensures { λ r. ⌜ Follows plain (now (src .entry)) (undoWrite (nameOf (now (src .entry)) dir) (nameOf (now (src .entry)) key)) run r ⌝ }
+{
+    let s = run.store;
+    let t = s.tree;
+    if exists(src, t, dir, key) {
+        if has_backup(src, t, dir, key) {
+            return run;
+        }
+        return steps::advance(src, run, Step::RemoveFile(dir, key));
+    }
+    run
+}
+
+// Removes the directory that a CreateCollection made, if it is empty.
+fn undo_create(src: &[u8], run: Run, dir: NameRef) -> Run
+    requires { ⌜ SoundRun (now src) run × Sound (now src) dir ⌝ }
+    ensures { λ r. ⌜ Follows plain (now (src .entry)) (undoCreate (nameOf (now (src .entry)) dir)) run r ⌝ }
+{
+    let s = run.store;
+    let t = s.tree;
+    if dir_exists(src, t, dir) {
+        if is_dir_empty(src, t, dir) {
+            return steps::advance(src, run, Step::RemoveDirectory(dir));
+        }
+        return run;
+    }
+    run
+}
+
+// Removes the destination that a CopyCollection made, unless its backup stands.
+fn undo_copy(src: &[u8], run: Run, dir: NameRef) -> Run
+    requires { ⌜ SoundRun (now src) run × Sound (now src) dir ⌝ }
+    ensures { λ r. ⌜ Follows plain (now (src .entry)) (undoCopy (nameOf (now (src .entry)) dir)) run r ⌝ }
+{
+    let s = run.store;
+    let t = s.tree;
+    if dir_exists(src, t, dir) {
+        if has_backup_dir(src, t, dir) {
+            return run;
+        }
+        return steps::advance(src, run, Step::RemoveDirectory(dir));
+    }
+    run
+}
+
+// Removes the new artifact of an operation: `remove_new_artifacts`, for one operation.
+pub fn undo_operation(src: &[u8], run: Run, op: Operation) -> Run
+    requires { ⌜ SoundRun (now src) run × SoundOp (now src) op ⌝ }
+    ensures { λ r. ⌜ Follows plain (now (src .entry)) (undoSteps (opOf (now (src .entry)) op)) run r ⌝ }
+{
+    match op {
+        Operation::Write(c, k, _) => undo_write(src, run, c, k),
+        Operation::CreateCollection(c) => undo_create(src, run, c),
+        Operation::CopyCollection(_, b, existed) => {
+            if existed {
+                return run;
+            }
+            undo_copy(src, run, b)
+        }
+        Operation::Delete(_, _) | Operation::DeleteAll(_) | Operation::DeleteCollection(_) => run,
+    }
+}
+
+// Removes the new artifacts of the operations that were read, from the last to the first.
+pub fn remove_new_artifacts(src: &[u8], run: Run, w: WalRead) -> Run
+    requires { ⌜ SoundRun (now src) run × SoundRead (now src) w ⌝ }
+    ensures { λ r. ⌜ Follows plain (now (src .entry)) (inTurn undoSteps (reverse (opsRead (now (src .entry)) w))) run r ⌝ }
+{
+    let mut work = run;
+    let mut i: usize = w.len;
+    while 0 < i {
+        i -= 1;
+        let x = w.ops[i];
+        let op = x.op;
+        work = undo_operation(src, work, op);
+    }
+    work
+}
+
+// Removes a file, if it stands.
+fn clear_file(src: &[u8], run: Run, dir: NameRef, file: NameRef) -> Run
+    requires { ⌜ SoundRun (now src) run × (Sound (now src) dir × Sound (now src) file) ⌝ }
+    ensures { λ r. ⌜ Follows plain (now (src .entry)) (clearFile (nameOf (now (src .entry)) dir) (nameOf (now (src .entry)) file)) run r ⌝ }
+{
+    let s = run.store;
+    let t = s.tree;
+    if exists(src, t, dir, file) {
+        return steps::advance(src, run, Step::RemoveFile(dir, file));
+    }
+    run
+}
+
+// Removes a directory with its files, if it stands.
+fn clear_dir(src: &[u8], run: Run, dir: NameRef) -> Run
+    requires { ⌜ SoundRun (now src) run × Sound (now src) dir ⌝ }
+    ensures { λ r. ⌜ Follows plain (now (src .entry)) (clearDir (nameOf (now (src .entry)) dir)) run r ⌝ }
+{
+    let s = run.store;
+    let t = s.tree;
+    if dir_exists(src, t, dir) {
+        return steps::advance(src, run, Step::RemoveDirectory(dir));
+    }
+    run
+}
+
+// A backup takes the place of its original; a file with the extension of staging files goes.
+fn restore_file(src: &[u8], run: Run, dir: NameRef, file: NameRef) -> Run
+    requires { ⌜ SoundRun (now src) run × (Sound (now src) dir × Sound (now src) file) ⌝ }
+    ensures { λ r. ⌜ Follows plain (now (src .entry)) (restoreFile (nameOf (now (src .entry)) dir) (nameOf (now (src .entry)) file)) run r ⌝ }
+{
+    let o = spans::original(src, file);
+    match o {
+        OriginalName::Is(original) => {
+            let cleared = clear_file(src, run, dir, original);
+            steps::advance(src, cleared, Step::RenameFile(dir, file, original))
+        }
+        OriginalName::NotABackup => {
+            if spans::is_tmp(src, file) {
+                return steps::advance(src, run, Step::RemoveFile(dir, file));
+            }
+            run
+        }
+    }
+}
+
+// Restores the backups in one directory.
+fn restore_bak_files_in_dir(src: &[u8], run: Run, dir: NameRef) -> Run
+    requires { ⌜ SoundRun (now src) run × Sound (now src) dir ⌝ }
+    ensures { λ r. ⌜ Follows plain (now (src .entry)) (overFiles restoreFile (nameOf (now (src .entry)) dir)) run r ⌝ }
+{
+    let s = run.store;
+    let t = s.tree;
+    let n = t.len;
+    let mut work = run;
+    let mut i: usize = 0;
+    while i < n {
+        let x = t.nodes[i];
+        if is_file_of(src, x, dir) {
+            let file = x.file;
+            work = restore_file(src, work, dir, file);
+        }
+        i += 1;
+    }
+    work
+}
+
+// A directory that is a backup takes its original's place; in any other the files are restored.
+fn restore_directory(src: &[u8], run: Run, dir: NameRef) -> Run
+    requires { ⌜ SoundRun (now src) run × Sound (now src) dir ⌝ }
+    ensures { λ r. ⌜ Follows plain (now (src .entry)) (restoreDirectory (nameOf (now (src .entry)) dir)) run r ⌝ }
+{
+    let o = spans::original(src, dir);
+    match o {
+        OriginalName::Is(original) => {
+            let cleared = clear_dir(src, run, original);
+            steps::advance(src, cleared, Step::RenameDirectory(dir, original))
+        }
+        OriginalName::NotABackup => restore_bak_files_in_dir(src, run, dir),
+    }
+}
+
+// Restores every backup.
+pub fn rollback_partial_commit(src: &[u8], run: Run) -> Run
+    requires { ⌜ SoundRun (now src) run ⌝ }
+    ensures { λ r. ⌜ Follows plain (now (src .entry)) restoreBackups run r ⌝ }
+{
+    let s = run.store;
+    let t = s.tree;
+    let n = t.len;
+    let mut work = run;
+    let mut i: usize = 0;
+    while i < n {
+        let x = t.nodes[i];
+        if is_dir(src, x) {
+            let dir = x.dir;
+            work = restore_directory(src, work, dir);
+        }
+        i += 1;
+    }
+    work
+}
+
+// Removes a file that is a backup.
+fn delete_backup_file(src: &[u8], run: Run, dir: NameRef, file: NameRef) -> Run
+    requires { ⌜ SoundRun (now src) run × (Sound (now src) dir × Sound (now src) file) ⌝ }
+    ensures { λ r. ⌜ Follows plain (now (src .entry)) (removeBackupFile (nameOf (now (src .entry)) dir) (nameOf (now (src .entry)) file)) run r ⌝ }
+{
+    if spans::is_backup(src, file) {
+        return steps::advance(src, run, Step::RemoveFile(dir, file));
+    }
+    run
+}
+
+// Removes the backups among a directory's files.
+fn delete_backup_files_in_dir(src: &[u8], run: Run, dir: NameRef) -> Run
+    requires { ⌜ SoundRun (now src) run × Sound (now src) dir ⌝ }
+    ensures { λ r. ⌜ Follows plain (now (src .entry)) (overFiles removeBackupFile (nameOf (now (src .entry)) dir)) run r ⌝ }
+{
+    let s = run.store;
+    let t = s.tree;
+    let n = t.len;
+    let mut work = run;
+    let mut i: usize = 0;
+    while i < n {
+        let x = t.nodes[i];
+        if is_file_of(src, x, dir) {
+            let file = x.file;
+            work = delete_backup_file(src, work, dir, file);
+        }
+        i += 1;
+    }
+    work
+}
+
+// Removes a directory that is a backup; in any other the backups among its files.
+fn delete_backups_in(src: &[u8], run: Run, dir: NameRef) -> Run
+    requires { ⌜ SoundRun (now src) run × Sound (now src) dir ⌝ }
+    ensures { λ r. ⌜ Follows plain (now (src .entry)) (removeBackupsIn (nameOf (now (src .entry)) dir)) run r ⌝ }
+{
+    if spans::is_backup(src, dir) {
+        return steps::advance(src, run, Step::RemoveDirectory(dir));
+    }
+    delete_backup_files_in_dir(src, run, dir)
+}
+
+// Removes every backup.
+pub fn delete_all_backup_files(src: &[u8], run: Run) -> Run
+    requires { ⌜ SoundRun (now src) run ⌝ }
+    ensures { λ r. ⌜ Follows plain (now (src .entry)) removeBackups run r ⌝ }
+{
+    let s = run.store;
+    let t = s.tree;
+    let n = t.len;
+    let mut work = run;
+    let mut i: usize = 0;
+    while i < n {
+        let x = t.nodes[i];
+        if is_dir(src, x) {
+            let dir = x.dir;
+            work = delete_backups_in(src, work, dir);
+        }
+        i += 1;
+    }
+    work
+}
+
+// Removes every staging file.
+pub fn cleanup_staging_dir(src: &[u8], run: Run) -> Run
+    requires { ⌜ SoundRun (now src) run ⌝ }
+    ensures { λ r. ⌜ Follows plain (now (src .entry)) removeStagingFiles run r ⌝ }
+{
+    let s = run.store;
+    let t = s.staging;
+    let n = t.len;
+    let mut work = run;
+    let mut i: usize = 0;
+    while i < n {
+        let x = t.nodes[i];
+        let file = x.file;
+        work = steps::advance(src, work, Step::RemoveStaging(file));
+        i += 1;
+    }
+    work
+}
+
+// Removes the log, where one stands.
+pub fn remove_log(src: &[u8], run: Run) -> Run
+    requires { ⌜ SoundRun (now src) run ⌝ }
+    ensures { λ r. ⌜ Follows plain (now (src .entry)) removeStandingLog run r ⌝ }
+{
+    let s = run.store;
+    let log = s.log;
+    if log.stands {
+        return steps::advance(src, run, Step::RemoveLog);
+    }
+    run
+}
+
+// Undoes the operations that were read. New artifacts go first: restoring a backup could make a file look like a new one.
+pub fn undo_all(src: &[u8], run: Run, w: WalRead) -> Run
+    requires { ⌜ SoundRun (now src) run × SoundRead (now src) w ⌝ }
+    ensures { λ r. ⌜ Follows plain (now (src .entry)) (undoAll (opsRead (now (src .entry)) w)) run r ⌝ }
+{
+    let undone = remove_new_artifacts(src, run, w);
+    rollback_partial_commit(src, undone)
+}
+
+// The status of a store's log.
+fn open_log(src: &[u8], log: LogRef) -> Status
+    requires { ⌜ SoundLog (now src) log × (log .marked ≡ false) ⌝ }
+    ensures { λ r. ⌜ journalOf r (entries (logPart (now (src .entry)) log)) ≡ journal (logBytes (now (src .entry)) log) ⌝ }
+{
+    if !log.stands {
+        return Status::Absent;
+    }
+    let start = log.start as usize;
+    let end = start + log.len as usize;
+    wal::open_wal(&src[start..end])
+}
+
+// Its operations, and how the walk through them ended.
+fn read_log(src: &[u8], log: LogRef) -> WalRead
+    requires { ⌜ SoundLog (now src) log × (length (now src) ≤ 0xFFFF) ⌝ }
+    ensures { λ r. ⌜ SoundRead (now (src .entry)) r × (entriesOf (now (src .entry)) r ≡ entries (logPart (now (src .entry)) log)) ⌝ }
+{
+    let start = log.start as usize;
+    let end = start + log.len as usize;
+    wal::read_wal(src, start, end)
+}
+
+// The number that recovery from a Committing log is refused with, 0 for none. 01, Corners, recovery.rs: "Truncated Committing log and
+// any backup, or any new artifact by `has_new_artifacts`: refusal 13."
+fn refusal_of(src: &[u8], t: Table, w: WalRead) -> u32
+    requires { ⌜ SoundTable (now src) t × SoundRead (now src) w ⌝ }
+    ensures { λ r. ⌜ r ≡ refusalOf (recoverFault (committing (opsRead (now (src .entry)) w) (endingOf (w .ending))) (mapOf (now (src .entry)) t)) ⌝ }
+{
+    let ending = w.ending;
+    match ending {
+        Ending::Whole => 0,
+        Ending::Truncated => {
+            if has_backup_files(src, t) {
+                return 13;
+            }
+            if has_new_artifacts(src, t, w) {
+                return 13;
+            }
+            0
+        }
+        Ending::Undecodable => 11,
+        Ending::TooMany => 12,
+    }
+}
+
+// Removes the log and the staging files.
+fn clean_up(src: &[u8], run: Run) -> Run
+    requires { ⌜ SoundRun (now src) run ⌝ }
+    ensures { λ r. ⌜ Follows plain (now (src .entry)) cleanUp run r ⌝ }
+{
+    let removed = steps::advance(src, run, Step::RemoveLog);
+    cleanup_staging_dir(src, removed)
+}
+
+// Recovery without a valid log: backups are left over from a commit that was done.
+fn recover_absent(src: &[u8], run: Run) -> Run
+    requires { ⌜ SoundRun (now src) run ⌝ }
+    ensures { λ r. ⌜ Follows plain (now (src .entry)) (inSequence (recoverParts absent)) run r ⌝ }
+{
+    let deleted = delete_all_backup_files(src, run);
+    let removed = remove_log(src, deleted);
+    cleanup_staging_dir(src, removed)
+}
+
+// Recovery from a Committing log. Only a whole log is undone.
+fn recover_committing(src: &[u8], run: Run, w: WalRead) -> Run
+    requires { ⌜ SoundRun (now src) run × SoundRead (now src) w ⌝ }
+    ensures { λ r. ⌜ Follows plain (now (src .entry)) (inSequence (recoverParts (committing (opsRead (now (src .entry)) w) (endingOf (w .ending))))) run r ⌝ }
+{
+    let ending = w.ending;
+    match ending {
+        Ending::Whole => {
+            let undone = undo_all(src, run, w);
+            clean_up(src, undone)
+        }
+        Ending::Truncated | Ending::Undecodable | Ending::TooMany => clean_up(src, run),
+    }
+}
+
+// 01, Listings and file steps: "recovery drops [the open mark] before its first step, so at n = 0 too".
+fn without_mark(s: Store) -> Store
+    ensures { λ r. ⌜ r ≡ record { tree = s .tree; staging = s .staging; log = s .log; open_mark = false } ⌝ }
+{
+    let mut r = s;
+    r.open_mark = false;
+    r
+}
+
+// The number that recovery is refused with, 0 for none, and where that is 0 the run that did its steps.
+pub struct Recovered {
+    pub number: u32,
+    pub run: Run,
+}
+
+// Startup recovery: all its steps, or where `limited` the first n.
+pub fn recover(src: &[u8], s: Store, limited: bool, n: u64) -> Recovered
+    requires { ⌜ Fits (now src) s × ((s .log .marked ≡ false) × (length (now src) ≤ 0xFFFF)) ⌝ }
+    ensures { λ r. ⌜ Recovers (now (src .entry)) s limited n r ⌝ }
+{
+    let run = steps::start(without_mark(s), limited, n);
+    let log = s.log;
+    let status = open_log(src, log);
+    match status {
+        Status::Absent => Recovered {
+            number: 0,
+            run: recover_absent(src, run),
+        },
+        Status::Recording => Recovered {
+            number: 0,
+            run: clean_up(src, run),
+        },
+        Status::Committing => {
+            let w = read_log(src, log);
+            let number = refusal_of(src, s.tree, w);
+            if number != 0 {
+                return Recovered {
+                    number: number,
+                    run: run,
+                };
+            }
+            Recovered {
+                number: 0,
+                run: recover_committing(src, run, w),
+            }
+        }
+    }
+}

@@ -1,0 +1,184 @@
+-- Each arm of `apply`: what it makes of the store is what the step does.
+use mathlib.Core.Path.{_≡_, refl, sym, ap, subst, _∙_}
+use mathlib.Core.List.{List, [], _∷_}
+use mathlib.Core.Option.{Option, none, some}
+use mathlib.Core.Bool.{Bool, true, false}
+use Prim.Native.Nat.{ℕ}
+use native.Mathlib.Omega.{arith}
+use lib.ListN.{length, take, drop}
+use types.Run.{OneOf}
+use denote.Enum.Declared.{tagOf}
+use Rattle.model.specs.Map.{Map, look, put, del}
+use Rattle.model.specs.Base.{Bytes, if_then_else_, caseOption}
+use Rattle.model.specs.Field.{littleEndian}
+use Rattle.model.specs.Log.{header, markCommitting}
+use Rattle.model.specs.Store as model
+use Rattle.model.specs.Step as step
+use Rattle.model.specs.Step.{withTree, removeDir, renameDir, apply}
+use Rattle.spans.specs.Spans.{nameOf, Names}
+use Rattle.spans.specs.declared.NameRef.{NameRef}
+use Rattle.spans.proofs.Parts.{length-name}
+use Rattle.store.specs.Tables.{mapOf, Holds}
+use Rattle.store.specs.Stores.{logBytes, storeOf, SoundStore, SoundLog}
+use Rattle.store.specs.declared.Table.{Table}
+use Rattle.store.specs.declared.LogRef.{LogRef}
+use Rattle.store.specs.declared.Store.{Store}
+use Rattle.steps.specs.declared.Step.{Step}
+use Rattle.steps.specs.declared.Step.the-variants as code
+use Rattle.steps.specs.Steps.{stepOf, FileName, SoundStep, Within, Fits, Allowed, Applied}
+use Rattle.steps.proofs.Step.{the-type}
+use Rattle.steps.proofs.Room.{Named, kept}
+use Rattle.steps.proofs.Arms.{not-here}
+
+-- What `apply` requires.
+abbrev pub Ready : Bytes → Step → Store → Type 0
+Ready src x s = (Fits src s × SoundStep src x) × Allowed (stepOf src x) (storeOf src s)
+
+-- The files that a step makes have names.
+filled : {src : Bytes} {r : NameRef} → FileName src r → nameOf src r ≡ [] → ⊥
+filled f e = let l = length-name (f .sound) in let k = f .some in let z = ap length e in omega arith
+
+named : {src : Bytes} (x : Step) → SoundStep src x → Named (stepOf src x)
+unfolding stepOf
+named code.RewriteHeader s = tt
+named code.SyncStaging s = tt
+named code.SyncLog s = tt
+named code.RemoveLog s = tt
+named code.SyncJournal s = tt
+named code.SyncCollections s = tt
+named (code.MakeDirectory d) s = tt
+named (code.RenameFile d a b) s = (filled (s .names .1 .0), filled (s .names .1 .1))
+named (code.MoveStaged f d k) s = filled (s .names .1 .1)
+named (code.RenameDirectory a b) s = tt
+named (code.CopyFile a b f) s = filled (s .names .1 .1)
+named (code.RemoveFile d f) s = tt
+named (code.RemoveDirectory d) s = tt
+named (code.RemoveStaging f) s = tt
+named (code.SyncDirectory d) s = tt
+
+module _ {src : Bytes} {x : Step} {s r : Store} (p : Ready src x s) where
+  applied : SoundStore src r → storeOf src r ≡ apply (stepOf src x) (storeOf src s) → Applied src x s r
+  applied t e = record {
+    fits = record {
+      sound = t;
+      within = subst Within (sym (ap (λ (u : model.Store). u .tree) e)) (kept (stepOf src x) (storeOf src s) (named x (p .0 .1)) (p .1) (p .0 .0 .sound .tree .sorted) (p .0 .0 .within));
+    };
+    same = e;
+  }
+
+  -- In the arm of y, where the code made the store u.
+  module _ {y : Step} (e : x ≡ y) {u : Store} (f : r ≡ u) where
+    in-arm : SoundStore src u → storeOf src u ≡ apply (stepOf src y) (storeOf src s) → Applied src x s r
+    in-arm t q = applied (subst (SoundStore src) (sym f) t) (ap (storeOf src) f ∙ q ∙ ap (λ (z : Step). apply (stepOf src z) (storeOf src s)) (sym e))
+
+-- The tree, the staging files or the log changed.
+module _ {src : Bytes} {x y : Step} {s r : Store} (p : Ready src x s) (e : x ≡ y) where
+  tree-arm : {t : Table} (m : Map) → apply (stepOf src y) (storeOf src s) ≡ withTree m (storeOf src s) → Holds src t m → r ≡ record { tree = t; staging = s .staging; log = s .log; open_mark = s .open_mark } → Applied src x s r
+  tree-arm m q h f =
+      in-arm p e f (record { tree = h .sound; staging = p .0 .0 .sound .staging; log = p .0 .0 .sound .log })
+      ((λ i. record { tree = h .same i; staging = mapOf src (s .staging); log = logBytes src (s .log); openMark = s .open_mark }) ∙ sym q)
+
+  staging-arm : {t : Table} (m : Map) → apply (stepOf src y) (storeOf src s) ≡ record { tree = mapOf src (s .tree); staging = m; log = logBytes src (s .log); openMark = s .open_mark } → Holds src t m
+      → r ≡ record { tree = s .tree; staging = t; log = s .log; open_mark = s .open_mark } → Applied src x s r
+  staging-arm m q h f =
+      in-arm p e f (record { tree = p .0 .0 .sound .tree; staging = h .sound; log = p .0 .0 .sound .log })
+      ((λ i. record { tree = mapOf src (s .tree); staging = h .same i; log = logBytes src (s .log); openMark = s .open_mark }) ∙ sym q)
+
+  log-arm : {l : LogRef} (o : Option Bytes) → apply (stepOf src y) (storeOf src s) ≡ record { tree = mapOf src (s .tree); staging = mapOf src (s .staging); log = o; openMark = s .open_mark } → SoundLog src l → logBytes src l ≡ o
+      → r ≡ record { tree = s .tree; staging = s .staging; log = l; open_mark = s .open_mark } → Applied src x s r
+  log-arm o q t h f =
+      in-arm p e f (record { tree = p .0 .0 .sound .tree; staging = p .0 .0 .sound .staging; log = t })
+      ((λ i. record { tree = mapOf src (s .tree); staging = mapOf src (s .staging); log = h i; openMark = s .open_mark }) ∙ sym q)
+
+-- The header rewritten once more is the same.
+marked-log : (src : Bytes) (l : LogRef) → logBytes src (record { start = l .start; len = l .len; stands = l .stands; marked = true }) ≡ step.marked (logBytes src l)
+unfolding logBytes markCommitting header littleEndian
+marked-log src l = go (l .stands) (l .marked)
+  where
+    bytes : Bytes
+    bytes = take (l .len) (drop (l .start) src)
+
+    go : (stands marked : Bool) → (if stands then some (markCommitting bytes) else none) ≡ step.marked (if stands then some (if marked then markCommitting bytes else bytes) else none)
+    go false m = refl
+    go true false = refl
+    go true true = refl
+
+-- The steps, one by one.
+module _ {src : Bytes} {x : Step} {s r : Store} (p : Ready src x s) where
+  module _ {l : LogRef} (f : r ≡ record { tree = s .tree; staging = s .staging; log = l; open_mark = s .open_mark }) where
+    pub marks : x ≡ code.RewriteHeader → l ≡ record { start = s .log .start; len = s .log .len; stands = s .log .stands; marked = true } → Applied src x s r
+    unfolding apply stepOf
+    marks e q =
+        log-arm p e (step.marked (logBytes src (s .log))) refl (subst (SoundLog src) (sym q) (record { inside = p .0 .0 .sound .log .inside }))
+        (ap (logBytes src) q ∙ marked-log src (s .log)) f
+
+    pub unlogs : x ≡ code.RemoveLog → l ≡ record { start = s .log .start; len = s .log .len; stands = false; marked = s .log .marked } → Applied src x s r
+    unfolding apply stepOf logBytes
+    unlogs e q = log-arm p e none refl (subst (SoundLog src) (sym q) (record { inside = p .0 .0 .sound .log .inside })) (ap (logBytes src) q) f
+
+  module _ {t : Table} (f : r ≡ record { tree = t; staging = s .staging; log = s .log; open_mark = s .open_mark }) where
+    pub makes : {d z : NameRef} → x ≡ code.MakeDirectory d → Names src z [] → Holds src t (put (nameOf src d, nameOf src z) 0 (mapOf src (s .tree))) → Applied src x s r
+    unfolding apply stepOf
+    makes e z h = tree-arm p e _ refl (rw (z .same) at h) f
+
+    pub renames : {d a b : NameRef} → x ≡ code.RenameFile d a b
+        → Holds src t (caseOption (look (nameOf src d, nameOf src a) (mapOf src (s .tree))) (mapOf src (s .tree)) (λ v. put (nameOf src d, nameOf src b) v (del (nameOf src d, nameOf src a) (mapOf src (s .tree))))) → Applied src x s r
+    unfolding apply stepOf
+    renames e h = tree-arm p e _ refl h f
+
+    pub renames-dir : {a b : NameRef} → x ≡ code.RenameDirectory a b → Holds src t (renameDir (nameOf src a) (nameOf src b) (mapOf src (s .tree)) (mapOf src (s .tree))) → Applied src x s r
+    unfolding apply stepOf
+    renames-dir e h = tree-arm p e _ refl h f
+
+    pub copies : {a b g : NameRef} → x ≡ code.CopyFile a b g
+        → Holds src t (caseOption (look (nameOf src a, nameOf src g) (mapOf src (s .tree))) (mapOf src (s .tree)) (λ v. put (nameOf src b, nameOf src g) v (mapOf src (s .tree)))) → Applied src x s r
+    unfolding apply stepOf
+    copies e h = tree-arm p e _ refl h f
+
+    pub removes : {d g : NameRef} → x ≡ code.RemoveFile d g → Holds src t (del (nameOf src d, nameOf src g) (mapOf src (s .tree))) → Applied src x s r
+    unfolding apply stepOf
+    removes e h = tree-arm p e _ refl h f
+
+    pub removes-dir : {d : NameRef} → x ≡ code.RemoveDirectory d → Holds src t (removeDir (nameOf src d) (mapOf src (s .tree))) → Applied src x s r
+    unfolding apply stepOf
+    removes-dir e h = tree-arm p e _ refl h f
+
+  pub unstages : {t : Table} {g z : NameRef} → r ≡ record { tree = s .tree; staging = t; log = s .log; open_mark = s .open_mark } → x ≡ code.RemoveStaging g → Names src z [] → Holds src t (del (nameOf src z, nameOf src g) (mapOf src (s .staging))) → Applied src x s r
+  unfolding apply stepOf
+  unstages f e z h = staging-arm p e _ refl (rw (z .same) at h) f
+
+  -- A staging file moved: first the tree, then the staging files.
+  pub moves : {t u : Table} {q : Store} {g d k z w : NameRef} → q ≡ record { tree = t; staging = s .staging; log = s .log; open_mark = s .open_mark } → r ≡ record { tree = q .tree; staging = u; log = q .log; open_mark = q .open_mark }
+      → x ≡ code.MoveStaged g d k → Names src z [] → Names src w []
+      → Holds src t (caseOption (look (nameOf src z, nameOf src g) (mapOf src (s .staging))) (mapOf src (s .tree)) (λ v. put (nameOf src d, nameOf src k) v (mapOf src (s .tree))))
+      → Holds src u (del (nameOf src w, nameOf src g) (mapOf src (s .staging))) → Applied src x s r
+  unfolding apply stepOf
+  moves {t} {u} {q} f₁ f₂ e z w h k =
+      in-arm p e (f₂ ∙ ap (λ (v : Store). record { tree = v .tree; staging = u; log = v .log; open_mark = v .open_mark }) f₁)
+      (record { tree = h .sound; staging = k .sound; log = p .0 .0 .sound .log })
+      (λ i. record { tree = (rw (z .same) at (h .same)) i; staging = (rw (w .same) at (k .same)) i; log = logBytes src (s .log); openMark = s .open_mark })
+
+-- The others: "Syncs change nothing here."
+abbrev syncs : List ℕ
+syncs = 1 ∷ 2 ∷ 4 ∷ 5 ∷ 14 ∷ []
+
+sync-idle : (src : Bytes) (u : model.Store) (x : Step) → OneOf syncs (tagOf the-type x) → u ≡ apply (stepOf src x) u
+unfolding apply stepOf
+sync-idle src u code.RewriteHeader h = not-here syncs 0 refl h
+sync-idle src u code.SyncStaging h = refl
+sync-idle src u code.SyncLog h = refl
+sync-idle src u code.RemoveLog h = not-here syncs 3 refl h
+sync-idle src u code.SyncJournal h = refl
+sync-idle src u code.SyncCollections h = refl
+sync-idle src u (code.MakeDirectory d) h = not-here syncs 6 refl h
+sync-idle src u (code.RenameFile d a b) h = not-here syncs 7 refl h
+sync-idle src u (code.MoveStaged f d k) h = not-here syncs 8 refl h
+sync-idle src u (code.RenameDirectory a b) h = not-here syncs 9 refl h
+sync-idle src u (code.CopyFile a b f) h = not-here syncs 10 refl h
+sync-idle src u (code.RemoveFile d f) h = not-here syncs 11 refl h
+sync-idle src u (code.RemoveDirectory d) h = not-here syncs 12 refl h
+sync-idle src u (code.RemoveStaging f) h = not-here syncs 13 refl h
+sync-idle src u (code.SyncDirectory d) h = refl
+
+pub idles : {src : Bytes} {s : Store} (x : Step) → Ready src x s → OneOf (1 ∷ 2 ∷ 4 ∷ 5 ∷ 14 ∷ []) (tagOf the-type x) → Applied src x s s
+idles {src} {s} x p h = applied p (p .0 .0 .sound) (sync-idle src (storeOf src s) x h)

@@ -1,0 +1,8 @@
+pub mod Room
+pub mod Found
+pub mod Files
+pub mod Arms
+pub mod Faults
+pub mod Applying
+pub mod Running
+pub mod Joined

@@ -1,0 +1,77 @@
+-- `fault`: each arm tells what its step fails with.
+use borrow.Author.Needs.{needs}
+use mathlib.Core.Path.{sym, _∙_}
+use Rattle.store.specs.Stores.{storeOf}
+use Rattle.steps.proofs.Arms.{names-of}
+use Rattle.steps.proofs.Faults.{few-dirs, many-dirs, moves, target, copies, never}
+use Rattle.steps.proofs.fault.Statement.{statement}
+use Rattle.steps.proofs.fault.Tie as tie
+
+enum-told : tie.Need-enum-told
+enum-told c = search needs
+
+count-requires : tie.Need-count-requires
+count-requires c κs = search needs
+
+enum-known-x : tie.Need-enum-known-x
+enum-known-x c = search needs
+
+empty-requires : tie.Need-empty-requires
+empty-requires c κs = search needs
+
+from-held-requires : tie.Need-from-held-requires
+from-held-requires c κs = ((c .before .before .before .before .before .pre .0 .tree, c .before .before .before .before .before .pre .0 .staging), ((c .empty .ensures _ .sound, names-of (c .before .before .before .before .before .pre .1) (c .before .before .x .given .1) .0), (names-of (c .before .before .before .before .before .pre .1) (c .before .before .x .given .1) .1 .0, names-of (c .before .before .before .before .before .pre .1) (c .before .before .x .given .1) .1 .1 .sound)))
+
+enum-known-x-2 : tie.Need-enum-known-x-2
+enum-known-x-2 c = search needs
+
+any-file-requires : tie.Need-any-file-requires
+any-file-requires c κs = (c .before .before .before .before .pre .0 .tree, names-of (c .before .before .before .before .pre .1) (c .before .x2 .given .1) .1)
+
+enum-known-x-3 : tie.Need-enum-known-x-3
+enum-known-x-3 c = search needs
+
+from-held-requires-2 : tie.Need-from-held-requires-2
+from-held-requires-2 c κs = ((c .before .before .before .before .pre .0 .tree, c .before .before .before .before .pre .0 .tree), ((names-of (c .before .before .before .before .pre .1) (c .before .x3 .given .1) .0, names-of (c .before .before .before .before .pre .1) (c .before .x3 .given .1) .1 .1 .sound), (names-of (c .before .before .before .before .pre .1) (c .before .x3 .given .1) .1 .0, names-of (c .before .before .before .before .pre .1) (c .before .x3 .given .1) .1 .1 .sound)))
+
+returns : tie.Need-returns
+returns c = few-dirs _ (storeOf _ (c .before .before .before .before .before .before .args .s)) (c .before .before .before .enum-told .given .1) (c .before .before .count .ensures) (c .if1 .taken)
+
+returns-2 : tie.Need-returns-2
+returns-2 c = many-dirs _ (storeOf _ (c .before .before .before .before .before .before .args .s)) (c .before .before .before .enum-told .given .1) (c .before .before .count .ensures) (c .if1 .left)
+
+returns-3 : tie.Need-returns-3
+returns-3 c = moves _ (storeOf _ (c .before .before .before .before .before .before .args .s)) (c .before .before .before .x .given .1) (c .before .empty .ensures _) (c .from-held .ensures)
+
+returns-4 : tie.Need-returns-4
+returns-4 c = target _ (storeOf _ (c .before .before .before .before .before .before .args .s)) (c .before .before .before .x2 .given .1) (names-of (c .before .before .before .before .before .before .pre .1) (c .before .before .before .x2 .given .1) .1) (sym (c .if2 .taken) ∙ c .before .any-file .ensures)
+
+returns-5 : tie.Need-returns-5
+returns-5 c = target _ (storeOf _ (c .before .before .before .before .before .before .args .s)) (c .before .before .before .x2 .given .1) (names-of (c .before .before .before .before .before .before .pre .1) (c .before .before .before .x2 .given .1) .1) (sym (c .if2 .left) ∙ c .before .any-file .ensures)
+
+returns-6 : tie.Need-returns-6
+returns-6 c = copies _ (storeOf _ (c .before .before .before .before .before .args .s)) (c .before .before .x3 .given .1) (c .from-held2 .ensures)
+
+returns-7 : tie.Need-returns-7
+returns-7 c = never _ (storeOf _ (c .before .before .args .s)) (c .before .before .args .x) (c .before .before .pre .1) (c .match .keys5)
+
+pub fault-spec : {M : Type 1} → statement M
+fault-spec =
+    tie.close
+    (tie.spec
+    enum-told
+    count-requires
+    enum-known-x
+    empty-requires
+    from-held-requires
+    enum-known-x-2
+    any-file-requires
+    enum-known-x-3
+    from-held-requires-2
+    returns
+    returns-2
+    returns-3
+    returns-4
+    returns-5
+    returns-6
+    returns-7)

@@ -1,0 +1,434 @@
+// The file steps on a store by value, and runs of them with a budget: 01, Listings and file steps.
+ghost use mathlib.Core.Path.{_≡_};
+ghost use mathlib.Core.Option.{some};
+ghost use mathlib.Core.Bool.{true, false};
+ghost use mathlib.Core.List.{[], _∷_, _++_};
+ghost use Prim.Native.Nat.{_+_, _-_, _<_, _≤_};
+ghost use lib.ListN.{length};
+ghost use Rattle.model.specs.Base.{Bytes, caseOption, ifEmpty};
+ghost use Rattle.model.specs.Map.{look, put, del};
+ghost use Rattle.model.specs.Field.{encodeField};
+ghost use Rattle.model.specs.Store.{files};
+ghost use Rattle.model.specs.Step.{fails, newFile, zeroSeparated, stepField};
+ghost use Rattle.model.specs.Answers.{commitNumber};
+ghost use Rattle.field.specs.Writing.{written, field};
+ghost use Rattle.spans.specs.Spans.{nameOf, lengthOf, Sound};
+ghost use Rattle.store.specs.Places.{tableRoom};
+ghost use Rattle.store.specs.Tables.{keyOf, mapOf, SoundTable, Holds};
+ghost use Rattle.store.specs.Stores.{storeOf, SoundStore};
+ghost use Rattle.plans.specs.Machine.{single};
+ghost use Rattle.plans.specs.ModelPlans.{plain, careful, fault};
+ghost use Rattle.steps.specs.Steps.{stepOf, SoundStep, Fits, Allowed, Applied};
+ghost use Rattle.steps.specs.Fields.{Writes};
+ghost use Rattle.steps.specs.CodeRuns.{SoundRun, Fresh, Follows, Refuses};
+use spans::NameRef;
+use store::Held;
+use store::LogRef;
+use store::Node;
+use store::Store;
+use store::Table;
+
+// 01, How a store is handed over: "At most 16 directories, 128 files".
+const DIR_LIMIT: usize = 16;
+
+const FILE_LIMIT: usize = 128;
+
+// 01, Sixteen numbers: "14. A commit step fails", "15. A commit step needs a 17th directory or a 129th file."
+const FAILS: u32 = 14;
+
+const FULL: u32 = 15;
+
+// The file steps, each with its names in the order of 01, Listings and file steps.
+pub enum Step {
+    RewriteHeader,
+    SyncStaging,
+    SyncLog,
+    RemoveLog,
+    SyncJournal,
+    SyncCollections,
+    MakeDirectory(NameRef),
+    RenameFile(NameRef, NameRef, NameRef),
+    MoveStaged(NameRef, NameRef, NameRef),
+    RenameDirectory(NameRef, NameRef),
+    CopyFile(NameRef, NameRef, NameRef),
+    RemoveFile(NameRef, NameRef),
+    RemoveDirectory(NameRef),
+    RemoveStaging(NameRef),
+    SyncDirectory(NameRef),
+}
+
+// A store on which steps are done: where `limited`, only `left` more. `stopped`: a step was due with none left. `refusal`: the number of
+// the step that failed, 0 for none. `last`: the step that was done last.
+pub struct Run {
+    pub store: Store,
+    pub limited: bool,
+    pub left: u64,
+    pub stopped: bool,
+    pub refusal: u32,
+    pub last: Step,
+}
+
+// The tree with a file or a directory, in place of one at the same place.
+fn put_in(src: &[u8], t: Table, dir: NameRef, file: NameRef, number: u32) -> Table
+    requires { ⌜ (SoundTable (now src) t × (Sound (now src) dir × Sound (now src) file)) × (length (mapOf (now src) t) < tableRoom) ⌝ }
+    ensures { λ r. ⌜ Holds (now (src .entry)) r (put (keyOf (now (src .entry)) dir file) number (mapOf (now (src .entry)) t)) ⌝ }
+{
+    store::put(
+        src,
+        t,
+        Node {
+            dir: dir,
+            file: file,
+            number: number,
+        },
+    )
+}
+
+// The tree with a file renamed, its target replaced.
+fn rename_file(src: &[u8], t: Table, dir: NameRef, from: NameRef, to: NameRef) -> Table
+    requires { ⌜ (SoundTable (now src) t × Sound (now src) dir) × (Sound (now src) from × Sound (now src) to) ⌝ }
+    ensures { λ r. ⌜ Holds (now (src .entry)) r (caseOption (look (keyOf (now (src .entry)) dir from) (mapOf (now (src .entry)) t)) (mapOf (now (src .entry)) t) (λ x. put (keyOf (now (src .entry)) dir to) x (del (keyOf (now (src .entry)) dir from) (mapOf (now (src .entry)) t)))) ⌝ }
+{
+    let h = store::look(src, t, dir, from);
+    match h {
+        Held::Nothing => t,
+        Held::Number(n) => {
+            let u = store::del(src, t, dir, from);
+            put_in(src, u, dir, to, n)
+        }
+    }
+}
+
+// The tree with a number that another table holds put at a place, if it holds one.
+fn put_held(
+    src: &[u8],
+    t: Table,
+    from: Table,
+    a: NameRef,
+    f: NameRef,
+    dir: NameRef,
+    file: NameRef,
+) -> Table
+    requires { ⌜ ((SoundTable (now src) t × SoundTable (now src) from) × (length (mapOf (now src) t) < tableRoom)) × ((Sound (now src) a × Sound (now src) f) × (Sound (now src) dir × Sound (now src) file)) ⌝ }
+    ensures { λ r. ⌜ Holds (now (src .entry)) r (caseOption (look (keyOf (now (src .entry)) a f) (mapOf (now (src .entry)) from)) (mapOf (now (src .entry)) t) (λ x. put (keyOf (now (src .entry)) dir file) x (mapOf (now (src .entry)) t))) ⌝ }
+{
+    let h = store::look(src, from, a, f);
+    match h {
+        Held::Nothing => t,
+        Held::Number(n) => put_in(src, t, dir, file, n),
+    }
+}
+
+// A store with another tree, with other staging files, with another log.
+fn with_tree(s: Store, t: Table) -> Store
+    ensures { λ r. ⌜ r ≡ record { tree = t; staging = s .staging; log = s .log; open_mark = s .open_mark } ⌝ }
+{
+    let mut r = s;
+    r.tree = t;
+    r
+}
+
+fn with_staging(s: Store, t: Table) -> Store
+    ensures { λ r. ⌜ r ≡ record { tree = s .tree; staging = t; log = s .log; open_mark = s .open_mark } ⌝ }
+{
+    let mut r = s;
+    r.staging = t;
+    r
+}
+
+fn with_log(s: Store, l: LogRef) -> Store
+    ensures { λ r. ⌜ r ≡ record { tree = s .tree; staging = s .staging; log = l; open_mark = s .open_mark } ⌝ }
+{
+    let mut r = s;
+    r.log = l;
+    r
+}
+
+// The log with its header rewritten, and no log.
+fn marked(l: LogRef) -> LogRef
+    ensures { λ r. ⌜ r ≡ record { start = l .start; len = l .len; stands = l .stands; marked = true } ⌝ }
+{
+    let mut r = l;
+    r.marked = true;
+    r
+}
+
+fn removed(l: LogRef) -> LogRef
+    ensures { λ r. ⌜ r ≡ record { start = l .start; len = l .len; stands = false; marked = l .marked } ⌝ }
+{
+    let mut r = l;
+    r.stands = false;
+    r
+}
+
+// What a step makes of a store.
+pub fn apply(src: &[u8], s: Store, x: Step) -> Store
+    requires { ⌜ (Fits (now src) s × SoundStep (now src) x) × Allowed (stepOf (now src) x) (storeOf (now src) s) ⌝ }
+    ensures { λ r. ⌜ Applied (now (src .entry)) x s r ⌝ }
+{
+    match x {
+        Step::RewriteHeader => with_log(s, marked(s.log)),
+        Step::RemoveLog => with_log(s, removed(s.log)),
+        Step::MakeDirectory(d) => with_tree(s, put_in(src, s.tree, d, spans::empty(), 0)),
+        Step::RenameFile(d, a, b) => with_tree(s, rename_file(src, s.tree, d, a, b)),
+        Step::MoveStaged(f, d, k) => {
+            let r = with_tree(s, put_held(src, s.tree, s.staging, spans::empty(), f, d, k));
+            with_staging(r, store::del(src, s.staging, spans::empty(), f))
+        }
+        Step::RenameDirectory(a, b) => with_tree(s, store::rename_dir(src, s.tree, a, b)),
+        Step::CopyFile(a, b, f) => with_tree(s, put_held(src, s.tree, s.tree, a, f, b, f)),
+        Step::RemoveFile(d, f) => with_tree(s, store::del(src, s.tree, d, f)),
+        Step::RemoveDirectory(d) => with_tree(s, store::remove_dir(src, s.tree, d)),
+        Step::RemoveStaging(f) => with_staging(s, store::del(src, s.staging, spans::empty(), f)),
+        _ => s,
+    }
+}
+
+// Whether a directory holds a file.
+fn any_file(src: &[u8], t: Table, dir: NameRef) -> bool
+    requires { ⌜ SoundTable (now src) t × Sound (now src) dir ⌝ }
+    ensures { λ r. ⌜ r ≡ ifEmpty (files (nameOf (now (src .entry)) dir) (mapOf (now (src .entry)) t)) false true ⌝ }
+{
+    let n = t.len;
+    let mut i: usize = 0;
+    while i < n {
+        let x = t.nodes[i];
+        let xd = x.dir;
+        let xf = x.file;
+        if spans::length_of(xf) > 0 {
+            if spans::same(src, dir, xd) {
+                return true;
+            }
+        }
+        i += 1;
+    }
+    false
+}
+
+// 15 where a file at a place would be one too many, else 0.
+fn new_file(src: &[u8], t: Table, dir: NameRef, file: NameRef) -> u32
+    requires { ⌜ SoundTable (now src) t × (Sound (now src) dir × Sound (now src) file) ⌝ }
+    ensures { λ r. ⌜ r ≡ commitNumber (newFile (keyOf (now (src .entry)) dir file) (mapOf (now (src .entry)) t)) ⌝ }
+{
+    let h = store::look(src, t, dir, file);
+    match h {
+        Held::Number(_) => 0,
+        Held::Nothing => {
+            let n = store::count(src, t);
+            if n.files < FILE_LIMIT { 0 } else { FULL }
+        }
+    }
+}
+
+// 14 where a table holds nothing at a place, else whether there is room for a file at another.
+fn from_held(
+    src: &[u8],
+    t: Table,
+    from: Table,
+    a: NameRef,
+    f: NameRef,
+    dir: NameRef,
+    file: NameRef,
+) -> u32
+    requires { ⌜ (SoundTable (now src) t × SoundTable (now src) from) × ((Sound (now src) a × Sound (now src) f) × (Sound (now src) dir × Sound (now src) file)) ⌝ }
+    ensures { λ r. ⌜ r ≡ commitNumber (caseOption (look (keyOf (now (src .entry)) a f) (mapOf (now (src .entry)) from)) (some fails) (λ x. newFile (keyOf (now (src .entry)) dir file) (mapOf (now (src .entry)) t))) ⌝ }
+{
+    let h = store::look(src, from, a, f);
+    match h {
+        Held::Nothing => FAILS,
+        Held::Number(_) => new_file(src, t, dir, file),
+    }
+}
+
+// The number that a step fails with, 0 for none: 01, Sixteen numbers, 14 and 15.
+pub fn fault(src: &[u8], s: Store, x: Step) -> u32
+    requires { ⌜ SoundStore (now src) s × SoundStep (now src) x ⌝ }
+    ensures { λ r. ⌜ r ≡ fault (stepOf (now (src .entry)) x) (storeOf (now (src .entry)) s) ⌝ }
+{
+    match x {
+        Step::MakeDirectory(_) => {
+            let n = store::count(src, s.tree);
+            if n.dirs < DIR_LIMIT { 0 } else { FULL }
+        }
+        Step::MoveStaged(f, d, k) => from_held(src, s.tree, s.staging, spans::empty(), f, d, k),
+        Step::RenameDirectory(_, b) => { if any_file(src, s.tree, b) { FAILS } else { 0 } }
+        Step::CopyFile(a, b, f) => from_held(src, s.tree, s.tree, a, f, b, f),
+        _ => 0,
+    }
+}
+
+// One less, and 0 for 0.
+fn one_less(n: u64) -> u64
+    ensures { λ r. ⌜ r ≡ n - 1 ⌝ }
+{
+    if n == 0 { 0 } else { n - 1 }
+}
+
+// A run of which no step is done yet.
+pub fn start(store: Store, limited: bool, left: u64) -> Run
+    ensures { λ r. ⌜ Fresh store limited left r ⌝ }
+{
+    Run {
+        store: store,
+        limited: limited,
+        left: left,
+        stopped: false,
+        refusal: 0,
+        last: Step::SyncJournal,
+    }
+}
+
+// One step of a run that cannot fail: none where the run has stopped, and with no step left it stops.
+pub fn advance(src: &[u8], run: Run, x: Step) -> Run
+    requires { ⌜ (SoundRun (now src) run × SoundStep (now src) x) × Allowed (stepOf (now src) x) (storeOf (now src) (run .store)) ⌝ }
+    ensures { λ r. ⌜ Follows plain (now (src .entry)) (single (stepOf (now (src .entry)) x)) run r ⌝ }
+{
+    let stopped = run.stopped;
+    if stopped {
+        return run;
+    }
+    let limited = run.limited;
+    let left = run.left;
+    if limited {
+        if left == 0 {
+            let mut r = run;
+            r.stopped = true;
+            return r;
+        }
+    }
+    let next = apply(src, run.store, x);
+    Run {
+        store: next,
+        limited: limited,
+        left: one_less(left),
+        stopped: false,
+        refusal: run.refusal,
+        last: x,
+    }
+}
+
+// One step of a run that may fail: none where the run is over. A failing step is not counted, changes nothing, and its number is kept.
+pub fn attempt(src: &[u8], run: Run, x: Step) -> Run
+    requires { ⌜ SoundRun (now src) run × SoundStep (now src) x ⌝ }
+    ensures { λ r. ⌜ Follows careful (now (src .entry)) (single (stepOf (now (src .entry)) x)) run r ⌝ }
+{
+    let stopped = run.stopped;
+    if stopped {
+        return run;
+    }
+    let refusal = run.refusal;
+    if refusal != 0 {
+        return run;
+    }
+    let n = fault(src, run.store, x);
+    if n != 0 {
+        let mut r = run;
+        r.refusal = n;
+        return r;
+    }
+    advance(src, run, x)
+}
+
+// A step that fails with 14 and is not made: its backup name is too long, or the collection to copy is missing.
+pub fn refuse(run: Run) -> Run
+    ensures { λ r. ⌜ ((src : Bytes) → Refuses src run r) ⌝ }
+{
+    let stopped = run.stopped;
+    if stopped {
+        return run;
+    }
+    let refusal = run.refusal;
+    if refusal != 0 {
+        return run;
+    }
+    let mut r = run;
+    r.refusal = FAILS;
+    r
+}
+
+// A field of a tag alone. It returns how long the field is; one that has no room is not written.
+fn write_tag(tag: u8, out: &mut [u8]) -> usize
+    ensures { λ r. ⌜ Writes (encodeField (field tag [])) (now (out .entry)) (now (out .exit)) r ⌝ }
+{
+    field::put_field_head(out, 0, tag, 0);
+    3
+}
+
+// The same with a name.
+fn write_one(src: &[u8], tag: u8, a: NameRef, out: &mut [u8]) -> usize
+    requires { ⌜ Sound (now src) a ⌝ }
+    ensures { λ r. ⌜ Writes (encodeField (field tag (nameOf (now (src .entry)) a))) (now (out .entry)) (now (out .exit)) r ⌝ }
+{
+    names::put_name_field(src, a, out, 0, tag);
+    3 + spans::length_of(a)
+}
+
+// A zero byte and a name written at `at`, and the place behind them.
+fn put_next(src: &[u8], r: NameRef, out: &mut [u8], at: usize) -> usize
+    requires { ⌜ Sound (now src) r × (at + 1 + lengthOf r ≤ length (now out)) ⌝ }
+    ensures { λ n. ⌜ (now (out .exit) ≡ written at (0 ∷ nameOf (now (src .entry)) r) (now (out .entry))) × (n ≡ at + 1 + lengthOf r) ⌝ }
+{
+    field::put_u8(out, at, 0);
+    names::put_name(src, r, out, at + 1);
+    at + 1 + spans::length_of(r)
+}
+
+// Two names behind a field's head, and the place behind them.
+fn put_two(src: &[u8], a: NameRef, b: NameRef, out: &mut [u8]) -> usize
+    requires { ⌜ (Sound (now src) a × Sound (now src) b) × (3 + lengthOf a + 1 + lengthOf b ≤ length (now out)) ⌝ }
+    ensures { λ n. ⌜ (now (out .exit) ≡ written 3 (nameOf (now (src .entry)) a ++ 0 ∷ nameOf (now (src .entry)) b) (now (out .entry))) × (n ≡ 3 + lengthOf a + 1 + lengthOf b) ⌝ }
+{
+    names::put_name(src, a, out, 3);
+    put_next(src, b, out, 3 + spans::length_of(a))
+}
+
+// A field of two names.
+fn write_two(src: &[u8], tag: u8, a: NameRef, b: NameRef, out: &mut [u8]) -> usize
+    requires { ⌜ Sound (now src) a × Sound (now src) b ⌝ }
+    ensures { λ r. ⌜ Writes (encodeField (field tag (zeroSeparated (nameOf (now (src .entry)) a ∷ nameOf (now (src .entry)) b ∷ [])))) (now (out .entry)) (now (out .exit)) r ⌝ }
+{
+    let n = spans::length_of(a) + 1 + spans::length_of(b);
+    if out.len() < 3 + n {
+        return 3 + n;
+    }
+    field::put_field_head(out, 0, tag, n as u16);
+    put_two(src, a, b, out)
+}
+
+// A field of three names.
+fn write_three(src: &[u8], tag: u8, a: NameRef, b: NameRef, c: NameRef, out: &mut [u8]) -> usize
+    requires { ⌜ (Sound (now src) a × Sound (now src) b) × Sound (now src) c ⌝ }
+    ensures { λ r. ⌜ Writes (encodeField (field tag (zeroSeparated (nameOf (now (src .entry)) a ∷ nameOf (now (src .entry)) b ∷ nameOf (now (src .entry)) c ∷ [])))) (now (out .entry)) (now (out .exit)) r ⌝ }
+{
+    let n = spans::length_of(a) + 1 + spans::length_of(b) + 1 + spans::length_of(c);
+    if out.len() < 3 + n {
+        return 3 + n;
+    }
+    field::put_field_head(out, 0, tag, n as u16);
+    let at = put_two(src, a, b, out);
+    put_next(src, c, out, at)
+}
+
+// The field of a step: 01, Listings and file steps, "A step is one field; names inside are parted by a zero byte."
+pub fn write_step(src: &[u8], x: Step, out: &mut [u8]) -> usize
+    requires { ⌜ SoundStep (now src) x ⌝ }
+    ensures { λ r. ⌜ Writes (stepField (stepOf (now (src .entry)) x)) (now (out .entry)) (now (out .exit)) r ⌝ }
+{
+    match x {
+        Step::RewriteHeader => write_tag(0x20, out),
+        Step::SyncStaging => write_tag(0x21, out),
+        Step::SyncLog => write_tag(0x22, out),
+        Step::MakeDirectory(d) => write_one(src, 0x23, d, out),
+        Step::RenameFile(d, a, b) => write_three(src, 0x24, d, a, b, out),
+        Step::MoveStaged(f, d, k) => write_three(src, 0x25, f, d, k, out),
+        Step::RenameDirectory(a, b) => write_two(src, 0x26, a, b, out),
+        Step::CopyFile(a, b, f) => write_three(src, 0x27, a, b, f, out),
+        Step::RemoveFile(d, f) => write_two(src, 0x28, d, f, out),
+        Step::RemoveDirectory(d) => write_one(src, 0x29, d, out),
+        Step::RemoveLog => write_tag(0x2B, out),
+        Step::RemoveStaging(f) => write_one(src, 0x2C, f, out),
+        Step::SyncDirectory(d) => write_one(src, 0x2D, d, out),
+        Step::SyncCollections => write_tag(0x2D, out),
+        Step::SyncJournal => write_tag(0x2E, out),
+    }
+}

@@ -4,14 +4,14 @@ use mathlib.Core.Bool.{true, false}
 use mathlib.Core.List.{_++_, append-assoc}
 use Prim.Native.Nat.{ℕ, _+_, _≤_, _<_}
 use native.Mathlib.Omega.{arith}
-use lib.ListN.{length, length-append}
+use lib.ListN.{length, drop, length-append}
 use borrow.Author.Tests.{le-leb, lt-leb}
 use Rattle.model.specs.Base.{Bytes}
 use Rattle.model.specs.Field.{encodeFields}
 use Rattle.model.specs.Image.{logField, markField, encode}
 use Rattle.laws.specs.ImageLaws.{encode-parts}
 use Rattle.field.specs.Writing.{written}
-use Rattle.field.proofs.Written.{written-full, length-written, written-then}
+use Rattle.field.proofs.Written.{written-full, length-written, written-then, written-front}
 use Rattle.store.specs.declared.Store.{Store}
 use Rattle.store.specs.Stores.{logBytes, storeOf, SoundStore}
 use Rattle.encode.specs.Sizes.{NodesSize, LogSize}
@@ -74,3 +74,8 @@ module _ {src : Bytes} {s : Store} (h : SoundStore src s) {a g l m : ℕ} (A : N
                   v (omega (arith, tree-size, staging-size, log-size)) (omega arith)
                   ∙ ap (λ (b : Bytes). written 0 b out) (sym grouped);
             }
+
+-- For callers: where the image has room, it stands at the front, and the bytes behind it are as they were.
+pub in-room : {image out after : Bytes} {n : ℕ} → Encodes image out after n → length image ≤ length out → (n ≡ length image) × (after ≡ image ++ drop (length image) out)
+unfolding writtenCount
+in-room {image} {out} e h = (e .count ∙ rw (le-leb (length image) (length out) h), e .same ∙ written-front image out h)

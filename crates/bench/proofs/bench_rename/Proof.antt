@@ -39,8 +39,7 @@ enum-known-b c = search needs
 renames-requires : tie.Need-renames-requires
 renames-requires c κs =
     let d = c .before .before .before .before .before .before .before .before .before .before .before .before .before .decode .ensures in
-    let x = sound-at (c .before .before .before .before .before .before .before .before .before .before .before .before .before .before .before .args .at) _ (d .sound .tree) (omega arith) in
-    (
+    let x = sound-at (c .before .before .before .before .before .before .before .before .before .before .before .before .before .before .before .args .at) _ (d .sound .tree) (omega arith) in (
       started _ _ d (c .before .before .before .before .before .before .before .before .before .before .if1 .taken),
       (x .dir, (file-name _ _ (x .file) _ (c .before .before .before .before .before .length-of .ensures .0) (omega arith), backup-name _ _ _ _ (c .before .before .before .backup .ensures) (c .before .b .given .1))),
     )

@@ -12,7 +12,7 @@ use Rattle.store.specs.declared.Table.{Table}
 use Rattle.local_storage.specs.declared.LocalStorage.{LocalStorage}
 use Rattle.local_storage.specs.declared.Recorded.{Recorded}
 use Rattle.local_storage.specs.declared.Transaction.{Transaction}
-use Rattle.local_storage.specs.declared.Tail.the-variants.{Nothing, Header}
+use Rattle.wal.specs.declared.Tail.the-variants.{Nothing, Header}
 use Rattle.local_storage.specs.Recording.{refusedWith, Answers, Opens, Discarded}
 use Rattle.local_storage.proofs.Opened.{none-open, some-open}
 use Rattle.local_storage.proofs.Outcomes.{refused}

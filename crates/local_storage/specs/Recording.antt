@@ -12,23 +12,22 @@ use Rattle.model.specs.Map.{Map, look, put}
 use Rattle.model.specs.Base.{Bytes, if_then_else_, isSome}
 use Rattle.model.specs.Name.{validName, lower}
 use Rattle.model.specs.Operation.{Op}
-use Rattle.model.specs.Log.{Journal, absent, recording, committing, header}
+use Rattle.model.specs.Log.{Journal, absent, recording, committing}
 use Rattle.model.specs.Store as model
 use Rattle.model.specs.Store.{stagingKey, validNumber}
-use Rattle.model.specs.Record.{Outcome, refuse, give, transaction, recordInto, appended}
+use Rattle.model.specs.Record.{Outcome, refuse, give, transaction, recordInto}
 use Rattle.spans.specs.Spans.{nameOf, Names}
 use Rattle.spans.specs.declared.NameRef.{NameRef}
 use Rattle.store.specs.Tables.{mapOf}
 use Rattle.store.specs.Stores.{storeOf, logBytes, SoundStore}
 use Rattle.store.specs.declared.Store.{Store}
-use Rattle.transaction.specs.Operations.{opOf, SoundOp}
 use Rattle.transaction.specs.declared.Operation.{Operation}
 use Rattle.wal.specs.Logs.{opsRead, SoundRead}
+use Rattle.wal.specs.Tails.{withTail, SoundTail}
 use Rattle.wal.specs.declared.Ending.{Ending}
 use Rattle.wal.specs.declared.Ending.the-variants.{Whole, Truncated, Undecodable, TooMany}
+use Rattle.wal.specs.declared.Tail.the-variants.{Nothing, Entry}
 use Rattle.local_storage.specs.declared.LocalStorage.{LocalStorage}
-use Rattle.local_storage.specs.declared.Tail.{Tail}
-use Rattle.local_storage.specs.declared.Tail.the-variants.{Nothing, Header, Entry}
 use Rattle.local_storage.specs.declared.Recorded.{Recorded}
 use Rattle.local_storage.specs.declared.Transaction.{Transaction}
 
@@ -40,17 +39,6 @@ pub record Ready (src : Bytes) (s : Store) : Type 0 where
 
 abbrev pub storageOf : Bytes → LocalStorage → model.Store
 storageOf src s = storeOf src (s .store)
-
--- The store with its log as the image is to have it.
-abbrev pub withTail : Bytes → Tail → model.Store → model.Store
-withTail src Nothing s = s
-withTail src Header s = record { tree = s .tree; staging = s .staging; log = some (header 0); openMark = s .openMark }
-withTail src (Entry o) s = appended (opOf src o) s
-
-abbrev pub SoundTail : Bytes → Tail → Type 0
-SoundTail src Nothing = Unit {0}
-SoundTail src Header = Unit {0}
-SoundTail src (Entry o) = SoundOp src o
 
 abbrev pub handedOn : Bytes → Recorded → model.Store
 handedOn src r = withTail src (r .tail) (storageOf src (r .storage))

@@ -21,17 +21,11 @@ use store::Table;
 use transaction::Operation;
 use wal::Ending;
 use wal::Status;
+use wal::Tail;
 use wal::WalRead;
 
 pub struct LocalStorage {
     pub store: Store,
-}
-
-// How the log is written into the image: as it stands; as the header of a new one; with an operation's entry behind it.
-pub enum Tail {
-    Nothing,
-    Header,
-    Entry(Operation),
 }
 
 // A refusal's number, or 0 with the store handed on.

@@ -37,7 +37,7 @@ use wal::Status;
 use wal::WalRead;
 
 // Whether a place holds something.
-fn exists(src: &[u8], t: Table, dir: NameRef, file: NameRef) -> bool
+pub fn exists(src: &[u8], t: Table, dir: NameRef, file: NameRef) -> bool
     requires { ⌜ SoundTable (now src) t × (Sound (now src) dir × Sound (now src) file) ⌝ }
     ensures { λ r. ⌜ r ≡ isSome (look (keyOf (now (src .entry)) dir file) (mapOf (now (src .entry)) t)) ⌝ }
 {
@@ -49,7 +49,7 @@ fn exists(src: &[u8], t: Table, dir: NameRef, file: NameRef) -> bool
 }
 
 // Whether a directory stands.
-fn dir_exists(src: &[u8], t: Table, dir: NameRef) -> bool
+pub fn dir_exists(src: &[u8], t: Table, dir: NameRef) -> bool
     requires { ⌜ SoundTable (now src) t × Sound (now src) dir ⌝ }
     ensures { λ r. ⌜ r ≡ isSome (look (nameOf (now (src .entry)) dir, []) (mapOf (now (src .entry)) t)) ⌝ }
 {
@@ -193,7 +193,7 @@ fn is_dir_empty(src: &[u8], t: Table, dir: NameRef) -> bool
 }
 
 // Whether a node is a file of a directory.
-fn is_file_of(src: &[u8], x: Node, dir: NameRef) -> bool
+pub fn is_file_of(src: &[u8], x: Node, dir: NameRef) -> bool
     requires { ⌜ SoundNode (now src) x × Sound (now src) dir ⌝ }
     ensures { λ r. ⌜ r ≡ isFileOf (nameOf (now (src .entry)) dir) (nodeOf (now (src .entry)) x) ⌝ }
 {

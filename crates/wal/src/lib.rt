@@ -52,6 +52,13 @@ pub struct WalRead {
     pub ending: Ending,
 }
 
+// How a log is written into an image: as it stands; as the header of a new one; with an operation's entry behind it.
+pub enum Tail {
+    Nothing,
+    Header,
+    Entry(Operation),
+}
+
 const NO_NAME: NameRef = NameRef {
     start: 0,
     len: 0,

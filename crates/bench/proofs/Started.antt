@@ -19,7 +19,8 @@ use Rattle.laws.specs.Tests.{leb-le}
 use Rattle.laws.specs.ImageLaws.{parts, decode-only}
 use Rattle.decode.specs.Decoding.{Decodes}
 use Rattle.decode.specs.declared.Decoded.{Decoded}
-use Rattle.steps.specs.Steps.{Fits, FileName}
+use Rattle.steps.specs.Steps.{SoundStep, Fits, FileName}
+use Rattle.steps.specs.declared.Step.the-variants.{CopyFile}
 
 pub started : (src : Bytes) (d : Decoded) → Decodes src d → d .ok ≡ true → Fits src (d .store)
 started src d h e =
@@ -45,3 +46,7 @@ backup-name src r q b k e =
     let m = ap length (n .same) in
     let a = length-append (nameOf src r) (0x2E ∷ backupExtension) in
     record { sound = n .sound; some = omega arith }
+
+-- A copy into another directory and back.
+pub copies : {src : Bytes} {a b f : NameRef} → Sound src a → Sound src b → FileName src f → SoundStep src (CopyFile a b f) × SoundStep src (CopyFile b a f)
+copies a b f = (record { names = (a, (b, f)) }, record { names = (b, (a, f)) })

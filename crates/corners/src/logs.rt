@@ -93,6 +93,22 @@ fn walked(log: &[u8], status: &[u8]) {
     }
 }
 
+// A log of one entry and so many bytes more.
+fn behind(what: &[u8], n: u16) {
+    read(what, longer(with_entries(with_header(0), 1), n));
+}
+
+// "1 to 7 bytes after the last entry".
+fn cut_off() {
+    behind(b"1 byte after the last entry", 1);
+    behind(b"2 bytes after the last entry", 2);
+    behind(b"3 bytes after the last entry", 3);
+    behind(b"4 bytes after the last entry", 4);
+    behind(b"5 bytes after the last entry", 5);
+    behind(b"6 bytes after the last entry", 6);
+    behind(b"7 bytes after the last entry", 7);
+}
+
 pub fn run() {
     text::heading(b"wal.rs");
     read(b"first byte not 0xCA", changed(with_header(0), 0, 0xCB));
@@ -102,14 +118,7 @@ pub fn run() {
         b"bytes 2 and 3 hold anything",
         changed(changed(with_header(0), 2, 0xFF), 3, 0xFF),
     );
-    read(
-        b"1 byte after the last entry",
-        longer(with_entries(with_header(0), 1), 1),
-    );
-    read(
-        b"7 bytes after the last entry",
-        longer(with_entries(with_header(0), 1), 7),
-    );
+    cut_off();
     read(
         b"payload past the end",
         changed(with_entries(with_header(0), 2), 28, 9),

@@ -15,7 +15,7 @@ use Rattle.model.specs.Base.{Bytes}
 use Rattle.model.specs.Name.{validName}
 use Rattle.model.specs.Field.{fromLittleEndian}
 use Rattle.laws.specs.ListLaws.{part-length, drop-take}
-use Rattle.laws.specs.Tests.{all-at}
+use Rattle.laws.specs.Tests.{all-at, all-take, all-drop}
 use Rattle.laws.specs.FieldLaws.{Byte}
 use Rattle.laws.specs.ValidNames.{valid-length}
 use Rattle.laws.specs.TreeLaws.{below-lt, isDir, isFile}
@@ -27,7 +27,6 @@ use Rattle.field.proofs.Fields.{number-there}
 use Rattle.spans.specs.declared.NameRef.{NameRef}
 use Rattle.spans.specs.Spans.{nameOf, Names}
 use Rattle.store.specs.Tables.{keyOf, nodeOf}
-use Rattle.store.proofs.Lists.{all-take, all-drop}
 use Rattle.decode.specs.declared.Spot.{Spot}
 use Rattle.decode.specs.Listing.{fileTag, own, filesOf, isBelow}
 use Rattle.decode.specs.Spots.{SoundSpot, FitsAt, Follows, Breaks, AtField, InDir}

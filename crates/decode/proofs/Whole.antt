@@ -129,6 +129,7 @@ module _ {src : Bytes} {t g : NodesPart} {l : LogPart} {m : MarkPart} (T : Reads
   pub decided : (ok : Bool) → ok ≡ ((t .ok && g .ok) && (l .ok && (m .ok && eqb (m .next) (length src)))) → Decodes src (record { ok = ok; store = joined t g l m })
   decided ok e = record {
     sound = record { tree = T .sound; staging = G .sound; log = L .sound };
+    plain = L .plain;
     accepted = λ z. accepted (read z);
     refused = λ z. no z (decode src) refl;
   }
@@ -153,6 +154,7 @@ pub too-long : (src : Bytes) {t g : Table} → imageRoom < length src → Holds 
     Decodes src (record { ok = false; store = record { tree = t; staging = g; log = record { start = 0; len = 0; stands = false; marked = false }; «open_mark» = false } })
 too-long src {t} {g} h T G = record {
   sound = record { tree = T .sound; staging = G .sound; log = record { inside = omega arith } };
+  plain = refl;
   accepted = λ z. absurd (false≢true z);
   refused = λ z. no (decode src) refl;
 }

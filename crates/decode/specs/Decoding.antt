@@ -23,8 +23,10 @@ pub record ReadsNodes (staged : Bool) (src : Bytes) (at : ℕ) (r : NodesPart) :
   pub sound : SoundTable src (r .table)
   pub reads : Reads (map (listed staged)) (Formed staged) (own staged) src at (r .ok) (mapOf src (r .table)) (r .next)
 
+-- Its header is as the image has it.
 pub record ReadsLog (src : Bytes) (at : ℕ) (r : LogPart) : Type 0 where
   pub sound : SoundLog src (r .log)
+  pub plain : r .log .marked ≡ false
   pub reads : Reads logField LogFits (λ t. eqb t 0x13) src at (r .ok) (logBytes src (r .log)) (r .next)
 
 pub record ReadsMark (src : Bytes) (at : ℕ) (r : MarkPart) : Type 0 where
@@ -33,5 +35,6 @@ pub record ReadsMark (src : Bytes) (at : ℕ) (r : MarkPart) : Type 0 where
 -- 01, Sixteen numbers: "1. The image breaks its layout or a limit." The store of the image; an image that the definition refuses is refused.
 pub record Decodes (src : Bytes) (r : Decoded) : Type 0 where
   pub sound : SoundStore src (r .store)
+  pub plain : r .store .log .marked ≡ false
   pub accepted : r .ok ≡ true → decode src ≡ some (storeOf src (r .store))
   pub refused : r .ok ≡ false → decode src ≡ none

@@ -5,7 +5,6 @@ use mathlib.Core.List.{[], _++_, map}
 use Prim.Native.Nat.{ℕ, _+_, _*_, _-_, _≤_, _<_}
 use native.Mathlib.Omega.{arith}
 use lib.ListN.{length, take, drop, getD, length-append}
-use Rattle.model.specs.Map as model
 use Rattle.model.specs.Base.{Bytes}
 use Rattle.model.specs.Field.{encodeField, encodeFields}
 use Rattle.model.specs.Log.{markCommitting}

@@ -1,4 +1,5 @@
 pub mod Shapes
 pub mod Counting
 pub mod Placing
+pub mod Tails
 pub mod Image

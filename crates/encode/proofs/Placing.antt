@@ -2,20 +2,18 @@
 use mathlib.Core.Path.{_≡_, refl, sym, ap, _∙_}
 use mathlib.Core.Bool.{Bool, true, false}
 use mathlib.Core.List.{_∷_, _++_}
+use mathlib.Core.Option.{Option, some}
 use Prim.Native.Nat.{ℕ, _+_, _-_, _≤_, _<_}
 use native.Mathlib.Omega.{arith}
 use lib.ListN.{length, take, drop, getD, length-append, length-drop}
 use lib.Seq.{drop-drop}
 use native.Mathlib.Decide.{decLe}
-use Rattle.model.specs.Map as model
 use Rattle.model.specs.Base.{Bytes}
-use Rattle.model.specs.Field.{littleEndian, encodeField, encodeFields}
+use Rattle.model.specs.Field.{littleEndian, encodeField}
 use Rattle.model.specs.Log.{header, markCommitting}
-use Rattle.model.specs.Image.{logField}
-use Rattle.model.specs.Store as stores
 use Rattle.laws.specs.ListLaws.{take-zero, part-length, drop-take}
-use Rattle.field.specs.Writing.{written, field, writtenField}
-use Rattle.field.proofs.Written.{written-none, written-nil, length-written, written-written, written-then, encoded-length, field-short, field-written}
+use Rattle.field.specs.Writing.{written, field}
+use Rattle.field.proofs.Written.{written-none, written-nil, length-written, written-written, written-then, encoded-length}
 use Rattle.spans.specs.declared.NameRef.{NameRef}
 use Rattle.spans.specs.Spans.{nameOf, lengthOf, Sound}
 use Rattle.spans.proofs.Parts.{length-name}
@@ -26,21 +24,18 @@ use Rattle.store.specs.Tables.{mapOf, SoundTable}
 use Rattle.store.specs.Stores.{logBytes}
 use Rattle.store.proofs.Lists.{drop-zero}
 use Rattle.store.proofs.Live.{sound-at}
+use Rattle.encode.specs.Logs.{logStart}
 use Rattle.encode.specs.Sizes.{NodeSize}
-use Rattle.encode.proofs.Shapes.{header-length, log-absent, log-plain, log-marked, log-field}
+use Rattle.encode.proofs.Shapes.{header-length, log-absent, log-plain, log-marked, start-length, start-head}
 use Rattle.encode.proofs.Counting.{bytesOf, bytesAt, bytesFrom, next-bytes, next-length, last-bytes}
 
--- A field whose value is written in two parts: a number and a name, a header and the entries.
-module _ (at tag n : ℕ) (a b out : Bytes) (short : length (a ++ b) ≤ 0xFFFF) (e : n ≡ length (a ++ b)) where
-  pub two-written : (next : ℕ) {first mid end : Bytes} → first ≡ written at (tag ∷ littleEndian 2 n) out → mid ≡ written (at + 3) a first → end ≡ written next b mid → next ≡ at + 3 + length a → 3 + n ≤ length out - at → end ≡ written at (encodeField (field tag (a ++ b))) out
-  two-written next {first} p q r z h =
-      let l : length first ≡ length out = ap length p ∙ length-written at (tag ∷ littleEndian 2 n) out in
-      let m : length (a ++ b) ≡ length a + length b = length-append a b in
-      field-written at tag (a ++ b) out short (at + 3) (p ∙ ap (λ (k : ℕ). written at (tag ∷ littleEndian 2 k) out) e) (written-then (at + 3) next a b first q r z (omega arith)) refl (omega arith)
-      ∙ field-short at (field tag (a ++ b)) out short
-
-  pub two-none : length out - at < 3 + n → out ≡ written at (encodeField (field tag (a ++ b))) out
-  two-none h = written-none at (encodeField (field tag (a ++ b))) out (omega (arith, encoded-length (field tag (a ++ b))))
+-- Tag and length, and a value behind them that is written in two parts: a number and a name, a header and the entries.
+pub two-written : (at tag n : ℕ) (a b out : Bytes) (next : ℕ) {first mid end : Bytes} → first ≡ written at (tag ∷ littleEndian 2 n) out → mid ≡ written (at + 3) a first → end ≡ written next b mid → next ≡ at + 3 + length a → 3 + length (a ++ b) ≤ length out - at → end ≡ written at (tag ∷ littleEndian 2 n ++ (a ++ b)) out
+unfolding littleEndian
+two-written at tag n a b out next {first} p q r z h =
+    let l : length first ≡ length out = ap length p ∙ length-written at (tag ∷ littleEndian 2 n) out in
+    let m : length (a ++ b) ≡ length a + length b = length-append a b in
+    written-then at (at + 3) (tag ∷ littleEndian 2 n) (a ++ b) out p (written-then (at + 3) next a b first q r z (omega arith)) refl (omega arith)
 
 -- The rest of a log behind its header.
 pub behind-header : (src : Bytes) (start len h : ℕ) → h ≤ len → len - h ≡ len - 8 → take (start + len - (start + h)) (drop (start + h) src) ≡ drop 8 (take len (drop start src))
@@ -62,44 +57,58 @@ module _ {src : Bytes} {r : NameRef} (s : Sound src r) (at tag x n : ℕ) (out :
   unfolding littleEndian
   numbered-value = omega (arith, length-name s)
 
-  numbered-short : length (littleEndian 4 x ++ nameOf src r) ≤ 0xFFFF
-  numbered-short = omega (arith, numbered-value, s .room)
-
   pub numbered-written : {first mid end : Bytes} → first ≡ written at (tag ∷ littleEndian 2 (4 + n)) out → mid ≡ written (at + 3) (littleEndian 4 x) first → end ≡ written (at + 7) (nameOf src r) mid → 7 + n ≤ length out - at → end ≡ written at (encodeField (field tag (littleEndian 4 x ++ nameOf src r))) out
-  numbered-written p q u h = two-written at tag (4 + n) (littleEndian 4 x) (nameOf src r) out numbered-short numbered-value (at + 7) p q u (unfold littleEndian in omega arith) (omega arith)
+  unfolding encodeField
+  numbered-written p q u h =
+      two-written at tag (4 + n) (littleEndian 4 x) (nameOf src r) out (at + 7) p q u (unfold littleEndian in omega arith) (omega (arith, numbered-value))
+      ∙ ap (λ (k : ℕ). written at (tag ∷ littleEndian 2 k ++ (littleEndian 4 x ++ nameOf src r)) out) numbered-value
 
   pub numbered-none : length out - at < 7 + n → out ≡ written at (encodeField (field tag (littleEndian 4 x ++ nameOf src r))) out
-  numbered-none h = two-none at tag (4 + n) (littleEndian 4 x) (nameOf src r) out numbered-short numbered-value (omega arith)
+  numbered-none h = written-none at (encodeField (field tag (littleEndian 4 x ++ nameOf src r))) out (omega (arith, encoded-length (field tag (littleEndian 4 x ++ nameOf src r)), numbered-value))
+
+-- No room for a log.
+start-none : (at more : ℕ) (v out : Bytes) → length out - at < 3 + length v → out ≡ written at (logStart more (some v)) out
+start-none at more v out h = written-none at (logStart more (some v)) out (omega (arith, start-length more v))
 
 -- A header rewritten, and the rest of the log.
-module _ (src : Bytes) (start len h at : ℕ) (out : Bytes) (fits : start + len ≤ length src) (small : len < 65536) (l : h ≤ len) (e : len - h ≡ len - 8) where
+module _ (src : Bytes) (start len h more at : ℕ) (out : Bytes) (fits : start + len ≤ length src) (l : h ≤ len) (e : len - h ≡ len - 8) where
   marked-value : 8 + (len - h) ≡ length (header 1 ++ drop 8 (take len (drop start src)))
-  marked-value = omega (arith, length-append (header 1) (drop 8 (take len (drop start src))), header-length, length-drop 8 (take len (drop start src)), part-length src start len fits)
+  marked-value = omega (arith, length-append (header 1) (drop 8 (take len (drop start src))), header-length 1, length-drop 8 (take len (drop start src)), part-length src start len fits)
 
-  pub marked-written : {first mid end : Bytes} → first ≡ written at (0x13 ∷ littleEndian 2 (8 + (len - h))) out → mid ≡ written (at + 3) (header 1) first → end ≡ written (at + 11) (take (start + len - (start + h)) (drop (start + h) src)) mid → 11 + (len - h) ≤ length out - at → end ≡ written at (encodeField (field 0x13 (markCommitting (take len (drop start src))))) out
+  pub marked-written : (k : ℕ) {first mid end : Bytes} → littleEndian 2 k ≡ littleEndian 2 (8 + (len - h) + more) → first ≡ written at (0x13 ∷ littleEndian 2 k) out → mid ≡ written (at + 3) (header 1) first → end ≡ written (at + 11) (take (start + len - (start + h)) (drop (start + h) src)) mid → 11 + (len - h) ≤ length out - at → end ≡ written at (logStart more (some (markCommitting (take len (drop start src))))) out
   unfolding markCommitting
-  marked-written {first} {mid} p q u z =
-      two-written at 0x13 (8 + (len - h)) (header 1) (drop 8 (take len (drop start src))) out (omega (arith, marked-value)) marked-value (at + 11) p q (u ∙ ap (λ (b : Bytes). written (at + 11) b mid) (behind-header src start len h l e)) (omega (arith, header-length)) (omega arith)
+  marked-written k {first} {mid} w p q u z =
+      two-written at 0x13 k (header 1) (drop 8 (take len (drop start src))) out (at + 11) p q (u ∙ ap (λ (b : Bytes). written (at + 11) b mid) (behind-header src start len h l e)) (omega (arith, header-length 1)) (omega (arith, marked-value))
+      ∙ ap (λ (b : Bytes). written at b out) (start-head k (8 + (len - h)) more (header 1 ++ drop 8 (take len (drop start src))) w marked-value)
 
-  pub marked-none : length out - at < 11 + (len - h) → out ≡ written at (encodeField (field 0x13 (markCommitting (take len (drop start src))))) out
+  pub marked-none : length out - at < 11 + (len - h) → out ≡ written at (logStart more (some (markCommitting (take len (drop start src))))) out
   unfolding markCommitting
-  marked-none z = two-none at 0x13 (8 + (len - h)) (header 1) (drop 8 (take len (drop start src))) out (omega (arith, marked-value)) marked-value (omega arith)
+  marked-none z = start-none at more (header 1 ++ drop 8 (take len (drop start src))) out (omega (arith, marked-value))
 
 -- The log.
-module _ (src : Bytes) (l : LogRef) (at : ℕ) (out : Bytes) where
-  pub log-none : l .stands ≡ false → out ≡ written at (encodeFields (logField (logBytes src l))) out
-  unfolding encodeFields
+module _ (src : Bytes) (l : LogRef) (more at : ℕ) (out : Bytes) where
+  pub log-none : l .stands ≡ false → out ≡ written at (logStart more (logBytes src l)) out
+  unfolding logStart
   log-none e = rw (log-absent src l e) (sym (written-nil at out))
 
   module _ {start len : ℕ} (p : start ≡ l .start) (q : len ≡ l .len) (e : l .stands ≡ true) where
-    pub log-rewritten : {after : Bytes} → l .marked ≡ true → after ≡ written at (encodeField (field 0x13 (markCommitting (take len (drop start src))))) out → after ≡ written at (encodeFields (logField (logBytes src l))) out
-    log-rewritten f w = w ∙ rw (p, q) (ap (λ (b : Bytes). written at b out) (sym (log-field (log-marked src l e f))))
+    pub log-rewritten : {after : Bytes} → l .marked ≡ true → after ≡ written at (logStart more (some (markCommitting (take len (drop start src))))) out → after ≡ written at (logStart more (logBytes src l)) out
+    log-rewritten f w = w ∙ rw (p, q) (ap (λ (o : Option Bytes). written at (logStart more o) out) (sym (log-marked src l e f)))
 
-    pub log-copied : {after : Bytes} → l .marked ≡ false → len < 65536 → start + len ≤ length src → after ≡ writtenField at (field 0x13 (take (start + len - start) (drop start src))) out → after ≡ written at (encodeFields (logField (logBytes src l))) out
-    log-copied f b h w =
-        let n : start + len - start ≡ len = omega arith in
-        let v : length (take len (drop start src)) ≤ 0xFFFF = omega (arith, part-length src start len h) in
-        (rw n at w) ∙ field-short at (field 0x13 (take len (drop start src))) out v ∙ rw (p, q) (ap (λ (b : Bytes). written at b out) (sym (log-field (log-plain src l e f))))
+    module _ (f : l .marked ≡ false) (s : start + len ≤ length src) where
+      plain : written at (logStart more (some (take len (drop start src)))) out ≡ written at (logStart more (logBytes src l)) out
+      plain = rw (p, q) (ap (λ (o : Option Bytes). written at (logStart more o) out) (sym (log-plain src l e f)))
+
+      pub log-copied : (k : ℕ) {first end : Bytes} → littleEndian 2 k ≡ littleEndian 2 (len + more) → first ≡ written at (0x13 ∷ littleEndian 2 k) out → end ≡ written (at + 3) (take (start + len - start) (drop start src)) first → 3 + len ≤ length out - at → end ≡ written at (logStart more (logBytes src l)) out
+      unfolding littleEndian
+      log-copied k w u v h =
+          let n : start + len - start ≡ len = omega arith in
+          let z : len ≡ length (take len (drop start src)) = sym (part-length src start len s) in
+          written-then at (at + 3) (0x13 ∷ littleEndian 2 k) (take len (drop start src)) out u (rw n at v) refl (omega arith)
+          ∙ ap (λ (b : Bytes). written at b out) (start-head k len more (take len (drop start src)) w z) ∙ plain
+
+      pub log-roomless : length out - at < 3 + len → out ≡ written at (logStart more (logBytes src l)) out
+      log-roomless h = start-none at more (take len (drop start src)) out (omega (arith, part-length src start len s)) ∙ plain
 
 -- The loop over the nodes: what is left to write, over what stands, gives what the whole gives.
 pub record Placing (staged : Bool) (src : Bytes) (t : Table) (at : ℕ) (out now : Bytes) (p i : ℕ) : Type 0 where

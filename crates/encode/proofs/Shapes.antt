@@ -8,7 +8,7 @@ use native.Mathlib.Omega.{arith}
 use lib.ListN.{length, take, drop, length-append, length-drop}
 use Rattle.model.specs.Order.{Name}
 use Rattle.model.specs.Map as model
-use Rattle.model.specs.Base.{Bytes, ifEmpty}
+use Rattle.model.specs.Base.{Bytes, if_then_else_, ifEmpty}
 use Rattle.model.specs.Field.{Field, littleEndian, encodeField, encodeFields}
 use Rattle.model.specs.Log.{header, markCommitting}
 use Rattle.model.specs.Image.{logField}
@@ -21,6 +21,7 @@ use Rattle.store.specs.declared.Node.{Node}
 use Rattle.store.specs.declared.LogRef.{LogRef}
 use Rattle.store.specs.Tables.{nodeOf, SoundNode}
 use Rattle.store.specs.Stores.{logBytes}
+use Rattle.encode.specs.Logs.{logStart}
 
 -- The bytes of one field.
 pub one-field : (f : Field) → encodeFields (f ∷ []) ≡ encodeField f
@@ -47,13 +48,13 @@ unfolding littleEndian
 numbered-length tag x f = encoded-length (field tag (littleEndian 4 x ++ f)) ∙ omega arith
 
 -- A log, and one with the header rewritten.
-pub header-length : length (header 1) ≡ 8
+pub header-length : (status : ℕ) → length (header status) ≡ 8
 unfolding header littleEndian
-header-length = refl
+header-length status = refl
 
 pub marked-length : (l : Bytes) → length (markCommitting l) ≡ 8 + (length l - 8)
 unfolding markCommitting
-marked-length l = omega (arith, length-append (header 1) (drop 8 l), header-length, length-drop 8 l)
+marked-length l = omega (arith, length-append (header 1) (drop 8 l), header-length 1, length-drop 8 l)
 
 -- The log that a store holds: none, as it stands, or marked.
 module _ (src : Bytes) (l : LogRef) where
@@ -69,11 +70,38 @@ module _ (src : Bytes) (l : LogRef) where
   unfolding logBytes
   log-marked e f = rw (e, f)
 
+-- The bytes of a log that stands.
+abbrev pub logValue : Bytes → LogRef → Bytes
+logValue src l = if l .marked then markCommitting (take (l .len) (drop (l .start) src)) else take (l .len) (drop (l .start) src)
+
+pub log-stands : (src : Bytes) (l : LogRef) → l .stands ≡ true → logBytes src l ≡ some (logValue src l)
+unfolding logBytes
+log-stands src l e = rw e
+
 pub log-field : {o : Option Bytes} {v : Bytes} → o ≡ some v → encodeFields (logField o) ≡ encodeField (field 0x13 v)
 log-field {o} {v} e = rw e (one-field (field 0x13 v))
 
 pub log-length : (v : Bytes) → length (encodeFields (logField (some v))) ≡ 3 + length v
 log-length v = ap length (one-field (field 0x13 v)) ∙ encoded-length (field 0x13 v)
+
+-- The log's field up to the end of the log, and what follows.
+pub start-length : (more : ℕ) (v : Bytes) → length (logStart more (some v)) ≡ 3 + length v
+unfolding logStart littleEndian
+start-length more v = omega arith
+
+pub start-whole : (o : Option Bytes) → logStart 0 o ≡ encodeFields (logField o)
+unfolding logStart encodeFields encodeField
+start-whole none = refl
+start-whole (some v) = let e : length v + 0 ≡ length v = omega arith in rw e (sym (one-field (field 0x13 v)))
+
+pub start-behind : (v e : Bytes) → logStart (length e) (some v) ++ e ≡ encodeFields (logField (some (v ++ e)))
+unfolding logStart encodeField littleEndian
+start-behind v e = rw (← (length-append v e)) (sym (one-field (field 0x13 (v ++ e))))
+
+-- Tag and length of that field.
+pub start-head : (k n more : ℕ) (v : Bytes) → littleEndian 2 k ≡ littleEndian 2 (n + more) → n ≡ length v → 0x13 ∷ littleEndian 2 k ++ v ≡ logStart more (some v)
+unfolding logStart
+start-head k n more v e l = rw (e, l)
 
 -- The field of a node that the code holds.
 module _ {staged : Bool} {src : Bytes} {x : Node} (s : SoundNode src x) where

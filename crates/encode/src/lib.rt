@@ -1,23 +1,31 @@
 // A store's image, written at the front of the lent output: 01, How a store is handed over.
 ghost use mathlib.Core.Path.{_≡_};
 ghost use mathlib.Core.List.{_++_, map};
+ghost use mathlib.Core.Option.{some};
 ghost use Prim.Native.Nat.{_+_, _-_, _≤_, _<_};
 ghost use lib.ListN.{length, take, drop};
 ghost use Rattle.model.specs.Field.{littleEndian, encodeField, encodeFields};
-ghost use Rattle.model.specs.Log.{markCommitting};
-ghost use Rattle.model.specs.Image.{logField, markField, encode};
+ghost use Rattle.model.specs.Operation.{encodePayload};
+ghost use Rattle.model.specs.Log.{header, entry, markCommitting};
+ghost use Rattle.model.specs.Image.{markField, encode};
 ghost use Rattle.laws.specs.ImageLaws.{listed};
 ghost use Rattle.field.specs.Writing.{written, field};
 ghost use Rattle.spans.specs.Spans.{nameOf, Sound};
 ghost use Rattle.store.specs.Tables.{nodeOf, mapOf, SoundNode, Sized, SoundTable};
 ghost use Rattle.store.specs.Stores.{logBytes, storeOf, SoundLog, SoundStore};
-ghost use Rattle.encode.specs.Sizes.{NodeSize, NodesSize, LogSize};
+ghost use Rattle.transaction.specs.Operations.{opOf, SoundOp};
+ghost use Rattle.wal.specs.Tails.{withTail, SoundTail};
+ghost use Rattle.wal.specs.declared.Tail.the-variants.{Entry};
+ghost use Rattle.encode.specs.Logs.{fieldAfter, logStart};
+ghost use Rattle.encode.specs.Sizes.{NodeSize, NodesSize, LogSize, entryBound, EntrySize, TailSize};
 ghost use Rattle.encode.specs.Encoding.{Encodes};
 use spans::NameRef;
 use store::LogRef;
 use store::Node;
 use store::Store;
 use store::Table;
+use transaction::Operation;
+use wal::Tail;
 
 fn wide(x: u16) -> usize
     ensures { λ r. ⌜ (r ≡ x) × (r < 65536) ⌝ }
@@ -30,6 +38,13 @@ fn header_of(len: usize) -> usize
     ensures { λ r. ⌜ (r ≤ 8) × ((r ≤ len) × (len - r ≡ len - 8)) ⌝ }
 {
     if len < 8 { len } else { 8 }
+}
+
+// What two bytes hold of a number.
+fn low(n: usize) -> u16
+    ensures { λ r. ⌜ littleEndian 2 r ≡ littleEndian 2 n ⌝ }
+{
+    (n % 0x1_0000) as u16
 }
 
 // How many bytes the field of a node has.
@@ -75,6 +90,32 @@ fn log_size(l: LogRef) -> usize
         return 11 + (n - header_of(n));
     }
     3 + n
+}
+
+// How many bytes the entry of an operation has.
+fn entry_size(src: &[u8], op: Operation) -> usize
+    requires { ⌜ SoundOp (now src) op ⌝ }
+    ensures { λ r. ⌜ EntrySize (now (src .entry)) op r ⌝ }
+{
+    let p = transaction::payload_of(src, op);
+    8 + p.len
+}
+
+// How many bytes the log's field has, with what stands behind the log.
+fn tail_size(src: &[u8], l: LogRef, tail: Tail) -> usize
+    requires { ⌜ SoundLog (now src) l × SoundTail (now src) tail ⌝ }
+    ensures { λ r. ⌜ TailSize (now (src .entry)) l tail r ⌝ }
+{
+    match tail {
+        Tail::Nothing => log_size(l),
+        Tail::Header => 11,
+        Tail::Entry(op) => {
+            if !l.stands {
+                return 0;
+            }
+            log_size(l) + entry_size(src, op)
+        }
+    }
 }
 
 fn mark_size(mark: bool) -> usize
@@ -130,26 +171,26 @@ fn put_nodes(src: &[u8], t: Table, staged: bool, out: &mut [u8], at: usize)
     }
 }
 
-// A log whose header was rewritten with Committing.
-fn put_marked(src: &[u8], start: usize, len: usize, out: &mut [u8], at: usize)
-    requires { ⌜ (start + len ≤ length (now src)) × (len < 65536) ⌝ }
-    ensures { λ _. ⌜ now (out .exit) ≡ written at (encodeField (field 0x13 (markCommitting (take len (drop start (now (src .entry))))))) (now (out .entry)) ⌝ }
+// A log whose header was rewritten with Committing, in a field that has `more` bytes behind it.
+fn put_marked(src: &[u8], start: usize, len: usize, more: usize, out: &mut [u8], at: usize)
+    requires { ⌜ (start + len ≤ length (now src)) × ((len < 65536) × (more ≤ entryBound)) ⌝ }
+    ensures { λ _. ⌜ now (out .exit) ≡ written at (logStart more (some (markCommitting (take len (drop start (now (src .entry))))))) (now (out .entry)) ⌝ }
 {
     let h = header_of(len);
     let n = len - h;
     let rest = start + h;
     let end = start + len;
     if 11 + n <= field::left(out.len(), at) {
-        field::put_field_head(out, at, 0x13, (8 + n) as u16);
+        field::put_field_head(out, at, 0x13, low(8 + n + more));
         wal::mark_committing(out, at + 3);
         field::put_bytes(out, at + 11, &src[rest..end]);
     }
 }
 
-// "the log, 0x13, absent if there is none"
-fn put_log(src: &[u8], l: LogRef, out: &mut [u8], at: usize)
-    requires { ⌜ SoundLog (now src) l ⌝ }
-    ensures { λ _. ⌜ now (out .exit) ≡ written at (encodeFields (logField (logBytes (now (src .entry)) l))) (now (out .entry)) ⌝ }
+// "the log, 0x13, absent if there is none", in a field that has `more` bytes behind it.
+fn put_log(src: &[u8], l: LogRef, more: usize, out: &mut [u8], at: usize)
+    requires { ⌜ SoundLog (now src) l × (more ≤ entryBound) ⌝ }
+    ensures { λ _. ⌜ now (out .exit) ≡ written at (logStart more (logBytes (now (src .entry)) l)) (now (out .entry)) ⌝ }
 {
     if !l.stands {
         return;
@@ -157,11 +198,55 @@ fn put_log(src: &[u8], l: LogRef, out: &mut [u8], at: usize)
     let start = wide(l.start);
     let len = wide(l.len);
     if l.marked {
-        put_marked(src, start, len, out, at);
+        put_marked(src, start, len, more, out, at);
         return;
     }
     let end = start + len;
-    field::write_field(out, at, 0x13, &src[start..end]);
+    if 3 + len <= field::left(out.len(), at) {
+        field::put_field_head(out, at, 0x13, low(len + more));
+        field::put_bytes(out, at + 3, &src[start..end]);
+    }
+}
+
+// The header of a new log: Recording (wal.rs, `create_wal`).
+fn put_header(out: &mut [u8], at: usize)
+    ensures { λ _. ⌜ now (out .exit) ≡ written at (encodeField (field 0x13 (header 0))) (now (out .entry)) ⌝ }
+{
+    let h = wal::encode_header(0);
+    field::write_field(out, at, 0x13, &h);
+}
+
+// The entry of an operation.
+fn put_entry(src: &[u8], op: Operation, out: &mut [u8], at: usize)
+    requires { ⌜ SoundOp (now src) op ⌝ }
+    ensures { λ _. ⌜ now (out .exit) ≡ written at (entry (encodePayload (opOf (now (src .entry)) op))) (now (out .entry)) ⌝ }
+{
+    wal::append_operation(src, op, out, at);
+}
+
+// The log with an operation's entry behind it (wal.rs, `append_operation`); nothing where no log stands.
+fn put_appended(src: &[u8], l: LogRef, op: Operation, out: &mut [u8], at: usize)
+    requires { ⌜ SoundLog (now src) l × (SoundOp (now src) op × (at + length (fieldAfter (now src) (Entry op) l) ≤ length (now out))) ⌝ }
+    ensures { λ _. ⌜ now (out .exit) ≡ written at (fieldAfter (now (src .entry)) (Entry op) l) (now (out .entry)) ⌝ }
+{
+    if !l.stands {
+        return;
+    }
+    let next = at + log_size(l);
+    put_log(src, l, entry_size(src, op), out, at);
+    put_entry(src, op, out, next);
+}
+
+// The log as it stands, that of a begun transaction, or the log with one more entry.
+fn put_tail(src: &[u8], l: LogRef, tail: Tail, out: &mut [u8], at: usize)
+    requires { ⌜ SoundLog (now src) l × (SoundTail (now src) tail × (at + length (fieldAfter (now src) tail l) ≤ length (now out))) ⌝ }
+    ensures { λ _. ⌜ now (out .exit) ≡ written at (fieldAfter (now (src .entry)) tail l) (now (out .entry)) ⌝ }
+{
+    match tail {
+        Tail::Nothing => put_log(src, l, 0, out, at),
+        Tail::Header => put_header(out, at),
+        Tail::Entry(op) => put_appended(src, l, op, out, at),
+    }
 }
 
 // "0x14 of length 0 if a transaction is open"
@@ -174,23 +259,23 @@ fn put_mark(mark: bool, out: &mut [u8], at: usize)
 }
 
 // "A store image is, in this order": written whole, or not at all where it has no room. The answer is how many bytes were written.
-pub fn encode(src: &[u8], s: Store, out: &mut [u8]) -> usize
-    requires { ⌜ SoundStore (now src) s ⌝ }
-    ensures { λ r. ⌜ Encodes (encode (storeOf (now (src .entry)) s)) (now (out .entry)) (now (out .exit)) r ⌝ }
+pub fn encode(src: &[u8], s: Store, tail: Tail, out: &mut [u8]) -> usize
+    requires { ⌜ SoundStore (now src) s × SoundTail (now src) tail ⌝ }
+    ensures { λ r. ⌜ Encodes (encode (withTail (now (src .entry)) tail (storeOf (now (src .entry)) s))) (now (out .entry)) (now (out .exit)) r ⌝ }
 {
     let tree = s.tree;
     let staging = s.staging;
     let log = s.log;
     let a = nodes_size(tree, false);
     let b = a + nodes_size(staging, true);
-    let c = b + log_size(log);
+    let c = b + tail_size(src, log, tail);
     let n = c + mark_size(s.open_mark);
     if out.len() < n {
         return 0;
     }
     put_nodes(src, tree, false, out, 0);
     put_nodes(src, staging, true, out, a);
-    put_log(src, log, out, b);
+    put_tail(src, log, tail, out, b);
     put_mark(s.open_mark, out, c);
     n
 }

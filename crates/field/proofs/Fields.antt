@@ -28,7 +28,7 @@ next s at k e h = rw (e, add-one) (drop-cons s at 0 h)
 three : (s : Bytes) (at : ℕ) → at + 3 ≤ length s → drop at s ≡ getD s at 0 ∷ getD s (at + 1) 0 ∷ getD s (at + 2) 0 ∷ drop (at + 3) s
 three s at h = rw (next s at (at + 1) refl (omega arith), next s (at + 1) (at + 2) (omega arith) (omega arith), next s (at + 2) (at + 3) (omega arith) (omega arith))
 
-four : (s : Bytes) (at : ℕ) → at + 4 ≤ length s → drop at s ≡ getD s at 0 ∷ getD s (at + 1) 0 ∷ getD s (at + 2) 0 ∷ getD s (at + 3) 0 ∷ drop (at + 4) s
+pub four : (s : Bytes) (at : ℕ) → at + 4 ≤ length s → drop at s ≡ getD s at 0 ∷ getD s (at + 1) 0 ∷ getD s (at + 2) 0 ∷ getD s (at + 3) 0 ∷ drop (at + 4) s
 four s at h = rw (three s at (omega arith), next s (at + 3) (at + 4) (omega arith) (omega arith))
 
 -- The number at a place: with four bytes there, as `u32_at` reads it, and without.

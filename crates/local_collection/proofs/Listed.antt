@@ -8,11 +8,12 @@ use native.Mathlib.Omega.{arith}
 use lib.ListN.{length, drop, getD, length-append}
 use Rattle.model.specs.Order.{Name}
 use Rattle.model.specs.Map as model
-use Rattle.model.specs.Base.{Bytes, if_then_else_, ifEmpty, sameBytes, flatMap}
+use Rattle.model.specs.Base.{Bytes, if_then_else_, sameBytes, flatMap}
 use Rattle.model.specs.Name.{lower, isBackup, isTmp}
 use Rattle.model.specs.Field.{encodeField}
 use Rattle.model.specs.Store.{Store, files}
 use Rattle.model.specs.Record.{otherCase, keyList}
+use Rattle.laws.specs.Tests.{and-both}
 use Rattle.field.specs.Writing.{written, field}
 use Rattle.field.proofs.Written.{written-written, written-nil, length-written}
 use Rattle.spans.specs.Spans.{nameOf, Sound}
@@ -22,9 +23,10 @@ use Rattle.store.specs.declared.Node.{Node}
 use Rattle.store.specs.declared.Table.{Table}
 use Rattle.store.specs.Tables.{nodeOf, mapOf, SoundNode, SoundTable}
 use Rattle.store.proofs.Live.{rest, finished, sound-at}
-use Rattle.store.proofs.Sweep.{by-same}
+use Rattle.store.specs.Nodes.{isFileOf}
+use Rattle.store.proofs.Nodes.{file-listed, not-listed, file-named}
 use Rattle.local_collection.specs.declared.OtherCase.the-variants.{Is, Nothing}
-use Rattle.local_collection.specs.Keys.{isKey, isFileOf, isKeyOf, keysOf, OtherCaseOf, Puts, Lists}
+use Rattle.local_collection.specs.Keys.{isKey, isKeyOf, keysOf, OtherCaseOf, Puts, Lists}
 
 -- The tests of the code, each in its two ways.
 module _ (f : Name) where
@@ -37,22 +39,6 @@ module _ (f : Name) where
   no-backup e = rw e
 
 module _ (d : Name) (n : model.Node) where
-  pub own-node : length (n .0 .1) ≡ 0 → false ≡ isFileOf d n
-  unfolding isFileOf
-  own-node h = go (n .0 .1) h
-    where
-      go : (f : Name) → length f ≡ 0 → false ≡ ifEmpty f false (sameBytes d (n .0 .0))
-      go [] h = refl
-      go (y ∷ ys) h = absurd (omega arith)
-
-  pub file-node : (length (n .0 .1) ≡ 0 → ⊥) → sameBytes d (n .0 .0) ≡ isFileOf d n
-  unfolding isFileOf
-  file-node h = go (n .0 .1) h
-    where
-      go : (f : Name) → (length f ≡ 0 → ⊥) → sameBytes d (n .0 .0) ≡ ifEmpty f false (sameBytes d (n .0 .0))
-      go [] h = absurd (h refl)
-      go (y ∷ ys) h = refl
-
   module _ {b : Bool} (e : b ≡ isFileOf d n) where
     pub no-file : not b ≡ true → false ≡ isKeyOf d n
     unfolding isKeyOf
@@ -72,24 +58,21 @@ module _ (d : Name) (n : model.Node) where
 
   -- A key has a name.
   pub key-named : isKeyOf d n ≡ true → 1 ≤ length (n .0 .1)
-  unfolding isKeyOf isFileOf
-  key-named e = go (n .0 .1) e
+  unfolding isKeyOf
+  key-named e = go (n .0 .1) (file-named d n (and-both (isFileOf d n) (isKey (n .0 .1)) e .0))
     where
-      go : (f : Name) → (ifEmpty f false (sameBytes d (n .0 .0)) && isKey f) ≡ true → 1 ≤ length f
-      go [] e = absurd (let z : _≡_ {A = Bool} false true = e in let y : _≡_ {A = ℕ} 0 1 = cc in omega arith)
-      go (y ∷ ys) e = omega arith
+      go : (f : Name) → (f ≡ [] → ⊥) → 1 ≤ length f
+      go [] h = absurd (h refl)
+      go (y ∷ ys) h = omega arith
 
   -- A listing with one node more in front.
   module _ (r : model.Map) where
     file-next : files d (n ∷ r) ≡ (if isFileOf d n then n .0 .1 ∷ files d r else files d r)
-    unfolding files isFileOf
-    file-next = by-same d (n .0 .0) (files d r) (ifEmpty (n .0 .1) (files d r) (n .0 .1 ∷ files d r)) refl ∙ go (sameBytes d (n .0 .0)) (n .0 .1)
+    file-next = go (isFileOf d n) refl
       where
-        go : (b : Bool) (f : Name) → (if b then ifEmpty f (files d r) (f ∷ files d r) else files d r) ≡ (if ifEmpty f false b then f ∷ files d r else files d r)
-        go true [] = refl
-        go false [] = refl
-        go true (y ∷ ys) = refl
-        go false (y ∷ ys) = refl
+        go : (b : Bool) → isFileOf d n ≡ b → files d (n ∷ r) ≡ (if b then n .0 .1 ∷ files d r else files d r)
+        go true e = file-listed d n r e
+        go false e = not-listed d n r e
 
     pub keys-next : keysOf d (n ∷ r) ≡ (if isKeyOf d n then encodeField (field 3 (lower (n .0 .1))) ++ keysOf d r else keysOf d r)
     unfolding keysOf isKeyOf isKey

@@ -3,11 +3,11 @@ use mathlib.Core.Path.{_≡_}
 use Prim.Native.Nat.{ℕ, _≤_}
 use mathlib.Core.List.{List, []}
 use mathlib.Core.Option.{Option, none, some}
-use mathlib.Core.Bool.{Bool, false, not, _&&_, _||_}
+use mathlib.Core.Bool.{Bool, not, _&&_, _||_}
 use lib.ListN.{length}
 use Rattle.model.specs.Order.{Name}
 use Rattle.model.specs.Map.{Node, Map}
-use Rattle.model.specs.Base.{Bytes, if_then_else_, ifEmpty, sameBytes, flatMap}
+use Rattle.model.specs.Base.{Bytes, if_then_else_, flatMap}
 use Rattle.model.specs.Name.{lower, isBackup, isTmp}
 use Rattle.model.specs.Field.{encodeField}
 use Rattle.model.specs.Store.{files}
@@ -15,6 +15,7 @@ use Rattle.model.specs.Record.{otherCase, caseRenamed}
 use Rattle.field.specs.Writing.{written, field}
 use Rattle.spans.specs.Spans.{nameOf}
 use Rattle.spans.specs.declared.NameRef.{NameRef}
+use Rattle.store.specs.Nodes.{isFileOf}
 use Rattle.store.specs.Stores.{storeOf}
 use Rattle.store.specs.declared.Store.{Store}
 use Rattle.steps.specs.Steps.{FileName, Fits}
@@ -25,10 +26,7 @@ use Rattle.local_collection.specs.declared.OtherCase.the-variants.{Is, N
 unfoldable pub isKey : Name → Bool
 isKey f = not (isBackup f) && not (isTmp f)
 
--- A node that is a file of a directory; one that is listed as a key.
-unfoldable pub isFileOf : Name → Node → Bool
-isFileOf d n = ifEmpty (n .0 .1) false (sameBytes d (n .0 .0))
-
+-- A file of a directory that is listed as a key.
 unfoldable pub isKeyOf : Name → Node → Bool
 isKeyOf d n = isFileOf d n && isKey (n .0 .1)
 

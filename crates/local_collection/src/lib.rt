@@ -11,7 +11,7 @@ ghost use Rattle.model.specs.Record.{keyList};
 ghost use Rattle.store.specs.Tables.{nodeOf, mapOf, SoundNode, SoundTable};
 ghost use Rattle.store.specs.Stores.{storeOf, SoundStore};
 ghost use Rattle.steps.specs.Steps.{FileName, Fits};
-ghost use Rattle.local_collection.specs.Keys.{isFileOf, isKey, isKeyOf, keysOf, Puts, Lists, OtherCaseOf, Normalized};
+ghost use Rattle.local_collection.specs.Keys.{isKey, isKeyOf, keysOf, Puts, Lists, OtherCaseOf, Normalized};
 use spans::NameRef;
 use steps::Step;
 use store::Held;
@@ -60,25 +60,12 @@ pub fn is_valid_key(src: &[u8], file: NameRef) -> bool
     !spans::is_tmp(src, file)
 }
 
-// Whether a node is a file of a directory.
-fn is_file_of(src: &[u8], x: Node, dir: NameRef) -> bool
-    requires { ⌜ SoundNode (now src) x × Sound (now src) dir ⌝ }
-    ensures { λ r. ⌜ r ≡ isFileOf (nameOf (now (src .entry)) dir) (nodeOf (now (src .entry)) x) ⌝ }
-{
-    let d = x.dir;
-    let f = x.file;
-    if spans::length_of(f) == 0 {
-        return false;
-    }
-    spans::same(src, dir, d)
-}
-
 // Whether a node is a file of a directory that is listed as a key.
 fn is_key_of(src: &[u8], x: Node, dir: NameRef) -> bool
     requires { ⌜ SoundNode (now src) x × Sound (now src) dir ⌝ }
     ensures { λ r. ⌜ r ≡ isKeyOf (nameOf (now (src .entry)) dir) (nodeOf (now (src .entry)) x) ⌝ }
 {
-    if !is_file_of(src, x, dir) {
+    if !store::is_file_of(src, x, dir) {
         return false;
     }
     let f = x.file;

@@ -1,30 +1,24 @@
 -- What a caller shows before a method, and what it reads off an answer.
-use mathlib.Core.Path.{_≡_, sym, ap, _∙_}
+use mathlib.Core.Path.{_≡_, sym, _∙_}
 use mathlib.Core.Bool.{Bool, true}
-use native.Mathlib.Omega.{arith}
-use lib.ListN.{length}
 use borrow.Author.Tests.{ne-eqb}
 use Rattle.model.specs.Order.{Name}
 use Rattle.model.specs.Base.{Bytes}
 use Rattle.model.specs.Name.{validName, lower}
 use Rattle.model.specs.Record.{Outcome, refuse, give}
 use Rattle.laws.specs.Tests.{and-both}
-use Rattle.laws.specs.ValidNames.{valid-length}
-use Rattle.spans.specs.Spans.{nameOf, Sound, Names}
+use Rattle.laws.specs.ValidNames.{valid-named}
+use Rattle.spans.specs.Spans.{Sound, Names}
 use Rattle.spans.specs.declared.NameRef.{NameRef}
-use Rattle.spans.proofs.Parts.{length-name}
 use Rattle.steps.specs.Steps.{FileName}
+use Rattle.steps.proofs.FileNames as files
 use Rattle.local_storage.specs.declared.LocalStorage.{LocalStorage}
 use Rattle.local_storage.specs.declared.Recorded.{Recorded}
 use Rattle.local_storage.specs.Recording.{handedOn, Answers, Given, GivenKey, GivenWrite}
 
 -- A valid name is a file's: it is not empty.
 pub file-name : {src : Bytes} {r : NameRef} {n : Name} → Names src r n → validName n ≡ true → FileName src r
-file-name {src} {r} {n} w v =
-    let l = valid-length n v in
-    let e = length-name (w .sound) in
-    let q : length (nameOf src r) ≡ length n = ap length (w .same) in
-    record { sound = w .sound; some = omega arith }
+file-name {n = n} w v = files.file-name (w .sound) (λ e. valid-named n v (sym (w .same) ∙ e))
 
 pub given-asks : {src : Bytes} {v : Bool} {r : NameRef} {n : Name} → Given src v r n → v ≡ true → Sound src r
 given-asks w h = w .names h .sound

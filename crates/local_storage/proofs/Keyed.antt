@@ -20,7 +20,7 @@ use Rattle.transaction.specs.declared.Operation.the-variants.{Write, Delete}
 use Rattle.local_collection.specs.Keys.{Normalized}
 use Rattle.local_storage.specs.declared.LocalStorage.{LocalStorage}
 use Rattle.local_storage.specs.declared.Recorded.{Recorded}
-use Rattle.local_storage.specs.Recording.{storageOf, refusedWith, recordedIn, Answers, GivenKey, GivenWrite, Admits, canStage, hasFile, Staged}
+use Rattle.local_storage.specs.Recording.{storageOf, refusedWith, recordedIn, Answers, GivenKey, GivenWrite, Admits, canStage, Staged}
 use Rattle.local_storage.proofs.Outcomes.{accepted, not-admitted, admitted, fails, holds}
 
 -- The store after the case rename, and whether the key stands there, by the given names.
@@ -28,7 +28,7 @@ module _ {src : Bytes} {v : Bool} {d f : NameRef} {c k : Name} (w : GivenKey src
   renamed-store : storeOf src s ≡ caseRenamed c (lower k) (storeOf src o)
   renamed-store = rw (← w .names (not-false v h) .same, ← w .keys (not-false v h) .same) (m .same)
 
-  key-stands : {b x : Bool} → b ≡ hasFile (nameOf src d) (nameOf src f) (mapOf src (s .tree)) → b ≡ x → isSome (look (c, lower k) (caseRenamed c (lower k) (storeOf src o) .tree)) ≡ x
+  key-stands : {b x : Bool} → b ≡ isSome (look (nameOf src d, nameOf src f) (mapOf src (s .tree))) → b ≡ x → isSome (look (c, lower k) (caseRenamed c (lower k) (storeOf src o) .tree)) ≡ x
   key-stands p q = rw (← renamed-store, ← w .names (not-false v h) .same, ← w .keys (not-false v h) .same) (sym p ∙ q)
 
 -- Whether a Write's staging file can be added, by the given name.
@@ -46,7 +46,7 @@ module _ {src : Bytes} {self : LocalStorage} {r : Recorded} {n : ℕ} (g : Sound
     delete-6 z h e = admitted a _ z (fails _ g (sym (w .valid) ∙ not-true v h) (omega arith) e)
 
     -- After the case rename.
-    module _ (z : n ≡ 0) (h : not v ≡ false) {s : Store} (m : Normalized src d f (self .store) s) {b : Bool} (p : b ≡ hasFile (nameOf src d) (nameOf src f) (mapOf src (s .tree))) where
+    module _ (z : n ≡ 0) (h : not v ≡ false) {s : Store} (m : Normalized src d f (self .store) s) {b : Bool} (p : b ≡ isSome (look (nameOf src d, nameOf src f) (mapOf src (s .tree)))) where
       pub delete-8 : not b ≡ true → r ≡ refusedWith self 8 → Answers src (recordDelete c k (storageOf src self)) self r
       unfolding recordDelete
       delete-8 q e = admitted a _ z (holds 6 _ (sym (w .valid) ∙ not-false v h) (fails _ g (key-stands w h m p (not-true b q)) (omega arith) e))

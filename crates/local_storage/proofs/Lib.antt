@@ -5,3 +5,4 @@ pub mod Stagings
 pub mod Collections
 pub mod Keyed
 pub mod Asked
+pub mod Finished

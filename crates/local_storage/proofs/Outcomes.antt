@@ -3,23 +3,20 @@ use mathlib.Core.Path.{_≡_, refl, sym, ap, subst, _∙_}
 use mathlib.Core.List.{[]}
 use mathlib.Core.Bool.{Bool, true, false}
 use Prim.Native.Nat.{ℕ}
-use lib.Dec.{eqb}
 use borrow.Author.Tests.{ne-eqb}
 use Rattle.model.specs.Base.{Bytes, isSome}
 use Rattle.model.specs.Map.{Map, look}
-use Rattle.model.specs.Order.{Name, Key}
+use Rattle.model.specs.Order.{Name}
 use Rattle.model.specs.Store as model
 use Rattle.model.specs.Record.{Outcome, refuse, give, require, recordInto, appended}
 use Rattle.spans.specs.Spans.{nameOf, Names}
 use Rattle.spans.specs.declared.NameRef.{NameRef}
-use Rattle.store.specs.Tables.{heldOf}
 use Rattle.store.specs.Stores.{storeOf, SoundStore}
-use Rattle.store.specs.declared.Held.{Held}
 use Rattle.transaction.specs.Operations.{opOf, SoundOp}
 use Rattle.transaction.specs.declared.Operation.{Operation}
 use Rattle.local_storage.specs.declared.LocalStorage.{LocalStorage}
 use Rattle.local_storage.specs.declared.Recorded.{Recorded}
-use Rattle.local_storage.specs.Recording.{refusedWith, recordedIn, Answers, Admits, hasFile}
+use Rattle.local_storage.specs.Recording.{refusedWith, recordedIn, Answers, Admits}
 
 module _ {src : Bytes} {self : LocalStorage} {r : Recorded} where
   pub refused : {o : Outcome} {n : ℕ} → SoundStore src (self .store) → r ≡ refusedWith self n → (n ≡ 0 → ⊥) → o ≡ refuse n → Answers src o self r
@@ -42,17 +39,6 @@ module _ {src : Bytes} {self : LocalStorage} {r : Recorded} where
   pub holds : {t : Bool} (n : ℕ) (next : Outcome) → t ≡ true → Answers src next self r → Answers src (require t n next) self r
   holds n next h w = rw h w
 
--- What a look found.
-abbrev pub isHeld : Held → Bool
-isHeld h = isSome (heldOf h)
-
-pub found-is : (k : Key) (m : Map) {h v : Held} → heldOf h ≡ look k m → h ≡ v → isHeld v ≡ isSome (look k m)
-found-is k m e p = ap isHeld (sym p) ∙ ap isSome e
-
--- At the empty name stand a directory's own node and the staging files.
-module _ {src : Bytes} {r : NameRef} (w : Names src r []) (n : Name) (m : Map) {b : Bool} where
-  pub own-place : b ≡ hasFile n (nameOf src r) m → b ≡ hasFile n [] m
-  own-place e = e ∙ ap (λ (f : Name). hasFile n f m) (w .same)
-
-  pub bare-place : b ≡ hasFile (nameOf src r) n m → b ≡ hasFile [] n m
-  bare-place e = e ∙ ap (λ (d : Name). hasFile d n m) (w .same)
+-- At the empty directory name stand the staging files.
+pub bare-place : {src : Bytes} {r : NameRef} → Names src r [] → (n : Name) (m : Map) {b : Bool} → b ≡ isSome (look (nameOf src r, n) m) → b ≡ isSome (look ([], n) m)
+bare-place w n m e = e ∙ ap (λ (d : Name). isSome (look (d, n) m)) (w .same)

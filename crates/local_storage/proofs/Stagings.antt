@@ -22,18 +22,18 @@ use Rattle.store.specs.declared.Store.{Store}
 use Rattle.store.specs.declared.Table.{Table}
 use Rattle.store.proofs.Room.{room-put}
 use Rattle.store.proofs.Live.{length-table}
-use Rattle.local_storage.specs.Recording.{canStage, hasFile, Staged}
+use Rattle.local_storage.specs.Recording.{canStage, Staged}
 
 module _ (f : Name) (x : ℕ) (m : Map) where
-  pub stands-already : hasFile [] f m ≡ true → false ≡ canStage f x m
+  pub stands-already : isSome (look ([], f) m) ≡ true → false ≡ canStage f x m
   unfolding canStage
   stands-already e = rw e
 
-  pub too-many : hasFile [] f m ≡ false → stagingLimit ≤ length m → false ≡ canStage f x m
+  pub too-many : isSome (look ([], f) m) ≡ false → stagingLimit ≤ length m → false ≡ canStage f x m
   unfolding canStage
   too-many e h = rw (e, le-leb stagingLimit (length m) h)
 
-  module _ (e : hasFile [] f m ≡ false) (h : length m < stagingLimit) where
+  module _ (e : isSome (look ([], f) m) ≡ false) (h : length m < stagingLimit) where
     pub no-number : x ≡ 0 → false ≡ canStage f x m
     unfolding canStage
     no-number z = rw (e, lt-leb stagingLimit (length m) h, z)

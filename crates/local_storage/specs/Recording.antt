@@ -107,10 +107,6 @@ pub record Admits (s : model.Store) (n : ℕ) : Type 0 where
   pub refuses : (n ≡ 0 → ⊥) → (next : Outcome) → recordInto s next ≡ refuse n
   pub passes : n ≡ 0 → (next : Outcome) → recordInto s next ≡ next
 
--- A file stands.
-abbrev pub hasFile : Name → Name → Map → Bool
-hasFile d f m = isSome (look (d, f) m)
-
 -- 01, Sixteen numbers: what 10 is not given for.
 unfoldable pub canStage : Name → ℕ → Map → Bool
 canStage f x m = not (isSome (look (stagingKey f) m)) && not (leb stagingLimit (length m)) && validNumber x

@@ -26,7 +26,7 @@ fn can_stage(src: &[u8], t: Table, staged: NameRef, number: u32) -> bool
     requires { ⌜ SoundTable (now src) t × Sound (now src) staged ⌝ }
     ensures { λ r. ⌜ r ≡ canStage (nameOf (now (src .entry)) staged) number (mapOf (now (src .entry)) t) ⌝ }
 {
-    if crate::has_file(src, t, spans::empty(), staged) {
+    if store::exists(src, t, spans::empty(), staged) {
         return false;
     }
     if STAGING_LIMIT <= t.len {
@@ -101,7 +101,7 @@ impl LocalStorage {
             return crate::refused(self, 6);
         }
         let s = local_collection::ensure_normalized_on_disk(src, self.store, collection, key);
-        if !crate::has_file(src, s.tree, collection, key) {
+        if !store::exists(src, s.tree, collection, key) {
             return crate::refused(self, 8);
         }
         crate::accepted(

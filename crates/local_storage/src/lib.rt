@@ -1,23 +1,24 @@
-// Begin, the recorded operations and rollback: local_storage.rs, and the methods of local_collection.rs that record. Each consumes the
-// store and hands it on. A given name is tested beforehand; where it is valid, it stands in the lent bytes, a key in lower case.
+// Begin, the recorded operations, commit and rollback: local_storage.rs, and the methods of local_collection.rs that record. Each consumes
+// the store and hands it on. A given name is tested beforehand; where it is valid, it stands in the lent bytes, a key in lower case.
 ghost use mathlib.Core.Path.{_≡_};
-ghost use mathlib.Core.Bool.{true, _&&_};
+ghost use mathlib.Core.Bool.{true, false, _&&_};
 ghost use Prim.Native.Nat.{_<_};
 ghost use Rattle.model.specs.Order.{Name};
 ghost use Rattle.model.specs.Base.{Bytes};
 ghost use Rattle.model.specs.Log.{journal};
 ghost use Rattle.model.specs.Record.{hasDir, beginTransaction, discard, recordCreate, recordDeleteCollection, recordCopy};
 ghost use Rattle.spans.specs.Spans.{nameOf, Sound};
-ghost use Rattle.store.specs.Tables.{mapOf, SoundTable};
+ghost use Rattle.store.specs.Tables.{mapOf};
 ghost use Rattle.store.specs.Stores.{storeOf, logBytes, SoundStore};
-ghost use Rattle.local_storage.specs.Recording.{Ready, storageOf, Answers, Given, isRecording, isWhole, hasFile, Opens, Admits, Discarded, refusedWith, recordedIn};
+ghost use Rattle.steps.specs.Steps.{Within};
+ghost use Rattle.local_storage.specs.Committing.{Commits};
+ghost use Rattle.local_storage.specs.Recording.{Ready, storageOf, Answers, Given, isRecording, isWhole, Opens, Admits, Discarded, refusedWith, recordedIn};
 
 mod collection;
 
 use spans::NameRef;
-use store::Held;
+use steps::Step;
 use store::Store;
-use store::Table;
 use transaction::Operation;
 use wal::Ending;
 use wal::Status;
@@ -33,6 +34,16 @@ pub struct Recorded {
     pub number: u32,
     pub storage: LocalStorage,
     pub tail: Tail,
+}
+
+// What `commit` answers: whether a transaction was found (else 4); the number of the step that failed, 0 for none; the store handed on; what
+// is left of the budget; the step that was done last.
+pub struct Committed {
+    pub found: bool,
+    pub number: u32,
+    pub storage: LocalStorage,
+    pub left: u64,
+    pub last: Step,
 }
 
 // The operations of the open transaction, where one is found.
@@ -122,24 +133,12 @@ fn refusal(src: &[u8], s: Store) -> u32
     0
 }
 
-// Whether a file stands in a table.
-fn has_file(src: &[u8], t: Table, dir: NameRef, file: NameRef) -> bool
-    requires { ⌜ SoundTable (now src) t × (Sound (now src) dir × Sound (now src) file) ⌝ }
-    ensures { λ r. ⌜ r ≡ hasFile (nameOf (now (src .entry)) dir) (nameOf (now (src .entry)) file) (mapOf (now (src .entry)) t) ⌝ }
-{
-    let h = store::look(src, t, dir, file);
-    match h {
-        Held::Number(_) => true,
-        Held::Nothing => false,
-    }
-}
-
 // Whether a collection stands.
 fn has_dir(src: &[u8], s: Store, name: NameRef) -> bool
     requires { ⌜ SoundStore (now src) s × Sound (now src) name ⌝ }
     ensures { λ r. ⌜ r ≡ hasDir (nameOf (now (src .entry)) name) (storeOf (now (src .entry)) s) ⌝ }
 {
-    has_file(src, s.tree, name, spans::empty())
+    store::dir_exists(src, s.tree, name)
 }
 
 // A store with the mark of an open transaction.
@@ -148,6 +147,15 @@ fn marked(s: Store) -> Store
 {
     let mut r = s;
     r.open_mark = true;
+    r
+}
+
+// A store without that mark.
+fn unmarked(s: Store) -> Store
+    ensures { λ r. ⌜ r ≡ record { tree = s .tree; staging = s .staging; log = s .log; open_mark = false } ⌝ }
+{
+    let mut r = s;
+    r.open_mark = false;
     r
 }
 
@@ -198,6 +206,46 @@ impl LocalStorage {
             number: 0,
             storage: LocalStorage { store: t },
             tail: Tail::Header,
+        }
+    }
+
+    // All steps of the commit, or where `limited` the first n. 01, Listings and file steps: "The open mark 0x14 goes with commit's last step":
+    // where the run did not stop.
+    pub fn commit(self, src: &[u8], limited: bool, n: u64) -> Committed
+        requires { ⌜ Ready (now src) (self .store) × Within (mapOf (now src) (self .store .tree)) ⌝ }
+        ensures { λ r. ⌜ Commits (now (src .entry)) (self .store) limited n r ⌝ }
+    {
+        let t = open_transaction(src, self.store);
+        if !t.found {
+            return Committed {
+                found: false,
+                number: 4,
+                storage: self,
+                left: 0,
+                last: Step::SyncJournal,
+            };
+        }
+        let read = t.read;
+        let run = commit::apply_inner(src, self.store, read, limited, n);
+        let last = run.last;
+        let s = run.store;
+        let stopped = run.stopped;
+        if stopped {
+            return Committed {
+                found: true,
+                number: run.refusal,
+                storage: LocalStorage { store: s },
+                left: run.left,
+                last: last,
+            };
+        }
+        let done = unmarked(s);
+        Committed {
+            found: true,
+            number: run.refusal,
+            storage: LocalStorage { store: done },
+            left: run.left,
+            last: last,
         }
     }
 

@@ -1,14 +1,13 @@
 -- The first bytes that two names have in common, and what order the bytes behind them give.
 use mathlib.Core.Path.{_≡_, refl, sym, ap, _∙_}
-use mathlib.Core.List.{[], _∷_}
 use mathlib.Core.Bool.{true, false}
-use Prim.Native.Nat.{ℕ, zero, suc, _+_, _≤_, _<_}
+use Prim.Native.Nat.{ℕ, _+_, _≤_, _<_}
 use native.Mathlib.Omega.{arith}
 use native.Mathlib.Numerals.{add-one}
 use lib.ListN.{length, take, drop, getD, drop-of-length-le}
 use lib.Seq.{take-suc, drop-cons}
-use Rattle.model.specs.Order.{Cmp, lt, eq, gt, caseCmp, cmpNat, Name, cmpName}
-use Rattle.laws.specs.OrderLaws.{natLaws, cmp-less, cmp-greater}
+use Rattle.model.specs.Order.{Cmp, lt, eq, gt, caseCmp, Name, cmpName}
+use Rattle.laws.specs.OrderLaws.{cmp-less, cmp-greater, cmp-drop}
 use Rattle.paths.specs.declared.Order.{Order}
 use Rattle.paths.specs.Compare.{orderOf, Common}
 
@@ -31,16 +30,6 @@ module _ {a b : Name} {i : ℕ} (w : Agree a b i) where
 
   pub common : (i < length a → i < length b → getD a i 0 ≡ getD b i 0 → ⊥) → Common a b i
   common d = record { inLeft = w .inLeft; inRight = w .inRight; same = w .same; differ = d }
-
--- What is common decides nothing.
-cmp-drop : (i : ℕ) (a b : Name) → i ≤ length a → i ≤ length b → take i a ≡ take i b → cmpName a b ≡ cmpName (drop i a) (drop i b)
-cmp-drop zero a b l r e = refl
-cmp-drop (suc i) [] b l r e = absurd (omega arith)
-cmp-drop (suc i) (x ∷ xs) [] l r e = absurd (omega arith)
-cmp-drop (suc i) (x ∷ xs) (y ∷ ys) l r e =
-    let h : x ≡ y = cc in
-    let t : take i xs ≡ take i ys = cc in
-    rw (← h, natLaws .reflexive x) (cmp-drop i xs ys (omega arith) (omega arith) t)
 
 module _ {a b : Name} {i : ℕ} (w : Common a b i) where
   behind : cmpName a b ≡ cmpName (drop i a) (drop i b)

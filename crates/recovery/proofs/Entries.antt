@@ -26,7 +26,7 @@ use Rattle.wal.specs.Logs.{loggedOf, opsRead, SoundLogged, SoundRead}
 use Rattle.recovery.proofs.Follow.{lawful, follows-as}
 
 module _ {src : Bytes} {w : WalRead} (s : SoundRead src w) where
-  length-read : length (opsRead src w) ≡ w .len
+  pub length-read : length (opsRead src w) ≡ w .len
   length-read = length-map (take (w .len) (w .ops)) (loggedOf src) ∙ length-take-le (w .len) (w .ops) (omega (arith, s .size, s .within))
 
   -- The operation at i, what is left from it on, and what stands before it in reverse.
@@ -34,10 +34,10 @@ module _ {src : Bytes} {w : WalRead} (s : SoundRead src w) where
     pub op-at : SoundOp src (getD (w .ops) i d .op)
     op-at = all-getD (SoundLogged src) (w .ops) i d (s .sound) (omega (arith, s .size, s .within))
 
-    read-at : getD (opsRead src w) i (loggedOf src d) ≡ opOf src (getD (w .ops) i d .op)
+    pub read-at : getD (opsRead src w) i (loggedOf src d) ≡ opOf src (getD (w .ops) i d .op)
     read-at = List·getD-map (loggedOf src) (take (w .len) (w .ops)) i d ∙ ap (loggedOf src) (getD-take (w .len) (w .ops) i d h)
 
-    read-rest : drop i (opsRead src w) ≡ opOf src (getD (w .ops) i d .op) ∷ drop (i + 1) (opsRead src w)
+    pub read-rest : drop i (opsRead src w) ≡ opOf src (getD (w .ops) i d .op) ∷ drop (i + 1) (opsRead src w)
     read-rest =
         drop-cons (opsRead src w) i (loggedOf src d) (omega (arith, length-read))
         ∙ ap (λ (o : Op). o ∷ drop (suc i) (opsRead src w)) read-at

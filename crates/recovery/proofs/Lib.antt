@@ -2,7 +2,6 @@ pub mod Follow
 pub mod Picks
 pub mod Nodes
 pub mod Seek
-pub mod Vacant
 pub mod Over
 pub mod Artifacts
 pub mod Pending

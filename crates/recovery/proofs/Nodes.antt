@@ -1,105 +1,55 @@
--- A table's nodes: whose they are, how long their names are, and what a walk does at them.
-use mathlib.Core.Path.{_≡_, refl, sym, ap, _∙_}
+-- A table's nodes: how long their names are, and what a walk does at them.
+use mathlib.Core.Path.{_≡_, refl, sym, _∙_}
 use mathlib.Core.List.{List, [], _∷_}
 use mathlib.Core.Option.{Option, none, some}
 use mathlib.Core.Bool.{true, false, false≢true}
-use Prim.Native.Nat.{ℕ, _+_, _≤_, _<_}
+use Prim.Native.Nat.{ℕ, _≤_, _<_}
 use native.Mathlib.Omega.{arith}
-use lib.Dec.{eqb}
 use lib.ListN.{length}
-use borrow.Author.Tests.{eq-eqb, ne-eqb}
 use Rattle.model.specs.Order.{Cmp, lt, eq, gt, Name, Key, cmpName, caseCmp}
-use Rattle.model.specs.Map.{Node, Map, look}
-use Rattle.model.specs.Base.{Bytes, isSome, ifEmpty, sameBytes}
+use Rattle.model.specs.Map.{Node, look}
+use Rattle.model.specs.Base.{Bytes, isSome, ifEmpty}
 use Rattle.model.specs.Name.{originalName}
-use Rattle.model.specs.Store.{Store, files}
+use Rattle.model.specs.Store.{Store}
 use Rattle.model.specs.Step.{Step}
 use Rattle.laws.specs.Tests.{All, all-map}
 use Rattle.laws.specs.MapLaws.{all-look}
 use Rattle.laws.specs.NameLaws.{original-some, original-named}
-use Rattle.spans.specs.Spans.{nameOf, lengthOf, Sound}
+use Rattle.laws.specs.ValidNames as valid
+use Rattle.spans.specs.Spans.{nameOf, Sound}
 use Rattle.spans.specs.declared.NameRef.{NameRef}
-use Rattle.spans.proofs.Parts.{length-name, length-backup}
+use Rattle.spans.proofs.Parts.{length-name}
 use Rattle.store.specs.declared.Node as code
 use Rattle.store.specs.declared.Table.{Table}
 use Rattle.store.specs.Tables.{nodeOf, live, mapOf, SoundNode, SoundTable}
 use Rattle.plans.specs.Machine.{nothing}
 use Rattle.steps.specs.Steps.{FileName}
+use Rattle.steps.proofs.FileNames.{file-name}
 use Rattle.plans.specs.Listings.{atDir, atFile}
-use Rattle.recovery.specs.Walks.{isFileOf, isDir}
+use Rattle.store.specs.Nodes.{isFileOf, isDir}
+use Rattle.store.proofs.Nodes.{file-named}
 
--- A name of no byte, by its length.
-pub dir-told : {src : Bytes} (x : code.Node) (n : ℕ) → Sound src (x .file) → n ≡ lengthOf (x .file) → eqb n 0 ≡ isDir (nodeOf src x)
-unfolding isDir
-dir-told {src} x n s e = go (nameOf src (x .file)) (e ∙ sym (length-name s))
-  where
-    go : (f : Name) → n ≡ length f → eqb n 0 ≡ ifEmpty f true false
-    go [] e = eq-eqb n 0 e
-    go (y ∷ ys) e = ne-eqb n 0 (λ z. omega arith)
-
-module _ (d : Name) (n : Node) where
-  pub not-a-file : isDir n ≡ true → false ≡ isFileOf d n
-  unfolding isDir isFileOf
-  not-a-file h = go (cmpName d (n .0 .0)) (n .0 .1) h
+-- What a walk does at a node.
+module _ (d : Name) (n : Node) (g : Name → Store → List Step) where
+  pub at-file : isFileOf d n ≡ true → g (n .0 .1) ≡ atFile d g n
+  unfolding isFileOf atFile
+  at-file h = go (cmpName d (n .0 .0)) (n .0 .1) h
     where
-      go : (c : Cmp) (f : Name) → ifEmpty f true false ≡ true → false ≡ caseCmp c false (ifEmpty f false true) false
-      go lt f h = refl
-      go eq [] h = refl
-      go eq (y ∷ ys) h = absurd (false≢true h)
-      go gt f h = refl
-
-  pub file-by-dir : isDir n ≡ false → sameBytes d (n .0 .0) ≡ isFileOf d n
-  unfolding isDir isFileOf
-  file-by-dir h = go (cmpName d (n .0 .0)) (n .0 .1) h
-    where
-      go : (c : Cmp) (f : Name) → ifEmpty f true false ≡ false → caseCmp c false true false ≡ caseCmp c false (ifEmpty f false true) false
-      go lt f h = refl
-      go eq [] h = absurd (false≢true (sym h))
-      go eq (y ∷ ys) h = refl
-      go gt f h = refl
-
-  -- What is listed of it.
-  pub file-listed : (r : Map) → isFileOf d n ≡ true → files d (n ∷ r) ≡ n .0 .1 ∷ files d r
-  unfolding isFileOf files
-  file-listed r h = go (cmpName d (n .0 .0)) (n .0 .1) h
-    where
-      go : (c : Cmp) (f : Name) → caseCmp c false (ifEmpty f false true) false ≡ true → caseCmp c (files d r) (ifEmpty f (files d r) (f ∷ files d r)) (files d r) ≡ f ∷ files d r
+      go : (c : Cmp) (f : Name) → caseCmp c false (ifEmpty f false true) false ≡ true → g f ≡ caseCmp c nothing (ifEmpty f nothing (g f)) nothing
       go lt f h = absurd (false≢true h)
       go eq [] h = absurd (false≢true h)
       go eq (y ∷ ys) h = refl
       go gt f h = absurd (false≢true h)
 
-  pub not-listed : (r : Map) → isFileOf d n ≡ false → files d (n ∷ r) ≡ files d r
-  unfolding isFileOf files
-  not-listed r h = go (cmpName d (n .0 .0)) (n .0 .1) h
+  pub at-other : isFileOf d n ≡ false → atFile d g n ≡ nothing
+  unfolding isFileOf atFile
+  at-other h = go (cmpName d (n .0 .0)) (n .0 .1) h
     where
-      go : (c : Cmp) (f : Name) → caseCmp c false (ifEmpty f false true) false ≡ false → caseCmp c (files d r) (ifEmpty f (files d r) (f ∷ files d r)) (files d r) ≡ files d r
+      go : (c : Cmp) (f : Name) → caseCmp c false (ifEmpty f false true) false ≡ false → caseCmp c nothing (ifEmpty f nothing (g f)) nothing ≡ nothing
       go lt f h = refl
       go eq [] h = refl
       go eq (y ∷ ys) h = absurd (false≢true (sym h))
       go gt f h = refl
-
-  -- What a walk does at it.
-  module _ (g : Name → Store → List Step) where
-    pub at-file : isFileOf d n ≡ true → g (n .0 .1) ≡ atFile d g n
-    unfolding isFileOf atFile
-    at-file h = go (cmpName d (n .0 .0)) (n .0 .1) h
-      where
-        go : (c : Cmp) (f : Name) → caseCmp c false (ifEmpty f false true) false ≡ true → g f ≡ caseCmp c nothing (ifEmpty f nothing (g f)) nothing
-        go lt f h = absurd (false≢true h)
-        go eq [] h = absurd (false≢true h)
-        go eq (y ∷ ys) h = refl
-        go gt f h = absurd (false≢true h)
-
-    pub at-other : isFileOf d n ≡ false → atFile d g n ≡ nothing
-    unfolding isFileOf atFile
-    at-other h = go (cmpName d (n .0 .0)) (n .0 .1) h
-      where
-        go : (c : Cmp) (f : Name) → caseCmp c false (ifEmpty f false true) false ≡ false → caseCmp c nothing (ifEmpty f nothing (g f)) nothing ≡ nothing
-        go lt f h = refl
-        go eq [] h = refl
-        go eq (y ∷ ys) h = absurd (false≢true (sym h))
-        go gt f h = refl
 
 module _ (n : Node) (g : Name → Store → List Step) where
   pub at-dir : isDir n ≡ true → g (n .0 .0) ≡ atDir g n
@@ -142,11 +92,8 @@ module _ {src : Bytes} {t : Table} (s : SoundTable src t) where
 
 -- A backup and its original both have a byte at least, so a step may make files of these names.
 pub backup-named : {src : Bytes} (r q : NameRef) → Sound src r → Sound src q → originalName (nameOf src r) ≡ some (nameOf src q) → FileName src r × FileName src q
-backup-named {src} r q s k e =
-    let l : 1 ≤ length (nameOf src q) = named (nameOf src q) (original-named (nameOf src r) (nameOf src q) e) in
-    let m : length (nameOf src r) ≡ length (nameOf src q) + 4 = ap length (original-some (nameOf src r) (nameOf src q) e) ∙ length-backup (nameOf src q) in
-    (record { sound = s; some = omega (arith, length-name s) }, record { sound = k; some = omega (arith, length-name k) })
-  where
-    named : (f : Name) → (f ≡ [] → ⊥) → 1 ≤ length f
-    named [] h = absurd (h refl)
-    named (y ∷ ys) h = omega arith
+backup-named {src} r q s k e = (file-name s (λ z. valid.backup-named (nameOf src q) (sym (original-some (nameOf src r) (nameOf src q) e) ∙ z)), file-name k (original-named (nameOf src r) (nameOf src q) e))
+
+-- So has what is listed.
+pub listed-named : {src : Bytes} (d : Name) (x : code.Node) → Sound src (x .file) → isFileOf d (nodeOf src x) ≡ true → FileName src (x .file)
+listed-named {src} d x s h = file-name s (file-named d (nodeOf src x) h)

@@ -18,11 +18,12 @@ use Rattle.plans.specs.ModelPlans.{plain}
 use Rattle.spans.specs.Spans.{nameOf}
 use Rattle.store.specs.declared.Node.{Node}
 use Rattle.store.specs.declared.Table.{Table}
+use Rattle.store.specs.Nodes.{isFileOf, isDir}
 use Rattle.store.specs.Tables.{nodeOf, mapOf, SoundNode, SoundTable}
 use Rattle.store.proofs.Live.{rest, finished, sound-at}
 use Rattle.steps.specs.declared.Run.{Run}
 use Rattle.steps.specs.CodeRuns.{ModelRun, runOf, SoundRun, Follows}
-use Rattle.recovery.specs.Walks.{isFileOf, isDir, overFiles}
+use Rattle.recovery.specs.Walks.{overFiles}
 use Rattle.recovery.proofs.Follow.{lawful, stays, follows-as}
 use Rattle.recovery.proofs.Nodes.{at-file, at-other, at-dir, at-no-dir}
 

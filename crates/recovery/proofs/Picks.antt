@@ -24,11 +24,11 @@ pub absent : {A B : Type 0} (o : Option A) (l : List B) → isSome o ≡ false �
 absent none l e = refl
 absent (some a) l e = absurd (false≢true (sym e))
 
-missing : {A B : Type 0} (o : Option A) (l : List B) → isSome o ≡ false → ifMissing o l ≡ l
+pub missing : {A B : Type 0} (o : Option A) (l : List B) → isSome o ≡ false → ifMissing o l ≡ l
 missing none l e = refl
 missing (some a) l e = absurd (false≢true (sym e))
 
-standing : {A B : Type 0} (o : Option A) (l : List B) → isSome o ≡ true → ifMissing o l ≡ []
+pub standing : {A B : Type 0} (o : Option A) (l : List B) → isSome o ≡ true → ifMissing o l ≡ []
 standing none l e = absurd (false≢true e)
 standing (some a) l e = refl
 

@@ -1,8 +1,7 @@
 -- What the small functions of recovery do, as plans. The model's plans are made of these (proofs/Plans.antt).
 use mathlib.Core.List.{List, [], _∷_, reverse}
-use mathlib.Core.Bool.{Bool, true, false}
-use Rattle.model.specs.Order.{Name, cmpName, caseCmp}
-use Rattle.model.specs.Map.{Node, look}
+use Rattle.model.specs.Order.{Name}
+use Rattle.model.specs.Map.{look}
 use Rattle.model.specs.Base.{ifEmpty, ifPresent, ifMissing}
 use Rattle.model.specs.Name.{backupName}
 use Rattle.model.specs.Operation.{Op}
@@ -10,13 +9,6 @@ use Rattle.model.specs.Store.{Store, files}
 use Rattle.model.specs.Step.{Step, removeFile, removeDirectory, removeLog, apply}
 use Rattle.model.specs.Plan.{inTurn, inSequence, undoSteps, restoreBackups, removeStagingFiles}
 use Rattle.plans.specs.Machine.{seq}
-
--- A node is a file of d, or a directory's own.
-unfoldable pub isFileOf : Name → Node → Bool
-isFileOf d n = caseCmp (cmpName d (n .0 .0)) false (ifEmpty (n .0 .1) false true) false
-
-unfoldable pub isDir : Node → Bool
-isDir n = ifEmpty (n .0 .1) true false
 
 -- The plan of each file of d in turn, by the listing as it stands when the walk starts.
 unfoldable pub overFiles : (Name → Name → Store → List Step) → Name → Store → List Step

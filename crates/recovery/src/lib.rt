@@ -5,56 +5,34 @@ ghost use mathlib.Core.List.{[], reverse};
 ghost use mathlib.Core.Bool.{true, false};
 ghost use Prim.Native.Nat.{_≤_};
 ghost use lib.ListN.{length};
-ghost use Rattle.model.specs.Base.{ifEmpty, isSome, anyOf};
+ghost use Rattle.model.specs.Base.{isSome, anyOf};
 ghost use Rattle.model.specs.Map.{look};
 ghost use Rattle.model.specs.Name.{backupName};
 ghost use Rattle.model.specs.Log.{entries, journal, absent, committing};
-ghost use Rattle.model.specs.Store.{files, hasBackupFiles, hasPendingWork};
+ghost use Rattle.model.specs.Store.{hasBackupFiles, hasPendingWork};
 ghost use Rattle.model.specs.Plan.{inTurn, inSequence, recoverParts, recoverFault, undoSteps, restoreFile, restoreDirectory, restoreBackups, removeBackupFile, removeBackupsIn, removeBackups, removeStagingFiles, removeStandingLog, isNewArtifact};
 ghost use Rattle.spans.specs.Spans.{nameOf, Sound};
-ghost use Rattle.store.specs.Tables.{keyOf, nodeOf, mapOf, SoundNode, SoundTable};
+ghost use Rattle.store.specs.Tables.{mapOf, SoundTable};
 ghost use Rattle.store.specs.Stores.{logBytes, storeOf, SoundLog, SoundStore};
 ghost use Rattle.plans.specs.ModelPlans.{plain};
 ghost use Rattle.steps.specs.Steps.{Fits};
 ghost use Rattle.steps.specs.CodeRuns.{SoundRun, Follows};
 ghost use Rattle.transaction.specs.Operations.{opOf, SoundOp};
 ghost use Rattle.wal.specs.Logs.{journalOf, endingOf, opsRead, entriesOf, SoundRead};
-ghost use Rattle.recovery.specs.Walks.{isFileOf, isDir, clearFile, clearDir, overFiles, undoWrite, undoCreate, undoCopy, undoAll, cleanUp};
+ghost use Rattle.recovery.specs.Walks.{clearFile, clearDir, overFiles, undoWrite, undoCreate, undoCopy, undoAll, cleanUp};
 ghost use Rattle.recovery.specs.Recoveries.{logPart, refusalOf, Recovers};
 use spans::BackupName;
 use spans::NameRef;
 use spans::OriginalName;
 use steps::Run;
 use steps::Step;
-use store::Held;
 use store::LogRef;
-use store::Node;
 use store::Store;
 use store::Table;
 use transaction::Operation;
 use wal::Ending;
 use wal::Status;
 use wal::WalRead;
-
-// Whether a place holds something.
-pub fn exists(src: &[u8], t: Table, dir: NameRef, file: NameRef) -> bool
-    requires { ⌜ SoundTable (now src) t × (Sound (now src) dir × Sound (now src) file) ⌝ }
-    ensures { λ r. ⌜ r ≡ isSome (look (keyOf (now (src .entry)) dir file) (mapOf (now (src .entry)) t)) ⌝ }
-{
-    let h = store::look(src, t, dir, file);
-    match h {
-        Held::Number(_) => true,
-        Held::Nothing => false,
-    }
-}
-
-// Whether a directory stands.
-pub fn dir_exists(src: &[u8], t: Table, dir: NameRef) -> bool
-    requires { ⌜ SoundTable (now src) t × Sound (now src) dir ⌝ }
-    ensures { λ r. ⌜ r ≡ isSome (look (nameOf (now (src .entry)) dir, []) (mapOf (now (src .entry)) t)) ⌝ }
-{
-    exists(src, t, dir, spans::empty())
-}
 
 // Whether the backup of a file stands. One whose name has over 64 bytes stands nowhere.
 fn has_backup(src: &[u8], t: Table, dir: NameRef, file: NameRef) -> bool
@@ -63,7 +41,7 @@ fn has_backup(src: &[u8], t: Table, dir: NameRef, file: NameRef) -> bool
 {
     let b = spans::backup(src, file);
     match b {
-        BackupName::Is(q) => exists(src, t, dir, q),
+        BackupName::Is(q) => store::exists(src, t, dir, q),
         BackupName::TooLong => false,
     }
 }
@@ -75,7 +53,7 @@ fn has_backup_dir(src: &[u8], t: Table, dir: NameRef) -> bool
 {
     let b = spans::backup(src, dir);
     match b {
-        BackupName::Is(q) => dir_exists(src, t, q),
+        BackupName::Is(q) => store::dir_exists(src, t, q),
         BackupName::TooLong => false,
     }
 }
@@ -138,17 +116,17 @@ pub fn is_new_artifact(src: &[u8], t: Table, op: Operation) -> bool
 {
     match op {
         Operation::Write(c, k, _) => {
-            if exists(src, t, c, k) {
+            if store::exists(src, t, c, k) {
                 return !has_backup(src, t, c, k);
             }
             false
         }
-        Operation::CreateCollection(c) => dir_exists(src, t, c),
+        Operation::CreateCollection(c) => store::dir_exists(src, t, c),
         Operation::CopyCollection(_, b, existed) => {
             if existed {
                 return false;
             }
-            if dir_exists(src, t, b) {
+            if store::dir_exists(src, t, b) {
                 return !has_backup_dir(src, t, b);
             }
             false
@@ -175,44 +153,6 @@ fn has_new_artifacts(src: &[u8], t: Table, w: WalRead) -> bool
     false
 }
 
-// Whether a directory holds no file.
-fn is_dir_empty(src: &[u8], t: Table, dir: NameRef) -> bool
-    requires { ⌜ SoundTable (now src) t × Sound (now src) dir ⌝ }
-    ensures { λ r. ⌜ r ≡ ifEmpty (files (nameOf (now (src .entry)) dir) (mapOf (now (src .entry)) t)) true false ⌝ }
-{
-    let n = t.len;
-    let mut i: usize = 0;
-    while i < n {
-        let x = t.nodes[i];
-        if is_file_of(src, x, dir) {
-            return false;
-        }
-        i += 1;
-    }
-    true
-}
-
-// Whether a node is a file of a directory.
-pub fn is_file_of(src: &[u8], x: Node, dir: NameRef) -> bool
-    requires { ⌜ SoundNode (now src) x × Sound (now src) dir ⌝ }
-    ensures { λ r. ⌜ r ≡ isFileOf (nameOf (now (src .entry)) dir) (nodeOf (now (src .entry)) x) ⌝ }
-{
-    if is_dir(src, x) {
-        return false;
-    }
-    let of = x.dir;
-    spans::same(src, dir, of)
-}
-
-// Whether a node is a directory's own.
-fn is_dir(src: &[u8], x: Node) -> bool
-    requires { ⌜ SoundNode (now src) x ⌝ }
-    ensures { λ r. ⌜ r ≡ isDir (nodeOf (now (src .entry)) x) ⌝ }
-{
-    let file = x.file;
-    spans::length_of(file) == 0
-}
-
 // Removes the file that a Write made, unless its backup stands.
 fn undo_write(src: &[u8], run: Run, dir: NameRef, key: NameRef) -> Run
     requires { ⌜ SoundRun (now src) run × (Sound (now src) dir × Sound (now src) key) ⌝ }
@@ -220,7 +160,7 @@ fn undo_write(src: &[u8], run: Run, dir: NameRef, key: NameRef) -> Run
 {
     let s = run.store;
     let t = s.tree;
-    if exists(src, t, dir, key) {
+    if store::exists(src, t, dir, key) {
         if has_backup(src, t, dir, key) {
             return run;
         }
@@ -236,8 +176,8 @@ fn undo_create(src: &[u8], run: Run, dir: NameRef) -> Run
 {
     let s = run.store;
     let t = s.tree;
-    if dir_exists(src, t, dir) {
-        if is_dir_empty(src, t, dir) {
+    if store::dir_exists(src, t, dir) {
+        if store::is_dir_empty(src, t, dir) {
             return steps::advance(src, run, Step::RemoveDirectory(dir));
         }
         return run;
@@ -252,7 +192,7 @@ fn undo_copy(src: &[u8], run: Run, dir: NameRef) -> Run
 {
     let s = run.store;
     let t = s.tree;
-    if dir_exists(src, t, dir) {
+    if store::dir_exists(src, t, dir) {
         if has_backup_dir(src, t, dir) {
             return run;
         }
@@ -302,7 +242,7 @@ fn clear_file(src: &[u8], run: Run, dir: NameRef, file: NameRef) -> Run
 {
     let s = run.store;
     let t = s.tree;
-    if exists(src, t, dir, file) {
+    if store::exists(src, t, dir, file) {
         return steps::advance(src, run, Step::RemoveFile(dir, file));
     }
     run
@@ -315,7 +255,7 @@ fn clear_dir(src: &[u8], run: Run, dir: NameRef) -> Run
 {
     let s = run.store;
     let t = s.tree;
-    if dir_exists(src, t, dir) {
+    if store::dir_exists(src, t, dir) {
         return steps::advance(src, run, Step::RemoveDirectory(dir));
     }
     run
@@ -353,7 +293,7 @@ fn restore_bak_files_in_dir(src: &[u8], run: Run, dir: NameRef) -> Run
     let mut i: usize = 0;
     while i < n {
         let x = t.nodes[i];
-        if is_file_of(src, x, dir) {
+        if store::is_file_of(src, x, dir) {
             let file = x.file;
             work = restore_file(src, work, dir, file);
         }
@@ -389,7 +329,7 @@ pub fn rollback_partial_commit(src: &[u8], run: Run) -> Run
     let mut i: usize = 0;
     while i < n {
         let x = t.nodes[i];
-        if is_dir(src, x) {
+        if store::is_dir(src, x) {
             let dir = x.dir;
             work = restore_directory(src, work, dir);
         }
@@ -421,7 +361,7 @@ fn delete_backup_files_in_dir(src: &[u8], run: Run, dir: NameRef) -> Run
     let mut i: usize = 0;
     while i < n {
         let x = t.nodes[i];
-        if is_file_of(src, x, dir) {
+        if store::is_file_of(src, x, dir) {
             let file = x.file;
             work = delete_backup_file(src, work, dir, file);
         }
@@ -453,7 +393,7 @@ pub fn delete_all_backup_files(src: &[u8], run: Run) -> Run
     let mut i: usize = 0;
     while i < n {
         let x = t.nodes[i];
-        if is_dir(src, x) {
+        if store::is_dir(src, x) {
             let dir = x.dir;
             work = delete_backups_in(src, work, dir);
         }

@@ -6,7 +6,7 @@ use Prim.Native.Nat.{ℕ, zero, suc, _+_, _*_, _-_, _%_, _≤_, _<_}
 use native.Mathlib.Omega.{arith}
 use lib.ListN.{length, take, drop, getD, length-append, length-drop, List·getD-append}
 use lib.Dec.{ltb}
-use lib.Seq.{length-take-le, getD-take, getD-drop, getD-append-add}
+use lib.Seq.{length-take-le, take-take, take-append-le, getD-take, getD-drop, getD-append-add}
 use borrow.Author.Tests.{ltb-true, ltb-false}
 use Rattle.model.specs.Order.{Name}
 use Rattle.model.specs.Base.{Bytes}
@@ -48,6 +48,11 @@ last-bytes (suc k) n i h g = go (ltb i (length (backups k n))) refl (length-back
         let c : (i - length n) % 4 ≡ i - length (backups k n) = omega arith in
         rw c (ap (λ (j : ℕ). getD (backups k n ++ dotBak) j 0) b ∙ getD-append-add (backups k n) dotBak (i - length (backups k n)) 0)
 
+take-backups : (k : ℕ) (n : Name) (i : ℕ) → i ≤ length n → take i (backups k n) ≡ take i n
+unfolding backupName backupExtension
+take-backups zero n i h = refl
+take-backups (suc k) n i h = take-append-le i (backups k n) dotBak (omega (arith, length-backups k n)) ∙ take-backups k n i h
+
 module _ {src : Bytes} {r : NameRef} (s : Sound src r) where
   span : length (take (r .len) (drop (r .start) src)) ≡ r .len
   span =
@@ -70,3 +75,8 @@ module _ {src : Bytes} {r : NameRef} (s : Sound src r) where
   past-span n i e h g =
       let l : n ≡ length (take (r .len) (drop (r .start) src)) = e ∙ sym span in
       rw l (sym (last-bytes (r .baks) (take (r .len) (drop (r .start) src)) i (omega arith) (omega arith)))
+
+  -- The name's first bytes are the span's.
+  pub front : (p i : ℕ) → p ≡ r .start → i ≤ r .len → take i (nameOf src r) ≡ take i (drop p src)
+  unfolding nameOf
+  front p i e h = rw e (take-backups (r .baks) (take (r .len) (drop (r .start) src)) i (omega (arith, span)) ∙ take-take i (r .len) (drop (r .start) src) h)

@@ -4,14 +4,14 @@ use mathlib.Core.List.{[], _∷_}
 use Prim.Native.Nat.{ℕ, _+_, _≤_, _<_}
 use native.Mathlib.Numerals.{add-one}
 use native.Mathlib.Omega.{arith}
-use lib.ListN.{length, drop, getD, drop-of-length-le}
+use lib.ListN.{length, take, drop, getD, drop-of-length-le}
 use lib.Seq.{drop-cons}
 use Rattle.model.specs.Order.{Cmp, lt, eq, gt, cmpName}
 use Rattle.model.specs.Base.{Bytes}
-use Rattle.laws.specs.OrderLaws.{natLaws, cmp-less, cmp-greater}
+use Rattle.laws.specs.OrderLaws.{natLaws, cmp-less, cmp-greater, cmp-drop}
 use Rattle.spans.specs.Spans.{nameOf, lengthOf, Sound}
 use Rattle.spans.specs.declared.NameRef.{NameRef}
-use Rattle.spans.proofs.Parts.{length-name}
+use Rattle.spans.proofs.Parts.{length-name, front}
 
 -- What is left of both names behind their first i bytes decides.
 pub record Walk (src : Bytes) (a b : NameRef) (whole : Cmp) (i : ℕ) : Type 0 where
@@ -20,6 +20,16 @@ pub record Walk (src : Bytes) (a b : NameRef) (whole : Cmp) (i : ℕ) : Type 0 w
   pub in-left : i ≤ lengthOf a
   pub in-right : i ≤ lengthOf b
   pub same : cmpName (drop i (nameOf src a)) (drop i (nameOf src b)) ≡ whole
+
+-- The bytes before i are the same, in both spans.
+pub begun : {src : Bytes} {a b : NameRef} {p q i : ℕ} → Sound src a → Sound src b → p ≡ a .start → q ≡ b .start → i ≤ a .len → i ≤ b .len → take i (drop p src) ≡ take i (drop q src) → Walk src a b (cmpName (nameOf src a) (nameOf src b)) i
+begun {src} {a} {b} {p} {q} {i} s t u v h k e = record {
+  left-sound = s;
+  right-sound = t;
+  in-left = omega arith;
+  in-right = omega arith;
+  same = sym (cmp-drop i (nameOf src a) (nameOf src b) (omega (arith, length-name s)) (omega (arith, length-name t)) (front s p i u h ∙ e ∙ sym (front t q i v k)));
+}
 
 rest : {src : Bytes} {r : NameRef} (i : ℕ) → Sound src r → i < lengthOf r → drop i (nameOf src r) ≡ getD (nameOf src r) i 0 ∷ drop (i + 1) (nameOf src r)
 rest {src} {r} i s l =

@@ -2,6 +2,7 @@
 use mathlib.Core.Path.{_≡_}
 use Prim.Native.Nat.{ℕ, zero, suc, _+_, _*_, _≤_, _<_}
 use mathlib.Core.Option.{none, some}
+use mathlib.Core.Bool.{Bool, true, false}
 use lib.ListN.{length, take, drop}
 use Rattle.model.specs.Limits.{nameLimit}
 use Rattle.model.specs.Order.{Cmp, lt, eq, gt, Name}
@@ -30,6 +31,11 @@ lengthOf r = r .len + r .baks * 4
 pub record Sound (src : Bytes) (r : NameRef) : Type 0 where
   pub inside : r .start + r .len ≤ length src
   pub room : lengthOf r ≤ nameLimit
+
+-- What a test answers that decides a fact.
+pub record Decides (fact : Type 0) (answer : Bool) : Type 0 where
+  pub yes : answer ≡ true → fact
+  pub no : answer ≡ false → fact → ⊥
 
 -- A name, held soundly.
 pub record Names (src : Bytes) (r : NameRef) (n : Name) : Type 0 where

@@ -4,8 +4,7 @@ use mathlib.Core.List.{List, [], _∷_}
 use mathlib.Core.Option.{Option, none, some}
 use mathlib.Core.Bool.{Bool, true, false}
 use Prim.Native.Nat.{ℕ}
-use native.Mathlib.Omega.{arith}
-use lib.ListN.{length, take, drop}
+use lib.ListN.{take, drop}
 use types.Run.{OneOf}
 use denote.Enum.Declared.{tagOf}
 use Rattle.model.specs.Map.{Map, look, put, del}
@@ -17,7 +16,6 @@ use Rattle.model.specs.Step as step
 use Rattle.model.specs.Step.{withTree, removeDir, renameDir, apply}
 use Rattle.spans.specs.Spans.{nameOf, Names}
 use Rattle.spans.specs.declared.NameRef.{NameRef}
-use Rattle.spans.proofs.Parts.{length-name}
 use Rattle.store.specs.Tables.{mapOf, Holds}
 use Rattle.store.specs.Stores.{logBytes, storeOf, SoundStore, SoundLog}
 use Rattle.store.specs.declared.Table.{Table}
@@ -25,8 +23,9 @@ use Rattle.store.specs.declared.LogRef.{LogRef}
 use Rattle.store.specs.declared.Store.{Store}
 use Rattle.steps.specs.declared.Step.{Step}
 use Rattle.steps.specs.declared.Step.the-variants as code
-use Rattle.steps.specs.Steps.{stepOf, FileName, SoundStep, Within, Fits, Allowed, Applied}
+use Rattle.steps.specs.Steps.{stepOf, SoundStep, Within, Fits, Allowed, Applied}
 use Rattle.steps.proofs.Step.{the-type}
+use Rattle.steps.proofs.FileNames.{filled}
 use Rattle.steps.proofs.Room.{Named, kept}
 use Rattle.steps.proofs.Arms.{not-here}
 
@@ -35,9 +34,6 @@ abbrev pub Ready : Bytes → Step → Store → Type 0
 Ready src x s = (Fits src s × SoundStep src x) × Allowed (stepOf src x) (storeOf src s)
 
 -- The files that a step makes have names.
-filled : {src : Bytes} {r : NameRef} → FileName src r → nameOf src r ≡ [] → ⊥
-filled f e = let l = length-name (f .sound) in let k = f .some in let z = ap length e in omega arith
-
 named : {src : Bytes} (x : Step) → SoundStep src x → Named (stepOf src x)
 unfolding stepOf
 named code.RewriteHeader s = tt

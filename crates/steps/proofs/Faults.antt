@@ -28,7 +28,6 @@ use Rattle.steps.specs.declared.Step.the-variants as code
 use Rattle.steps.specs.Steps.{stepOf, SoundStep}
 use Rattle.steps.proofs.Step.{the-type}
 use Rattle.steps.proofs.Arms.{not-here}
-use Rattle.steps.proofs.Files.{holdsFile}
 
 -- A name that the code holds is not too long.
 fitting : {src : Bytes} {r : NameRef} → Sound src r → nameTooLong (nameOf src r) ≡ none
@@ -52,11 +51,11 @@ module _ (src : Bytes) (u : model.Store) where
     unfolding stepOf stepFault
     many-dirs l = let f = k .dirs in by-arm e (rw (le-ltb (length (dirs (u .tree))) dirLimit (omega arith)))
 
-  pub target : {x : Step} {a b : NameRef} {q : Bool} → x ≡ code.RenameDirectory a b → Sound src b → q ≡ holdsFile (nameOf src b) (u .tree) → (if q then 14 else 0) ≡ fault (stepOf src x) u
+  pub target : {x : Step} {a b : NameRef} {q : Bool} → x ≡ code.RenameDirectory a b → Sound src b → q ≡ ifEmpty (files (nameOf src b) (u .tree)) true false → (if q then 0 else 14) ≡ fault (stepOf src x) u
   unfolding stepOf stepFault
   target {b = b} e s h = by-arm e (rw (h, fitting s) (go (files (nameOf src b) (u .tree))))
     where
-      go : (l : List Name) → (if ifEmpty l false true then 14 else 0) ≡ commitNumber (ifEmpty l none (some fails))
+      go : (l : List Name) → (if ifEmpty l true false then 0 else 14) ≡ commitNumber (ifEmpty l none (some fails))
       go [] = refl
       go (f ∷ l) = refl
 

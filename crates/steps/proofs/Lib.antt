@@ -1,6 +1,6 @@
+pub mod FileNames
 pub mod Room
 pub mod Found
-pub mod Files
 pub mod Arms
 pub mod Faults
 pub mod Applying

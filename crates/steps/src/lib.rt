@@ -5,10 +5,9 @@ ghost use mathlib.Core.Bool.{true, false};
 ghost use mathlib.Core.List.{[], _∷_, _++_};
 ghost use Prim.Native.Nat.{_+_, _-_, _<_, _≤_};
 ghost use lib.ListN.{length};
-ghost use Rattle.model.specs.Base.{Bytes, caseOption, ifEmpty};
+ghost use Rattle.model.specs.Base.{Bytes, caseOption};
 ghost use Rattle.model.specs.Map.{look, put, del};
 ghost use Rattle.model.specs.Field.{encodeField};
-ghost use Rattle.model.specs.Store.{files};
 ghost use Rattle.model.specs.Step.{fails, newFile, zeroSeparated, stepField};
 ghost use Rattle.model.specs.Answers.{commitNumber};
 ghost use Rattle.field.specs.Writing.{written, field};
@@ -184,27 +183,6 @@ pub fn apply(src: &[u8], s: Store, x: Step) -> Store
     }
 }
 
-// Whether a directory holds a file.
-fn any_file(src: &[u8], t: Table, dir: NameRef) -> bool
-    requires { ⌜ SoundTable (now src) t × Sound (now src) dir ⌝ }
-    ensures { λ r. ⌜ r ≡ ifEmpty (files (nameOf (now (src .entry)) dir) (mapOf (now (src .entry)) t)) false true ⌝ }
-{
-    let n = t.len;
-    let mut i: usize = 0;
-    while i < n {
-        let x = t.nodes[i];
-        let xd = x.dir;
-        let xf = x.file;
-        if spans::length_of(xf) > 0 {
-            if spans::same(src, dir, xd) {
-                return true;
-            }
-        }
-        i += 1;
-    }
-    false
-}
-
 // 15 where a file at a place would be one too many, else 0.
 fn new_file(src: &[u8], t: Table, dir: NameRef, file: NameRef) -> u32
     requires { ⌜ SoundTable (now src) t × (Sound (now src) dir × Sound (now src) file) ⌝ }
@@ -251,7 +229,13 @@ pub fn fault(src: &[u8], s: Store, x: Step) -> u32
             if n.dirs < DIR_LIMIT { 0 } else { FULL }
         }
         Step::MoveStaged(f, d, k) => from_held(src, s.tree, s.staging, spans::empty(), f, d, k),
-        Step::RenameDirectory(_, b) => { if any_file(src, s.tree, b) { FAILS } else { 0 } }
+        Step::RenameDirectory(_, b) => {
+            if store::is_dir_empty(src, s.tree, b) {
+                0
+            } else {
+                FAILS
+            }
+        }
         Step::CopyFile(a, b, f) => from_held(src, s.tree, s.tree, a, f, b, f),
         _ => 0,
     }

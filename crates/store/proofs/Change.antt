@@ -11,12 +11,12 @@ use Rattle.model.specs.Map as model
 use Rattle.model.specs.Map.{del}
 use Rattle.model.specs.Base.{Bytes}
 use Rattle.laws.specs.MapLaws.{Sorted, sorted-put, sorted-del}
-use Rattle.laws.specs.Tests.{All, all-append}
+use Rattle.laws.specs.Tests.{All, all-append, all-take, all-drop}
 use Rattle.store.specs.declared.Node.{Node}
 use Rattle.store.specs.declared.Table.{Table}
 use Rattle.store.specs.Places.{Hit, Gap, putIn, tableRoom}
 use Rattle.store.specs.Tables.{keyOf, nodeOf, live, mapOf, SoundNode, Sized, SoundTable, Holds}
-use Rattle.store.proofs.Lists.{map-take, map-drop, all-take, all-drop}
+use Rattle.store.proofs.Lists.{map-take, map-drop}
 use Rattle.store.proofs.Live.{blank, length-live, length-table}
 use Rattle.store.proofs.Places.{put-gap, put-hit, del-gap, del-hit}
 use Rattle.store.proofs.Room.{room-put, full-put}

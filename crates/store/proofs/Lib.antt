@@ -9,3 +9,6 @@ pub mod Change
 pub mod End
 pub mod Sweep
 pub mod Rename
+pub mod Nodes
+pub mod Vacant
+pub mod Prefix

@@ -28,18 +28,6 @@ module _ {A : Type 0} (P : A → Type 0) where
   all-zero [] = tt
   all-zero (x ∷ l) = tt
 
-  pub all-take : (n : ℕ) (l : List A) → All P l → All P (take n l)
-  all-take zero [] h = tt
-  all-take zero (x ∷ l) h = tt
-  all-take (suc n) [] h = tt
-  all-take (suc n) (x ∷ l) h = (h .0, all-take n l (h .1))
-
-  pub all-drop : (n : ℕ) (l : List A) → All P l → All P (drop n l)
-  all-drop zero [] h = tt
-  all-drop zero (x ∷ l) h = h
-  all-drop (suc n) [] h = tt
-  all-drop (suc n) (x ∷ l) h = all-drop n l (h .1)
-
   pub all-getD : (l : List A) (i : ℕ) (d : A) → All P l → i < length l → P (getD l i d)
   all-getD [] i d h k = absurd (not-suc-le-zero k)
   all-getD (x ∷ l) zero d h k = h .0

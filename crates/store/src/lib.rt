@@ -1,13 +1,16 @@
 ghost use mathlib.Core.Path.{_≡_};
 ghost use mathlib.Core.List.{List, [], _∷_, _++_};
-ghost use mathlib.Core.Bool.{true};
+ghost use mathlib.Core.Bool.{true, false};
 ghost use Prim.Native.Nat.{ℕ, _≤_, _<_, _+_};
 ghost use lib.ListN.{take, drop};
 ghost use Rattle.model.specs.Order.{cmpKey};
 ghost use Rattle.model.specs.Map.{look, del};
+ghost use Rattle.model.specs.Base.{isSome, ifEmpty};
+ghost use Rattle.model.specs.Store.{files};
 ghost use Rattle.model.specs.Step.{removeDir, renameDir};
 ghost use Rattle.spans.specs.Spans.{nameOf, orderOf, Sound};
 ghost use Rattle.store.specs.Places.{tableRoom, putIn, aboveLast};
+ghost use Rattle.store.specs.Nodes.{isFileOf, isDir};
 ghost use Rattle.store.specs.Tables.{keyOf, nodeOf, live, mapOf, SoundNode, Sized, SoundTable, Holds, Finds, heldOf, Counted};
 use spans::NameRef;
 use spans::Order;
@@ -137,6 +140,26 @@ pub fn look(src: &[u8], t: Table, dir: NameRef, file: NameRef) -> Held
     }
 }
 
+// Whether a place holds something.
+pub fn exists(src: &[u8], t: Table, dir: NameRef, file: NameRef) -> bool
+    requires { ⌜ SoundTable (now src) t × (Sound (now src) dir × Sound (now src) file) ⌝ }
+    ensures { λ r. ⌜ r ≡ isSome (look (keyOf (now (src .entry)) dir file) (mapOf (now (src .entry)) t)) ⌝ }
+{
+    let h = look(src, t, dir, file);
+    match h {
+        Held::Number(_) => true,
+        Held::Nothing => false,
+    }
+}
+
+// Whether a directory stands.
+pub fn dir_exists(src: &[u8], t: Table, dir: NameRef) -> bool
+    requires { ⌜ SoundTable (now src) t × Sound (now src) dir ⌝ }
+    ensures { λ r. ⌜ r ≡ isSome (look (nameOf (now (src .entry)) dir, []) (mapOf (now (src .entry)) t)) ⌝ }
+{
+    exists(src, t, dir, spans::empty())
+}
+
 // The table with a node put in at a place.
 fn insert_at(t: Table, p: usize, x: Node) -> Table
     requires { ⌜ Sized t × ((p ≤ t .len) × (t .len < tableRoom)) ⌝ }
@@ -254,6 +277,44 @@ pub fn rename_dir(src: &[u8], t: Table, from: NameRef, to: NameRef) -> Table
         i += 1;
     }
     u
+}
+
+// Whether a node is a directory's own.
+pub fn is_dir(src: &[u8], x: Node) -> bool
+    requires { ⌜ SoundNode (now src) x ⌝ }
+    ensures { λ r. ⌜ r ≡ isDir (nodeOf (now (src .entry)) x) ⌝ }
+{
+    let file = x.file;
+    spans::length_of(file) == 0
+}
+
+// Whether a node is a file of a directory.
+pub fn is_file_of(src: &[u8], x: Node, dir: NameRef) -> bool
+    requires { ⌜ SoundNode (now src) x × Sound (now src) dir ⌝ }
+    ensures { λ r. ⌜ r ≡ isFileOf (nameOf (now (src .entry)) dir) (nodeOf (now (src .entry)) x) ⌝ }
+{
+    if is_dir(src, x) {
+        return false;
+    }
+    let of = x.dir;
+    spans::same(src, dir, of)
+}
+
+// Whether a directory holds no file.
+pub fn is_dir_empty(src: &[u8], t: Table, dir: NameRef) -> bool
+    requires { ⌜ SoundTable (now src) t × Sound (now src) dir ⌝ }
+    ensures { λ r. ⌜ r ≡ ifEmpty (files (nameOf (now (src .entry)) dir) (mapOf (now (src .entry)) t)) true false ⌝ }
+{
+    let n = t.len;
+    let mut i: usize = 0;
+    while i < n {
+        let x = t.nodes[i];
+        if is_file_of(src, x, dir) {
+            return false;
+        }
+        i += 1;
+    }
+    true
 }
 
 // How many directories and how many files a table holds.

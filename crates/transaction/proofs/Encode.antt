@@ -1,6 +1,7 @@
 -- Fields of an operation, written one behind the other.
 use mathlib.Core.Path.{_≡_, refl, sym, ap, ap₂, _∙_}
 use mathlib.Core.List.{List, [], _∷_, _++_, map, append-nil, append-assoc}
+use mathlib.Core.Bool.{Bool, true, false}
 use Prim.Native.Nat.{ℕ, zero, suc, _+_, _*_, _≤_, _<_}
 use native.Mathlib.Omega.{arith}
 use native.Mathlib.Numerals.{add-one}
@@ -8,14 +9,14 @@ use lib.ListN.{length, take, drop, getD, length-append, length-map}
 use lib.Seq.{take-suc, take-all, length-take-le, getD-take, take-append-seam}
 use Rattle.model.specs.Base.{Bytes, flatMap}
 use Rattle.model.specs.Field.{Field, encodeField, encodeFields}
-use Rattle.model.specs.Operation.{fieldTags, kind, values, tagged, encodePayload}
-use Rattle.spans.specs.Spans.{nameOf, lengthOf, Sound}
+use Rattle.model.specs.Operation.{Op, write, delete, deleteAll, createCollection, deleteCollection, copyCollection, fieldTable, fieldTags, kind, values, tagged, encodePayload}
+use Rattle.spans.specs.Spans.{nameOf, lengthOf, Sound, Decides}
 use Rattle.spans.specs.declared.NameRef.{NameRef}
 use Rattle.spans.proofs.Parts.{length-name}
 use Rattle.field.specs.Writing.{written, field, writtenField}
 use Rattle.field.proofs.Written.{written-then, written-nil, written-front, length-written, encoded-length, field-short}
 use Rattle.transaction.proofs.Lists.{map-at}
-use Rattle.transaction.specs.Operations.{opOf, payloadOf, Encodes}
+use Rattle.transaction.specs.Operations.{opOf, SoundOp, payloadOf, Fields, Encodes, WritesOp}
 use Rattle.transaction.specs.Rows.{columnOf, Columns, Puts}
 use Rattle.transaction.specs.declared.Operation.{Operation}
 use Rattle.transaction.specs.declared.Payload.{Payload}
@@ -65,7 +66,7 @@ one-field f = append-nil (encodeField f)
 unfoldable pub rowFields : Bytes → List ℕ → List Column → ℕ → List Field
 rowFields src row cs n = tagged (take n row) (map (columnOf src) (take n cs))
 
--- `payload_of` has written the first i of n fields.
+-- `fields_of` has written the first i of n fields.
 pub record Encoding (src : Bytes) (row : List ℕ) (cs : List Column) (n : ℕ) (start : Bytes) (bytes : Bytes) (at i : ℕ) : Type 0 where
   pub within : i ≤ 4
   pub whole : length start ≡ 268
@@ -116,7 +117,7 @@ module _ {src : Bytes} {row : List ℕ} {cs : List Column} {n : ℕ} {start byte
 
 -- The fields of an operation's row are its payload.
 pub encodes : {src : Bytes} {row : List ℕ} {cs : List Column} {n : ℕ} {start bytes : Bytes} {at i : ℕ} (o : Operation) → Encoding src row cs n start bytes at i → length row ≡ 4 → n ≤ 4 → n ≤ i →
-    take n row ≡ fieldTags (kind (opOf src o)) → Columns o cs → Encodes src o (record { bytes = bytes; len = at })
+    take n row ≡ fieldTags (kind (opOf src o)) → Columns o cs → Fields src o (record { bytes = bytes; len = at })
 unfolding rowFields encodePayload
 encodes {src} {row} {cs} {n} o w r b h t c =
     let k : n ≡ length (fieldTags (kind (opOf src o))) = sym (length-take-le n row (omega arith)) ∙ ap length t in
@@ -127,5 +128,37 @@ encodes {src} {row} {cs} {n} o w r b h t c =
       same = all-written w (omega arith) (omega (arith, c .size)) h ∙ ap encodeFields (ap₂ tagged t v);
     }
 
-pub payload-size : {src : Bytes} {o : Operation} {p : Payload} → Encodes src o p → p .len ≡ length (payloadOf p)
-payload-size {p = p} e = sym (length-take-le (p .len) (p .bytes) (omega (arith, e .size, e .within)))
+-- Every payload has its kind's field.
+kind-first : (o : Op) → 1 ≤ length (encodePayload o)
+unfolding encodePayload encodeFields encodeField tagged fieldTags fieldTable kind values
+kind-first (write w) = omega arith
+kind-first (delete c k) = omega arith
+kind-first (deleteAll c) = omega arith
+kind-first (createCollection c) = omega arith
+kind-first (deleteCollection c) = omega arith
+kind-first (copyCollection a b x) = omega arith
+
+-- What `is_sound` answered decides what the payload is.
+module _ {src : Bytes} {o : Operation} {b : Bool} (d : Decides (SoundOp src o) b) where
+  pub all-fields : {p : Payload} → b ≡ true → Fields src o p → Encodes src o p
+  all-fields t f = record { size = f .size; within = f .within; sound = λ _. f .same; unsound = λ n. absurd (n (d .yes t)) }
+
+  pub no-payload : {bytes : Bytes} → b ≡ false → length bytes ≡ 268 → Encodes src o (record { bytes = bytes; len = 0 })
+  no-payload t l = record { size = l; within = omega arith; sound = λ h. absurd (d .no t h); unsound = λ _. refl }
+
+-- What is known of a payload: how long it is, and that it is empty only where nothing is to be written.
+module _ {src : Bytes} {o : Operation} {p : Payload} (e : Encodes src o p) where
+  pub payload-size : p .len ≡ length (payloadOf p)
+  payload-size = sym (length-take-le (p .len) (p .bytes) (omega (arith, e .size, e .within)))
+
+  pub payload-out : {at : ℕ} {out new : Bytes} → new ≡ written at (payloadOf p) out → WritesOp src o (encodePayload (opOf src o)) at out new (p .len)
+  payload-out {at} {out} {new} w = record {
+    sound = λ h. record { out = rw (← (e .sound h)) w; size = payload-size ∙ ap length (e .sound h) };
+    unsound = λ h. (w ∙ ap (λ (v : Bytes). written at v out) (e .unsound h) ∙ written-nil at out, payload-size ∙ ap length (e .unsound h));
+  }
+
+  pub empty-unsound : p .len ≡ 0 → SoundOp src o → ⊥
+  empty-unsound z h = omega (arith, kind-first (opOf src o), ap length (e .sound h), payload-size)
+
+  pub some-sound : {A : Type 0} → (p .len ≡ 0 → ⊥) → (SoundOp src o → ⊥) → A
+  some-sound n h = absurd (n (payload-size ∙ ap length (e .unsound h)))

@@ -1,22 +1,22 @@
 -- What a payload decodes to, by the row of its kind, and in which bytes its names lie.
-use mathlib.Core.Path.{_≡_, refl, sym, ap, ap₂, _∙_}
+use mathlib.Core.Path.{_≡_, refl, sym, ap, subst, _∙_}
 use mathlib.Core.List.{List, [], _∷_, map}
 use mathlib.Core.Bool.{Bool, true, false, _&&_}
 use mathlib.Core.Option.{Option, none, some}
-use Prim.Native.Nat.{ℕ, zero, suc, _+_, _-_, _≤_, _<_}
+use Prim.Native.Nat.{ℕ, zero, suc, _-_, _≤_, _<_}
 use native.Mathlib.Omega.{arith}
 use lib.Dec.{leb}
-use lib.ListN.{length, take, drop, getD, getElem?, drop-of-length-le}
-use lib.Seq.{length-take-le, take-take}
+use lib.ListN.{length, take, drop, getD, getElem?, take-append-drop, drop-of-length-le}
 use borrow.Author.Tests.{leb-true, leb-false, le-leb, lt-leb}
 use types.Run.{OneOf}
 use denote.Enum.Declared.{tagOf}
 use Rattle.model.specs.Base.{Bytes, caseOption, if_then_else_, sameBytes, allOf}
 use Rattle.model.specs.Field.{Field, fieldsFrom, decodeFields}
 use Rattle.model.specs.Operation.{fieldTags, makers, validValue, opOfFields, decodePayload}
-use Rattle.laws.specs.Tests.{and-both, All}
-use Rattle.spans.specs.Spans.{backups, nameOf, Sound}
+use Rattle.laws.specs.Tests.{and-both, All, all-imp}
+use Rattle.spans.specs.Spans.{nameOf, Sound}
 use Rattle.spans.specs.declared.NameRef.{NameRef}
+use Rattle.spans.proofs.Prefix.{prefix-sound, prefix-name, map-same}
 use Rattle.field.specs.Reading.{fieldOf, Reads, Stands}
 use Rattle.field.proofs.Fields.{no-field}
 use Rattle.field.specs.declared.Item.{Item}
@@ -72,26 +72,18 @@ part-drop (suc start) (suc end) [] h = go (suc end - suc start)
 part-drop (suc start) (suc end) (x ∷ l) h = let e : suc end - suc start ≡ end - start = omega arith in rw e (part-drop start end l (omega arith))
 
 -- The names of the bytes before a place are names of all of them.
-module _ (e : ℕ) (src : Bytes) (k : e ≤ length src) where
+module _ (e : ℕ) (src : Bytes) where
   wide-sound : (r : NameRef) → Sound (take e src) r → Sound src r
-  wide-sound r h = record { inside = omega (arith, h .inside, length-take-le e src k); room = h .room }
+  wide-sound r h = subst (λ (s : Bytes). Sound s r) (take-append-drop e src) (prefix-sound (drop e src) h)
 
   wide-name : (r : NameRef) → Sound (take e src) r → nameOf (take e src) r ≡ nameOf src r
-  unfolding nameOf
-  wide-name r h =
-      let l : r .start + r .len ≤ e = omega (arith, h .inside, length-take-le e src k) in
-      ap (λ (n : Bytes). backups (r .baks) n) (ap (take (r .len)) (sym (part-drop (r .start) e src (omega arith))) ∙ take-take (r .len) (e - r .start) (drop (r .start) src) (omega arith))
-
-  wide-sounds : (l : List NameRef) → All (Sound (take e src)) l → All (Sound src) l
-  wide-sounds [] h = tt
-  wide-sounds (r ∷ l) h = (wide-sound r (h .0), wide-sounds l (h .1))
+  wide-name r h = sym (prefix-name (drop e src) h) ∙ ap (λ (s : Bytes). nameOf s r) (take-append-drop e src)
 
   wide-names : (l : List NameRef) → All (Sound (take e src)) l → map (nameOf (take e src)) l ≡ map (nameOf src) l
-  wide-names [] h = refl
-  wide-names (r ∷ l) h = ap₂ _∷_ (wide-name r (h .0)) (wide-names l (h .1))
+  wide-names l h = map-same (nameOf (take e src)) (nameOf src) wide-name l h
 
   pub wide-parts : {l : List NameRef} → SoundParts (take e src) l → SoundParts src l
-  wide-parts {l} h = record { size = h .size; sound = wide-sounds l (h .sound) }
+  wide-parts {l} h = record { size = h .size; sound = all-imp wide-sound l (h .sound) }
 
 -- The tests of `in_bounds`, and what it says.
 module _ (src : Bytes) (start end : ℕ) where
@@ -143,5 +135,5 @@ module _ {src : Bytes} {start end : ℕ} (b : Bounds src start end) where
     pub fits : {d : Decoded} → v .fit ≡ true → Makes src k (v .parts) d → Decodes src start end d
     fits f d = record {
       sound = d .sound;
-      same = d .same ∙ sym (there ∙ found ∙ rw f (made-row (take end src) k (v .parts) (m .parts .size) ∙ ap (made k) (wide-names end src (b .within) (v .parts) (m .parts .sound))));
+      same = d .same ∙ sym (there ∙ found ∙ rw f (made-row (take end src) k (v .parts) (m .parts .size) ∙ ap (made k) (wide-names end src (v .parts) (m .parts .sound))));
     }

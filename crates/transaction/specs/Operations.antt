@@ -1,6 +1,7 @@
 -- What an `Operation` stands for, and what decoding answers.
 use mathlib.Core.Path.{_≡_}
 use Prim.Native.Nat.{ℕ, _-_, _≤_}
+use mathlib.Core.List.{[]}
 use mathlib.Core.Option.{Option, none, some}
 use mathlib.Core.Bool.{Bool, _&&_}
 use lib.ListN.{length, take, drop}
@@ -65,13 +66,25 @@ pub record Decodes (src : Bytes) (start end : ℕ) (d : Decoded) : Type 0 where
 abbrev pub payloadOf : Payload → Bytes
 payloadOf p = take (p .len) (p .bytes)
 
--- What `payload_of` makes of an operation.
-pub record Encodes (src : Bytes) (o : Operation) (p : Payload) : Type 0 where
+-- What `fields_of` makes of an operation whose names lie in the bytes.
+pub record Fields (src : Bytes) (o : Operation) (p : Payload) : Type 0 where
   pub size : length (p .bytes) ≡ 268
   pub within : p .len ≤ 268
   pub same : payloadOf p ≡ encodePayload (opOf src o)
+
+-- What `payload_of` makes of any operation: nothing where its names do not all lie in the bytes.
+pub record Encodes (src : Bytes) (o : Operation) (p : Payload) : Type 0 where
+  pub size : length (p .bytes) ≡ 268
+  pub within : p .len ≤ 268
+  pub sound : SoundOp src o → payloadOf p ≡ encodePayload (opOf src o)
+  pub unsound : (SoundOp src o → ⊥) → payloadOf p ≡ []
 
 -- What a function does that writes some bytes at a place and says how many.
 pub record Writes (bytes : Bytes) (at : ℕ) (before after : Bytes) (n : ℕ) : Type 0 where
   pub out : after ≡ written at bytes before
   pub size : n ≡ length bytes
+
+-- The same of bytes that are made of an operation: nothing is written where its names do not all lie in the bytes.
+pub record WritesOp (src : Bytes) (o : Operation) (bytes : Bytes) (at : ℕ) (before after : Bytes) (n : ℕ) : Type 0 where
+  pub sound : SoundOp src o → Writes bytes at before after n
+  pub unsound : (SoundOp src o → ⊥) → (after ≡ before) × (n ≡ 0)

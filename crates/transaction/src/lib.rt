@@ -6,8 +6,8 @@ ghost use lib.ListN.{length, getD, take};
 ghost use Rattle.model.specs.Base.{if_then_else_, sameBytes};
 ghost use Rattle.model.specs.Operation.{fieldTags, kind, validValue, encodePayload};
 ghost use Rattle.field.specs.Writing.{field};
-ghost use Rattle.spans.specs.Spans.{nameOf, Sound};
-ghost use Rattle.transaction.specs.Operations.{opOf, SoundOp, inBounds, Decodes, Encodes, Writes};
+ghost use Rattle.spans.specs.Spans.{nameOf, Sound, Decides};
+ghost use Rattle.transaction.specs.Operations.{opOf, SoundOp, inBounds, Decodes, Fields, Encodes, WritesOp};
 ghost use Rattle.transaction.specs.Rows.{tagsIn, SoundParts, Matches, Makes, SoundColumn, Columns, Puts};
 use field::Read;
 use spans::NameRef;
@@ -302,10 +302,31 @@ fn put_column(src: &[u8], tag: u8, value: Column, out: &mut [u8], at: usize) -> 
     }
 }
 
-// An operation's payload, by the row of its kind.
-pub fn payload_of(src: &[u8], op: Operation) -> Payload
+// Whether two names lie in the bytes.
+fn are_sound(src: &[u8], a: NameRef, b: NameRef) -> bool
+    ensures { λ r. ⌜ Decides (Sound (now (src .entry)) a × Sound (now (src .entry)) b) r ⌝ }
+{
+    spans::is_sound(src, a) && spans::is_sound(src, b)
+}
+
+// Whether all names of an operation lie in the bytes.
+pub fn is_sound(src: &[u8], op: Operation) -> bool
+    ensures { λ r. ⌜ Decides (SoundOp (now (src .entry)) op) r ⌝ }
+{
+    match op {
+        Operation::Write(c, k, s) => spans::is_sound(src, c) && are_sound(src, k, s),
+        Operation::Delete(c, k) => are_sound(src, c, k),
+        Operation::DeleteAll(c) => spans::is_sound(src, c),
+        Operation::CreateCollection(c) => spans::is_sound(src, c),
+        Operation::DeleteCollection(c) => spans::is_sound(src, c),
+        Operation::CopyCollection(a, b, _) => are_sound(src, a, b),
+    }
+}
+
+// The fields of an operation, one behind the other, by the row of its kind.
+fn fields_of(src: &[u8], op: Operation) -> Payload
     requires { ⌜ SoundOp (now src) op ⌝ }
-    ensures { λ r. ⌜ Encodes (now (src .entry)) op r ⌝ }
+    ensures { λ r. ⌜ Fields (now (src .entry)) op r ⌝ }
 {
     let row = row_of(kind_of(op));
     let n = count_fields(row);
@@ -324,10 +345,22 @@ pub fn payload_of(src: &[u8], op: Operation) -> Payload
     }
 }
 
+// An operation's payload; an empty one where its names do not all lie in the bytes.
+pub fn payload_of(src: &[u8], op: Operation) -> Payload
+    ensures { λ r. ⌜ Encodes (now (src .entry)) op r ⌝ }
+{
+    if is_sound(src, op) {
+        return fields_of(src, op);
+    }
+    Payload {
+        bytes: [0u8; 268],
+        len: 0,
+    }
+}
+
 // An operation's payload written at `at`, and how long it is.
 pub fn encode_operation(src: &[u8], op: Operation, out: &mut [u8], at: usize) -> usize
-    requires { ⌜ SoundOp (now src) op ⌝ }
-    ensures { λ r. ⌜ Writes (encodePayload (opOf (now (src .entry)) op)) at (now (out .entry)) (now (out .exit)) r ⌝ }
+    ensures { λ r. ⌜ WritesOp (now (src .entry)) op (encodePayload (opOf (now (src .entry)) op)) at (now (out .entry)) (now (out .exit)) r ⌝ }
 {
     let p = payload_of(src, op);
     let bytes = p.bytes;

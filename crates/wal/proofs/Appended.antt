@@ -8,10 +8,14 @@ use Rattle.model.specs.Base.{Bytes}
 use Rattle.model.specs.Crc32.{crc32}
 use Rattle.model.specs.Field.{littleEndian}
 use Rattle.model.specs.Log.{header, entry}
+use Rattle.model.specs.Operation.{encodePayload}
 use Rattle.laws.specs.AppendLaws.{entry-length}
 use Rattle.field.specs.Writing.{written}
 use Rattle.field.proofs.Written.{written-then, written-room, written-none}
-use Rattle.transaction.specs.Operations.{Writes}
+use Rattle.transaction.specs.Operations.{opOf, payloadOf, Encodes, Writes, WritesOp}
+use Rattle.transaction.specs.declared.Operation.{Operation}
+use Rattle.transaction.specs.declared.Payload.{Payload}
+use Rattle.transaction.proofs.Encode.{empty-unsound, some-sound}
 
 -- The checksum goes behind the first four bytes of the header.
 pub header-made : (status crc : ℕ) {h : Bytes} → crc ≡ crc32 (0xCA ∷ status ∷ []) → h ≡ written 4 (littleEndian 4 crc) (0xCA ∷ status ∷ 0 ∷ 0 ∷ 0 ∷ 0 ∷ 0 ∷ 0 ∷ []) → h ≡ header status
@@ -30,3 +34,11 @@ module _ (at n : ℕ) (p out : Bytes) (l : n ≡ length p) where
 
   pub entry-none : length out - at < 8 + n → Writes (entry p) at out out (8 + n)
   entry-none h = record { out = written-none at (entry p) out (omega (arith, entry-length p)); size = omega (arith, entry-length p) }
+
+-- The entry of an operation: that of its payload, and none without one.
+module _ {src : Bytes} {o : Operation} {p : Payload} {at : ℕ} {out : Bytes} (e : Encodes src o p) where
+  pub no-entry : p .len ≡ 0 → WritesOp src o (entry (encodePayload (opOf src o))) at out out 0
+  no-entry z = record { sound = λ h. absurd (empty-unsound e z h); unsound = λ _. (refl, refl) }
+
+  pub one-entry : {new : Bytes} {n : ℕ} → (p .len ≡ 0 → ⊥) → Writes (entry (payloadOf p)) at out new n → WritesOp src o (entry (encodePayload (opOf src o))) at out new n
+  one-entry z w = record { sound = λ h. rw (← (e .sound h)) w; unsound = λ h. some-sound e z h }

@@ -3,7 +3,7 @@ ghost use mathlib.Core.Path.{_≡_};
 ghost use Rattle.model.specs.Operation.{encodePayload};
 ghost use Rattle.model.specs.Log.{header, entry, entries, readJournal};
 ghost use Rattle.field.specs.Writing.{written};
-ghost use Rattle.transaction.specs.Operations.{opOf, SoundOp, Bounds, Writes};
+ghost use Rattle.transaction.specs.Operations.{opOf, Bounds, WritesOp};
 ghost use Rattle.wal.specs.Logs.{journalOf, payloadAt, EntryAt, ReadsLog, WalksLog};
 use spans::NameRef;
 use transaction::Decoded;
@@ -238,14 +238,16 @@ pub fn read_wal(src: &[u8], start: usize, end: usize) -> WalRead
     walk_entries(src, start + WAL_FILE_HEADER_SIZE, end)
 }
 
-// The entry of an operation written at `at`, and how long it is.
+// The entry of an operation written at `at`, and how long it is; none where its names do not all lie in the bytes.
 pub fn append_operation(src: &[u8], op: Operation, out: &mut [u8], at: usize) -> usize
-    requires { ⌜ SoundOp (now src) op ⌝ }
-    ensures { λ r. ⌜ Writes (entry (encodePayload (opOf (now (src .entry)) op))) at (now (out .entry)) (now (out .exit)) r ⌝ }
+    ensures { λ r. ⌜ WritesOp (now (src .entry)) op (entry (encodePayload (opOf (now (src .entry)) op))) at (now (out .entry)) (now (out .exit)) r ⌝ }
 {
     let p = transaction::payload_of(src, op);
     let bytes = p.bytes;
     let n = p.len;
+    if n == 0 {
+        return 0;
+    }
     let len = ENTRY_HEADER_SIZE + n;
     if len <= field::left(out.len(), at) {
         field::put_u32(out, at, crc32::hash(&bytes[..n]));

@@ -23,11 +23,14 @@ add-if1 c = search needs
 left-requires : tie.Need-left-requires
 left-requires c κs = search needs
 
-add-put-field-head : tie.Need-add-put-field-head
-add-put-field-head c = search needs
+add-low : tie.Need-add-low
+add-low c = search needs
 
-cast-put-field-head : tie.Need-cast-put-field-head
-cast-put-field-head c = search needs
+add-low-2 : tie.Need-add-low-2
+add-low-2 c = search needs
+
+low-requires : tie.Need-low-requires
+low-requires c κs = search needs
 
 put-field-head-requires : tie.Need-put-field-head-requires
 put-field-head-requires c κs = search needs
@@ -57,10 +60,10 @@ same-length : tie.Need-same-length
 same-length c = search needs
 
 returns : tie.Need-returns
-returns c = marked-written _ _ _ _ _ _ (c .before .before .before .before .before .before .before .before .before .before .before .before .before .before .before .before .before .before .pre .0) (c .before .before .before .before .before .before .before .before .before .before .before .before .before .before .before .before .before .before .pre .1) (c .before .before .before .before .before .before .before .before .before .before .before .before .before .before .before .header-of .ensures .1 .0) (c .before .before .before .before .before .before .before .before .before .before .before .before .before .before .before .header-of .ensures .1 .1) (c .before .before .before .before .before .before .before .before .before .before .before .put-field-head .ensures) (c .before .before .before .before .before .before .before .mark-committing .ensures) (c .before .before .put-bytes .ensures) (omega arith)
+returns c = marked-written _ _ _ _ _ _ _ (c .before .before .before .before .before .before .before .before .before .before .before .before .before .before .before .before .before .before .before .pre .0) (c .before .before .before .before .before .before .before .before .before .before .before .before .before .before .before .before .header-of .ensures .1 .0) (c .before .before .before .before .before .before .before .before .before .before .before .before .before .before .before .before .header-of .ensures .1 .1) _ (c .before .before .before .before .before .before .before .before .before .before .before .before .low .ensures) (c .before .before .before .before .before .before .before .before .before .before .before .put-field-head .ensures) (c .before .before .before .before .before .before .before .mark-committing .ensures) (c .before .before .put-bytes .ensures) (omega arith)
 
 returns-2 : tie.Need-returns-2
-returns-2 c = marked-none _ _ _ _ _ _ (c .before .before .before .before .before .pre .0) (c .before .before .before .before .before .pre .1) (c .before .before .header-of .ensures .1 .0) (c .before .before .header-of .ensures .1 .1) (omega arith)
+returns-2 c = marked-none _ _ _ _ _ _ _ (c .before .before .before .before .before .pre .0) (c .before .before .header-of .ensures .1 .0) (c .before .before .header-of .ensures .1 .1) (omega arith)
 
 pub put-marked-spec : {M : Type 1} → statement M
 put-marked-spec =
@@ -72,8 +75,9 @@ put-marked-spec =
     add-end
     add-if1
     left-requires
-    add-put-field-head
-    cast-put-field-head
+    add-low
+    add-low-2
+    low-requires
     put-field-head-requires
     add-mark-committing
     mark-committing-requires

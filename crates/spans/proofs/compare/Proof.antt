@@ -1,12 +1,12 @@
--- `compare` walks the part that both spans have, and `compare_from` the rest. The invariant: what is left decides.
+-- `compare` walks the part that both spans have, from the first eight that differ on, and `compare_from` the rest. The invariant: what is left decides.
 use borrow.Author.Needs.{needs}
 use native.Mathlib.Omega.{arith}
-use mathlib.Core.Path.{refl, _∙_}
+use mathlib.Core.Path.{_∙_}
 use Prim.Native.Nat.{_-_}
 use Rattle.model.specs.Order.{cmpName}
 use Rattle.spans.specs.Spans.{nameOf}
 use Rattle.spans.proofs.Parts.{in-span}
-use Rattle.spans.proofs.Walk.{Walk, less, greater, next}
+use Rattle.spans.proofs.Walk.{Walk, begun, less, greater, next}
 use Rattle.spans.proofs.compare.Statement.{statement}
 use Rattle.spans.proofs.compare.Tie as tie
 
@@ -31,8 +31,11 @@ wide-requires-2 c κs = search needs
 fewer-requires : tie.Need-fewer-requires Inv-loop μ-loop
 fewer-requires c κs = search needs
 
+common-eights-requires : tie.Need-common-eights-requires Inv-loop μ-loop
+common-eights-requires c κs = search needs
+
 loop-holds : tie.Need-loop-holds Inv-loop μ-loop
-loop-holds c = record { left-sound = c .before .before .before .before .before .before .pre .0; right-sound = c .before .before .before .before .before .before .pre .1; in-left = omega arith; in-right = omega arith; same = refl }
+loop-holds c = begun (c .before .before .before .before .before .before .before .pre .0) (c .before .before .before .before .before .before .before .pre .1) (c .before .before .before .before .before .wider .ensures .0) (c .before .before .before .before .wider2 .ensures .0) (omega arith) (omega arith) (c .common-eights .ensures .1)
 
 add-x : tie.Need-add-x Inv-loop μ-loop
 add-x c = search needs
@@ -47,10 +50,10 @@ shared-slice-read-y : tie.Need-shared-slice-read-y Inv-loop μ-loop
 shared-slice-read-y c = search needs
 
 returns : tie.Need-returns Inv-loop μ-loop
-returns c = less (c .before .before .before .before .loop .inv) (omega arith) (omega arith) (in-span (c .before .before .before .before .loop .inv .left-sound) _ _ (c .before .before .before .before .before .before .before .before .before .wider .ensures .0) (omega arith)) (in-span (c .before .before .before .before .loop .inv .right-sound) _ _ (c .before .before .before .before .before .before .before .before .wider2 .ensures .0) (omega arith)) (c .if1 .taken)
+returns c = less (c .before .before .before .before .loop .inv) (omega arith) (omega arith) (in-span (c .before .before .before .before .loop .inv .left-sound) _ _ (c .before .before .before .before .before .before .before .before .before .before .wider .ensures .0) (omega arith)) (in-span (c .before .before .before .before .loop .inv .right-sound) _ _ (c .before .before .before .before .before .before .before .before .before .wider2 .ensures .0) (omega arith)) (c .if1 .taken)
 
 returns-2 : tie.Need-returns-2 Inv-loop μ-loop
-returns-2 c = greater (c .before .before .before .before .before .loop .inv) (omega arith) (omega arith) (in-span (c .before .before .before .before .before .loop .inv .left-sound) _ _ (c .before .before .before .before .before .before .before .before .before .before .wider .ensures .0) (omega arith)) (in-span (c .before .before .before .before .before .loop .inv .right-sound) _ _ (c .before .before .before .before .before .before .before .before .before .wider2 .ensures .0) (omega arith)) (c .if2 .taken)
+returns-2 c = greater (c .before .before .before .before .before .loop .inv) (omega arith) (omega arith) (in-span (c .before .before .before .before .before .loop .inv .left-sound) _ _ (c .before .before .before .before .before .before .before .before .before .before .before .wider .ensures .0) (omega arith)) (in-span (c .before .before .before .before .before .loop .inv .right-sound) _ _ (c .before .before .before .before .before .before .before .before .before .before .wider2 .ensures .0) (omega arith)) (c .if2 .taken)
 
 add-i : tie.Need-add-i Inv-loop μ-loop
 add-i c = search needs
@@ -59,7 +62,7 @@ loop-less : tie.Need-loop-less Inv-loop μ-loop
 loop-less c = search needs
 
 loop-again : tie.Need-loop-again Inv-loop μ-loop
-loop-again c = next (c .before .before .before .before .before .loop .inv) (omega arith) (omega arith) (in-span (c .before .before .before .before .before .loop .inv .left-sound) _ _ (c .before .before .before .before .before .before .before .before .before .before .wider .ensures .0) (omega arith)) (in-span (c .before .before .before .before .before .loop .inv .right-sound) _ _ (c .before .before .before .before .before .before .before .before .before .wider2 .ensures .0) (omega arith)) (c .if2 .left) (c .before .if1 .left)
+loop-again c = next (c .before .before .before .before .before .loop .inv) (omega arith) (omega arith) (in-span (c .before .before .before .before .before .loop .inv .left-sound) _ _ (c .before .before .before .before .before .before .before .before .before .before .before .wider .ensures .0) (omega arith)) (in-span (c .before .before .before .before .before .loop .inv .right-sound) _ _ (c .before .before .before .before .before .before .before .before .before .before .wider2 .ensures .0) (omega arith)) (c .if2 .left) (c .before .if1 .left)
 
 compare-from-requires : tie.Need-compare-from-requires Inv-loop μ-loop
 compare-from-requires c κs = ((c .before .loop .inv .left-sound, c .before .loop .inv .right-sound), (omega arith, omega arith))
@@ -78,6 +81,7 @@ compare-spec =
     wide-requires
     wide-requires-2
     fewer-requires
+    common-eights-requires
     loop-holds
     add-x
     shared-slice-read-x

@@ -25,8 +25,8 @@ from-held-requires c κs = ((c .before .before .before .before .before .pre .0 .
 enum-known-x-2 : tie.Need-enum-known-x-2
 enum-known-x-2 c = search needs
 
-any-file-requires : tie.Need-any-file-requires
-any-file-requires c κs = (c .before .before .before .before .pre .0 .tree, names-of (c .before .before .before .before .pre .1) (c .before .x2 .given .1) .1)
+is-dir-empty-requires : tie.Need-is-dir-empty-requires
+is-dir-empty-requires c κs = (c .before .before .before .before .pre .0 .tree, names-of (c .before .before .before .before .pre .1) (c .before .x2 .given .1) .1)
 
 enum-known-x-3 : tie.Need-enum-known-x-3
 enum-known-x-3 c = search needs
@@ -44,10 +44,10 @@ returns-3 : tie.Need-returns-3
 returns-3 c = moves _ (storeOf _ (c .before .before .before .before .before .before .args .s)) (c .before .before .before .x .given .1) (c .before .empty .ensures _) (c .from-held .ensures)
 
 returns-4 : tie.Need-returns-4
-returns-4 c = target _ (storeOf _ (c .before .before .before .before .before .before .args .s)) (c .before .before .before .x2 .given .1) (names-of (c .before .before .before .before .before .before .pre .1) (c .before .before .before .x2 .given .1) .1) (sym (c .if2 .taken) ∙ c .before .any-file .ensures)
+returns-4 c = target _ (storeOf _ (c .before .before .before .before .before .before .args .s)) (c .before .before .before .x2 .given .1) (names-of (c .before .before .before .before .before .before .pre .1) (c .before .before .before .x2 .given .1) .1) (sym (c .if2 .taken) ∙ c .before .is-dir-empty .ensures)
 
 returns-5 : tie.Need-returns-5
-returns-5 c = target _ (storeOf _ (c .before .before .before .before .before .before .args .s)) (c .before .before .before .x2 .given .1) (names-of (c .before .before .before .before .before .before .pre .1) (c .before .before .before .x2 .given .1) .1) (sym (c .if2 .left) ∙ c .before .any-file .ensures)
+returns-5 c = target _ (storeOf _ (c .before .before .before .before .before .before .args .s)) (c .before .before .before .x2 .given .1) (names-of (c .before .before .before .before .before .before .pre .1) (c .before .before .before .x2 .given .1) .1) (sym (c .if2 .left) ∙ c .before .is-dir-empty .ensures)
 
 returns-6 : tie.Need-returns-6
 returns-6 c = copies _ (storeOf _ (c .before .before .before .before .before .args .s)) (c .before .before .x3 .given .1) (c .from-held2 .ensures)
@@ -65,7 +65,7 @@ fault-spec =
     empty-requires
     from-held-requires
     enum-known-x-2
-    any-file-requires
+    is-dir-empty-requires
     enum-known-x-3
     from-held-requires-2
     returns

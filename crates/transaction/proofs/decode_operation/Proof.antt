@@ -58,7 +58,7 @@ returns-3 : tie.Need-returns-3
 returns-3 c = no-fit (there (c .before .before .before .before .before .before .before .before .before .before .before)) _ (stood (c .before .before .before .before .before .before .before)) (c .before .before .before .before .first .ensures) (rw (c .before .before .before .row-of .ensures) at (c .before .before .read-row .ensures)) (not-true _ (c .if2 .taken))
 
 operation-of-requires : tie.Need-operation-of-requires
-operation-of-requires c κs = wide-parts _ _ (there (c .before .before .before .before .before .before .before .before .before .before .before .before) .within) (c .before .before .before .read-row .ensures .parts)
+operation-of-requires c κs = wide-parts (c .before .before .before .before .before .before .before .before .before .before .before .before .before .before .before .args .end) _ (c .before .before .before .read-row .ensures .parts)
 
 returns-4 : tie.Need-returns-4
 returns-4 c = fits (there (c .before .before .before .before .before .before .before .before .before .before .before .before .before)) _ (stood (c .before .before .before .before .before .before .before .before .before)) (c .before .before .before .before .before .before .first .ensures) (rw (c .before .before .before .before .before .row-of .ensures) at (c .before .before .before .before .read-row .ensures)) (not-false _ (c .before .before .if2 .left)) (c .operation-of .ensures)

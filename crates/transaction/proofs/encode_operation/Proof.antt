@@ -1,8 +1,6 @@
 -- `transaction::encode_operation` meets its contract: the payload's bytes, written.
-use mathlib.Core.Path.{ap, _∙_}
-use lib.ListN.{length}
 use borrow.Author.Needs.{needs}
-use Rattle.transaction.proofs.Encode.{payload-size}
+use Rattle.transaction.proofs.Encode.{payload-size, payload-out}
 use Rattle.transaction.proofs.encode_operation.Statement.{statement}
 use Rattle.transaction.proofs.encode_operation.Tie as tie
 
@@ -22,7 +20,7 @@ same-length : tie.Need-same-length
 same-length c = search needs
 
 returns : tie.Need-returns
-returns c = record { out = rw (← (c .before .before .before .before .before .before .payload-of .ensures .same)) (c .before .before .put-bytes .ensures); size = payload-size (c .before .before .before .before .before .before .payload-of .ensures) ∙ ap length (c .before .before .before .before .before .before .payload-of .ensures .same) }
+returns c = payload-out (c .before .before .before .before .before .before .payload-of .ensures) (c .before .before .put-bytes .ensures)
 
 pub encode-operation-spec : {M : Type 1} → statement M
 encode-operation-spec =

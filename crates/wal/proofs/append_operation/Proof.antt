@@ -2,12 +2,15 @@
 use native.Mathlib.Omega.{arith}
 use borrow.Author.Needs.{needs}
 use Rattle.transaction.proofs.Encode.{payload-size}
-use Rattle.wal.proofs.Appended.{entry-written, entry-none}
+use Rattle.wal.proofs.Appended.{entry-written, entry-none, no-entry, one-entry}
 use Rattle.wal.proofs.append_operation.Statement.{statement}
 use Rattle.wal.proofs.append_operation.Tie as tie
 
 payload-of-requires : tie.Need-payload-of-requires
 payload-of-requires c κs = search needs
+
+returns : tie.Need-returns
+returns c = no-entry (c .before .before .payload-of .ensures) (c .if1 .taken)
 
 add-len : tie.Need-add-len
 add-len c = search needs
@@ -19,7 +22,7 @@ array-share-prefix-bytes : tie.Need-array-share-prefix-bytes
 array-share-prefix-bytes c = search needs
 
 slice-aggregate-hash : tie.Need-slice-aggregate-hash
-slice-aggregate-hash c = payload-size (c .before .before .before .before .before .payload-of .ensures)
+slice-aggregate-hash c = payload-size (c .before .before .before .before .before .before .payload-of .ensures)
 
 hash-requires : tie.Need-hash-requires
 hash-requires c κs = search needs
@@ -43,7 +46,7 @@ array-share-prefix-bytes-2 : tie.Need-array-share-prefix-bytes-2
 array-share-prefix-bytes-2 c = search needs
 
 slice-aggregate-put-bytes : tie.Need-slice-aggregate-put-bytes
-slice-aggregate-put-bytes c = payload-size (c .before .before .before .before .before .before .before .before .before .before .before .before .before .before .before .payload-of .ensures)
+slice-aggregate-put-bytes c = payload-size (c .before .before .before .before .before .before .before .before .before .before .before .before .before .before .before .before .payload-of .ensures)
 
 put-bytes-requires : tie.Need-put-bytes-requires
 put-bytes-requires c κs = search needs
@@ -51,17 +54,18 @@ put-bytes-requires c κs = search needs
 same-length : tie.Need-same-length
 same-length c = search needs
 
-returns : tie.Need-returns
-returns c = rw (← (c .before .before .before .before .before .before .before .before .before .before .before .before .before .before .before .before .before .before .payload-of .ensures .same)) (entry-written _ _ _ _ (payload-size (c .before .before .before .before .before .before .before .before .before .before .before .before .before .before .before .before .before .before .payload-of .ensures)) (c .before .before .before .before .before .before .before .before .before .before .before .before .hash .ensures .0) (c .before .before .before .before .before .before .before .before .before .before .before .put-u32 .ensures) (c .before .before .before .before .before .before .before .put-u322 .ensures) (c .before .before .put-bytes .ensures) (omega arith))
-
 returns-2 : tie.Need-returns-2
-returns-2 c = rw (← (c .before .before .before .payload-of .ensures .same)) (entry-none _ _ _ _ (payload-size (c .before .before .before .payload-of .ensures)) (omega arith))
+returns-2 c = one-entry (c .before .before .before .before .before .before .before .before .before .before .before .before .before .before .before .before .before .before .before .payload-of .ensures) (c .before .before .before .before .before .before .before .before .before .before .before .before .before .before .before .before .before .if1 .left) (entry-written _ _ _ _ (payload-size (c .before .before .before .before .before .before .before .before .before .before .before .before .before .before .before .before .before .before .before .payload-of .ensures)) (c .before .before .before .before .before .before .before .before .before .before .before .before .hash .ensures .0) (c .before .before .before .before .before .before .before .before .before .before .before .put-u32 .ensures) (c .before .before .before .before .before .before .before .put-u322 .ensures) (c .before .before .put-bytes .ensures) (omega arith))
+
+returns-3 : tie.Need-returns-3
+returns-3 c = one-entry (c .before .before .before .before .payload-of .ensures) (c .before .before .if1 .left) (entry-none _ _ _ _ (payload-size (c .before .before .before .before .payload-of .ensures)) (omega arith))
 
 pub append-operation-spec : {M : Type 1} → statement M
 append-operation-spec =
     tie.close
     (tie.spec
     payload-of-requires
+    returns
     add-len
     left-requires
     array-share-prefix-bytes
@@ -76,5 +80,5 @@ append-operation-spec =
     slice-aggregate-put-bytes
     put-bytes-requires
     same-length
-    returns
-    returns-2)
+    returns-2
+    returns-3)

@@ -1,0 +1,4 @@
+pub mod Lent
+pub mod Recorded
+pub mod Done
+pub mod Listed

@@ -1,0 +1,56 @@
+-- An entry from image to image, by what its method answered.
+use mathlib.Core.Path.{_≡_, refl, sym, ap, subst, _∙_}
+use mathlib.Core.Bool.{Bool, true, false}
+use mathlib.Core.List.{List, [], _∷_}
+use Prim.Native.Nat.{ℕ, _≤_}
+use native.Mathlib.Omega.{arith}
+use lib.ListN.{length}
+use lib.Dec.{leb}
+use mathlib.Core.Logic.{inl, inr}
+use borrow.Author.Tests.{leb-true}
+use Rattle.model.specs.Limits.{imageRoom}
+use Rattle.model.specs.Base.{Bytes, In}
+use Rattle.model.specs.Store as model
+use Rattle.model.specs.Record.{Outcome, refuse, give}
+use Rattle.model.specs.Answers.{Answer, refusal, outcome, imageEntry}
+use Rattle.laws.specs.Tests.{All}
+use Rattle.laws.specs.Bounds.{Bounded}
+use Rattle.store.specs.Stores.{storeOf, SoundStore}
+use Rattle.wal.specs.Tails.{SoundTail}
+use Rattle.local_storage.specs.Recording.{Answers, outcomeOf}
+use Rattle.local_storage.proofs.Asked.{answer-refused}
+use Rattle.local_storage.specs.declared.LocalStorage.{LocalStorage}
+use Rattle.local_storage.specs.declared.Recorded.{Recorded}
+use Rattle.handover.specs.Contract.{handsBack, Gives}
+use Rattle.handover.specs.Opening.{Opens}
+use Rattle.handover.specs.Numbers.{Numbered}
+use Rattle.handover.specs.declared.Opened.{Opened}
+use Rattle.handover.proofs.Outputs.{left-alone}
+
+-- Numbers that hand nothing back.
+one-of : (l : List ℕ) → All (λ n. handsBack n ≡ false) l → (n : ℕ) → In n l → handsBack n ≡ false
+one-of [] h n i = absurd i
+one-of (k ∷ l) h n (inl e) = subst (λ (j : ℕ). handsBack j ≡ false) (sym e) (h .0)
+one-of (k ∷ l) h n (inr i) = one-of l (h .1) n i
+
+-- An image or an output that is refused.
+pub not-opened : (f : model.Store → Outcome) (image : Bytes) (len : ℕ) {o : Opened} → Opens image (leb imageRoom len) o → (o .number ≡ 0 → ⊥) → {out : Bytes} {written : ℕ} → Gives (imageEntry f image len) (o .number) out out written written
+not-opened f image len w h = left-alone (w .alone h) (w .refused h (λ s. outcome (f s)))
+
+module _ (f : model.Store → Outcome) (image : Bytes) (len : ℕ) {o : Opened} (w : Opens image (leb imageRoom len) o) (z : o .number ≡ 0) (src : Bytes) {before : LocalStorage} {r : Recorded} (a : Answers src (f (storeOf image (o .store))) before r) where
+  same : imageEntry f image len ≡ outcome (outcomeOf src r)
+  same = w .given z (λ s. outcome (f s)) ∙ ap outcome (sym (a .same))
+
+  -- What lets the answer be handed on.
+  pub hands-on : Bounded (imageEntry f image len) → (l : List ℕ) → All (λ n. handsBack n ≡ false) l → Numbered l (f (storeOf image (o .store)))
+      → (SoundStore src (r .storage .store) × SoundTail src (r .tail)) × ((length (outcome (outcomeOf src r) .image) ≤ len) × ((r .number ≡ 0 → ⊥) → handsBack (r .number) ≡ false))
+  hands-on b l h n = (
+    (a .sound, a .tail),
+    (
+      let k = leb-true imageRoom len (w .roomy z) in let i = subst (λ (x : Answer). length (x .image) ≤ imageRoom) same (b .image) in omega arith,
+      λ q. one-of l h (r .number) (subst (Numbered l) (answer-refused a q) n),
+    ),
+  )
+
+  pub handed : {n : ℕ} {out out' : Bytes} {written written' : ℕ} → Gives (outcome (outcomeOf src r)) n out out' written written' → Gives (imageEntry f image len) n out out' written written'
+  handed {n} {out} {out'} {written} {written'} g = subst (λ (x : Answer). Gives x n out out' written written') (sym same) g

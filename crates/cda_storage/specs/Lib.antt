@@ -1,0 +1,2 @@
+pub mod CutRule
+pub mod Refusals

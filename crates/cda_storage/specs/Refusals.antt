@@ -1,0 +1,129 @@
+-- Demand 1 over calls of the exported entries: every call is answered with 0 or one of the numbers named here, whatever it was lent, and after a
+-- refusal every lent buffer is as it was; 14 and 15, given by commit alone, hand back the rolled-back image.
+use mathlib.Core.Path.{_≡_, refl, sym, ap, _∙_}
+use mathlib.Core.Bool.{Bool, true, false, false≢true}
+use mathlib.Core.List.{List, [], _∷_}
+use mathlib.Core.Option.{Option, none, some}
+use mathlib.Core.Logic.{inl, inr}
+use Prim.Native.Nat.{ℕ}
+use lib.Dec.{leb}
+use Rattle.model.specs.Limits.{imageRoom}
+use Rattle.model.specs.Order.{Name}
+use Rattle.model.specs.Base.{Bytes, caseOption, if_then_else_, In}
+use Rattle.model.specs.Store.{Store, hasPendingWork}
+use Rattle.model.specs.Image.{decode}
+use Rattle.model.specs.Step.{Fault, fails, full}
+use Rattle.model.specs.Plan.{commitFault}
+use Rattle.model.specs.Record.{Outcome, refuse, give, beginTransaction, discard, recordWrite, recordDelete, recordDeleteAll, recordCreate, recordDeleteCollection, recordCopy}
+use Rattle.model.specs.Answers.{Answer, Pending, refusal, answer, outcome, onImage, imageEntry, commitNumber, begin, write, delete, deleteAll, createCollection, deleteCollection, copyCollection, rollback, commit, commitStep, recover, recoverStep, pending, listKeys}
+use Rattle.laws.specs.EntryLaws.{on-commit, on-recover, on-commit-step, on-recover-step, on-list-keys}
+use Rattle.handover.specs.Contract.{handsBack, Gives, StepGives}
+use Rattle.handover.specs.Numbers.{Numbered, begin-numbers, rollback-numbers, write-numbers, delete-numbers, delete-all-numbers, create-numbers, delete-collection-numbers, copy-numbers}
+
+-- An answer with one of these numbers, which is that number alone where it hands nothing back.
+pub record Answered (l : List ℕ) (a : Answer) : Type 0 where
+  pub numbers : In (a .number) l
+  pub alone : handsBack (a .number) ≡ false → a ≡ refusal (a .number)
+
+-- After a refusal the lent output and its counter are as they were; so are a step entry's four.
+module _ {l : List ℕ} {a : Answer} (w : Answered l a) where
+  pub untouched : {n : ℕ} {out out' : Bytes} {written written' : ℕ} → Gives a n out out' written written' → handsBack n ≡ false → (out' ≡ out) × (written' ≡ written)
+  untouched g h =
+      let e = w .alone (ap handsBack (sym (g .number)) ∙ h) in
+      (g .image ∙ rw e, g .count ∙ rw (ap handsBack (sym (g .number)) ∙ h))
+
+  pub step-untouched : {n : ℕ} {out out' : Bytes} {written written' : ℕ} {step step' : Bytes} {stepWritten stepWritten' : ℕ} → StepGives a n out out' written written' step step' stepWritten stepWritten' → handsBack n ≡ false
+      → ((out' ≡ out) × (written' ≡ written)) × ((step' ≡ step) × (stepWritten' ≡ stepWritten))
+  step-untouched g h =
+      let e = w .alone (ap handsBack (sym (g .given .number)) ∙ h) in
+      (untouched (g .given) h, (g .field ∙ rw e, g .fieldCount ∙ rw (ap handsBack (sym (g .given .number)) ∙ h)))
+
+refused : (l : List ℕ) (n : ℕ) → In n l → Answered l (refusal n)
+refused l n i = record { numbers = i; alone = λ h. refl }
+
+done : (l : List ℕ) {a : Answer} → a .number ≡ 0 → Answered (0 ∷ l) a
+done l e = record { numbers = inl e; alone = λ h. absurd (false≢true (sym h ∙ ap handsBack e)) }
+
+-- The entries from image to image: 0, 1, 2, and what the recording refuses with.
+entry : (f : Store → Outcome) (l : List ℕ) → ((s : Store) → Numbered l (f s)) → (b : Bytes) (out : ℕ) → Answered (0 ∷ 1 ∷ 2 ∷ l) (imageEntry f b out)
+entry f l h b out = go (decode b) (leb imageRoom out)
+  where
+    of : (o : Outcome) → Numbered l o → Answered (0 ∷ 1 ∷ 2 ∷ l) (outcome o)
+    of (refuse n) i = refused _ n (inr (inr (inr i)))
+    of (give s) i = done _ refl
+
+    go : (o : Option Store) (room : Bool) → Answered (0 ∷ 1 ∷ 2 ∷ l) (caseOption o (refusal 1) (λ s. if room then outcome (f s) else refusal 2))
+    go none room = refused _ 1 (inr (inl refl))
+    go (some s) true = of (f s) (h s)
+    go (some s) false = refused _ 2 (inr (inr (inl refl)))
+
+pub begin-answers : (b : Bytes) (out : ℕ) → Answered (0 ∷ 1 ∷ 2 ∷ 3 ∷ []) (begin b out)
+unfolding begin
+begin-answers = entry beginTransaction (3 ∷ []) begin-numbers
+
+pub write-answers : (c k staged : Name) (x : ℕ) (b : Bytes) (out : ℕ) → Answered (0 ∷ 1 ∷ 2 ∷ 4 ∷ 5 ∷ 6 ∷ 10 ∷ []) (write c k staged x b out)
+unfolding write
+write-answers c k staged x = entry (recordWrite c k staged x) (4 ∷ 5 ∷ 6 ∷ 10 ∷ []) (write-numbers c k staged x)
+
+pub delete-answers : (c k : Name) (b : Bytes) (out : ℕ) → Answered (0 ∷ 1 ∷ 2 ∷ 4 ∷ 5 ∷ 6 ∷ 8 ∷ []) (delete c k b out)
+unfolding delete
+delete-answers c k = entry (recordDelete c k) (4 ∷ 5 ∷ 6 ∷ 8 ∷ []) (delete-numbers c k)
+
+pub delete-all-answers : (c : Name) (b : Bytes) (out : ℕ) → Answered (0 ∷ 1 ∷ 2 ∷ 4 ∷ 5 ∷ 6 ∷ []) (deleteAll c b out)
+unfolding deleteAll
+delete-all-answers c = entry (recordDeleteAll c) (4 ∷ 5 ∷ 6 ∷ []) (delete-all-numbers c)
+
+pub create-collection-answers : (c : Name) (b : Bytes) (out : ℕ) → Answered (0 ∷ 1 ∷ 2 ∷ 4 ∷ 5 ∷ 6 ∷ 9 ∷ []) (createCollection c b out)
+unfolding createCollection
+create-collection-answers c = entry (recordCreate c) (4 ∷ 5 ∷ 6 ∷ 9 ∷ []) (create-numbers c)
+
+pub delete-collection-answers : (c : Name) (b : Bytes) (out : ℕ) → Answered (0 ∷ 1 ∷ 2 ∷ 4 ∷ 5 ∷ 6 ∷ 7 ∷ []) (deleteCollection c b out)
+unfolding deleteCollection
+delete-collection-answers c = entry (recordDeleteCollection c) (4 ∷ 5 ∷ 6 ∷ 7 ∷ []) (delete-collection-numbers c)
+
+pub copy-collection-answers : (a c : Name) (b : Bytes) (out : ℕ) → Answered (0 ∷ 1 ∷ 2 ∷ 4 ∷ 5 ∷ 6 ∷ 7 ∷ []) (copyCollection a c b out)
+unfolding copyCollection
+copy-collection-answers a c = entry (recordCopy a c) (4 ∷ 5 ∷ 6 ∷ 7 ∷ []) (copy-numbers a c)
+
+pub rollback-answers : (b : Bytes) (out : ℕ) → Answered (0 ∷ 1 ∷ 2 ∷ 4 ∷ []) (rollback b out)
+unfolding rollback
+rollback-answers = entry discard (4 ∷ []) rollback-numbers
+
+pub commit-answers : (b : Bytes) (out : ℕ) → Answered (0 ∷ 1 ∷ 2 ∷ 4 ∷ 14 ∷ 15 ∷ []) (commit b out)
+commit-answers b out =
+    on-commit (Answered (0 ∷ 1 ∷ 2 ∷ 4 ∷ 14 ∷ 15 ∷ [])) b out (refused _ 1 (inr (inl refl)), (refused _ 2 (inr (inr (inl refl))), (refused _ 4 (inr (inr (inr (inl refl)))), tt)))
+    (λ s d. ended (commitFault s))
+  where
+    ended : (q : Option Fault) {image step : Bytes} → Answered (0 ∷ 1 ∷ 2 ∷ 4 ∷ 14 ∷ 15 ∷ []) (record { number = commitNumber q; image = image; step = step })
+    ended none = done _ refl
+    ended (some fails) = record { numbers = inr (inr (inr (inr (inl refl)))); alone = λ h. absurd (false≢true (sym h)) }
+    ended (some full) = record { numbers = inr (inr (inr (inr (inr (inl refl))))); alone = λ h. absurd (false≢true (sym h)) }
+
+pub commit-step-answers : (n : ℕ) (b : Bytes) (out stepOut : ℕ) → Answered (0 ∷ 1 ∷ 2 ∷ 4 ∷ 16 ∷ []) (commitStep n b out stepOut)
+commit-step-answers n b out stepOut =
+    on-commit-step (Answered (0 ∷ 1 ∷ 2 ∷ 4 ∷ 16 ∷ [])) n b out stepOut
+    (refused _ 1 (inr (inl refl)), (refused _ 2 (inr (inr (inl refl))), (refused _ 4 (inr (inr (inr (inl refl)))), (refused _ 16 (inr (inr (inr (inr (inl refl))))), tt)))) (λ s d. done _ refl)
+
+pub recover-answers : (b : Bytes) (out : ℕ) → Answered (0 ∷ 1 ∷ 2 ∷ 11 ∷ 12 ∷ 13 ∷ []) (recover b out)
+recover-answers b out =
+    on-recover (Answered (0 ∷ 1 ∷ 2 ∷ 11 ∷ 12 ∷ 13 ∷ [])) b out
+    (refused _ 1 (inr (inl refl)), (refused _ 2 (inr (inr (inl refl))), (refused _ 11 (inr (inr (inr (inl refl)))), (refused _ 12 (inr (inr (inr (inr (inl refl))))), (refused _ 13 (inr (inr (inr (inr (inr (inl refl)))))), tt))))) (λ s d. done _ refl)
+
+pub recover-step-answers : (n : ℕ) (b : Bytes) (out stepOut : ℕ) → Answered (0 ∷ 1 ∷ 2 ∷ 11 ∷ 12 ∷ 13 ∷ 16 ∷ []) (recoverStep n b out stepOut)
+recover-step-answers n b out stepOut =
+    on-recover-step (Answered (0 ∷ 1 ∷ 2 ∷ 11 ∷ 12 ∷ 13 ∷ 16 ∷ [])) n b out stepOut
+    (refused _ 1 (inr (inl refl)), (refused _ 2 (inr (inr (inl refl))), (refused _ 11 (inr (inr (inr (inl refl)))), (refused _ 12 (inr (inr (inr (inr (inl refl))))), (refused _ 13 (inr (inr (inr (inr (inr (inl refl)))))), (refused _ 16 (inr (inr (inr (inr (inr (inr (inl refl))))))), tt))))))
+    (λ s d. done _ refl)
+
+pub list-keys-answers : (c : Name) (b : Bytes) (out : ℕ) → Answered (0 ∷ 1 ∷ 2 ∷ 6 ∷ []) (listKeys c b out)
+list-keys-answers c b out =
+    on-list-keys (Answered (0 ∷ 1 ∷ 2 ∷ 6 ∷ [])) c b out (refused _ 1 (inr (inl refl)), (refused _ 2 (inr (inr (inl refl))), (refused _ 6 (inr (inr (inr (inl refl)))), tt))) (λ s d. done _ refl)
+
+-- `cda_storage_has_pending_work` answers 0 or 1.
+pub pending-answers : (b : Bytes) → In {A = ℕ} (pending b .number) (0 ∷ 1 ∷ [])
+unfolding pending
+pending-answers b = go (decode b)
+  where
+    go : (o : Option Store) → In {A = ℕ} (caseOption {B = Pending} o (record { number = 1; yes? = false }) (λ s. record { number = 0; yes? = hasPendingWork s }) .number) (0 ∷ 1 ∷ [])
+    go none = inr (inl refl)
+    go (some s) = inl refl

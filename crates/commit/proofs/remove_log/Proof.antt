@@ -1,0 +1,22 @@
+-- `remove_log`: two steps in a row.
+use mathlib.Core.List.{[], _∷_}
+use Rattle.model.specs.Step.{syncJournal}
+use Rattle.steps.specs.Steps.{stepOf}
+use Rattle.commit.proofs.Parts.{step-then}
+use Rattle.commit.proofs.remove_log.Statement.{statement}
+use Rattle.commit.proofs.remove_log.Tie as tie
+
+advance-requires : tie.Need-advance-requires
+unfolding stepOf
+advance-requires c κs = ((c .before .pre, record { names = tt }), tt)
+
+advance-requires-2 : tie.Need-advance-requires-2
+unfolding stepOf
+advance-requires-2 c κs = ((c .advance .ensures .sound, record { names = tt }), tt)
+
+returns : tie.Need-returns
+unfolding stepOf
+returns c = step-then (c .before .advance .ensures) (syncJournal ∷ []) (c .advance2 .ensures)
+
+pub remove-log-spec : {M : Type 1} → statement M
+remove-log-spec = tie.close (tie.spec advance-requires advance-requires-2 returns)

@@ -1,0 +1,148 @@
+// Commit: local_storage.rs, `apply_inner`. 01, Listings and file steps: "mark, syncs, operations, directory syncs in order of first naming,
+// log removal, journal sync, backups, staging." After a failing step "the rollback's steps follow, then log removal, journal sync and
+// staging".
+ghost use mathlib.Core.Path.{_≡_};
+ghost use mathlib.Core.List.{[], _∷_, map, reverse};
+ghost use Prim.Native.Nat.{_≤_};
+ghost use lib.ListN.{take};
+ghost use Rattle.model.specs.Base.{Bytes, isIn};
+ghost use Rattle.model.specs.Log.{journal, opsOf};
+ghost use Rattle.model.specs.Step.{removeLog, syncJournal};
+ghost use Rattle.model.specs.Plan.{inTurn, collectionOf, firstNamings, syncExisting};
+ghost use Rattle.spans.specs.Spans.{nameOf, Sound, Names};
+ghost use Rattle.store.specs.Stores.{logBytes};
+ghost use Rattle.plans.specs.ModelPlans.{plain};
+ghost use Rattle.plans.specs.ModelAnswers.{commitStart, commitEnd, commitUndo};
+ghost use Rattle.steps.specs.Steps.{Fits};
+ghost use Rattle.steps.specs.CodeRuns.{SoundRun, Follows};
+ghost use Rattle.transaction.specs.Operations.{opOf, SoundOp};
+ghost use Rattle.wal.specs.Logs.{opsRead, SoundRead};
+ghost use Rattle.commit.specs.Commits.{Commits};
+use spans::NameRef;
+use steps::Run;
+use steps::Step;
+use store::Store;
+use transaction::Operation;
+use wal::WalRead;
+
+// The collection that an operation changes.
+fn collection_of(op: Operation) -> NameRef
+    ensures { λ r. ⌜ ((src : Bytes) → SoundOp src op → Names src r (collectionOf (opOf src op))) ⌝ }
+{
+    match op {
+        Operation::Write(c, _, _) => c,
+        Operation::Delete(c, _) => c,
+        Operation::DeleteAll(c) => c,
+        Operation::CreateCollection(c) => c,
+        Operation::DeleteCollection(c) => c,
+        Operation::CopyCollection(_, b, _) => b,
+    }
+}
+
+// Whether one of the first n operations changes a collection: then that was named before.
+fn named_before(src: &[u8], w: WalRead, n: usize, dir: NameRef) -> bool
+    requires { ⌜ (SoundRead (now src) w × (n ≤ w .len)) × Sound (now src) dir ⌝ }
+    ensures { λ r. ⌜ r ≡ isIn (nameOf (now (src .entry)) dir) (reverse (take n (map collectionOf (opsRead (now (src .entry)) w)))) ⌝ }
+{
+    let mut i = n;
+    while 0 < i {
+        i -= 1;
+        let x = w.ops[i];
+        let op = x.op;
+        let other = collection_of(op);
+        if spans::same(src, dir, other) {
+            return true;
+        }
+    }
+    false
+}
+
+// Syncs a directory, if it stands.
+fn sync_existing(src: &[u8], run: Run, dir: NameRef) -> Run
+    requires { ⌜ SoundRun (now src) run × Sound (now src) dir ⌝ }
+    ensures { λ r. ⌜ Follows plain (now (src .entry)) (syncExisting (nameOf (now (src .entry)) dir)) run r ⌝ }
+{
+    let s = run.store;
+    let t = s.tree;
+    if store::dir_exists(src, t, dir) {
+        return steps::advance(src, run, Step::SyncDirectory(dir));
+    }
+    run
+}
+
+// Syncs the collections that the operations change. 01, Listings and file steps: "directory syncs in order of first naming".
+fn sync_collection_dirs(src: &[u8], run: Run, w: WalRead) -> Run
+    requires { ⌜ SoundRun (now src) run × SoundRead (now src) w ⌝ }
+    ensures { λ r. ⌜ Follows plain (now (src .entry)) (inTurn syncExisting (firstNamings [] (map collectionOf (opsRead (now (src .entry)) w)))) run r ⌝ }
+{
+    let n = w.len;
+    let mut work = run;
+    let mut i: usize = 0;
+    while i < n {
+        let x = w.ops[i];
+        let op = x.op;
+        let dir = collection_of(op);
+        if !named_before(src, w, i, dir) {
+            work = sync_existing(src, work, dir);
+        }
+        i += 1;
+    }
+    work
+}
+
+// The mark, and what makes it and the staging files durable.
+fn mark_and_sync(src: &[u8], run: Run) -> Run
+    requires { ⌜ SoundRun (now src) run ⌝ }
+    ensures { λ r. ⌜ Follows plain (now (src .entry)) commitStart run r ⌝ }
+{
+    let marked = steps::advance(src, run, Step::RewriteHeader);
+    let staged = steps::advance(src, marked, Step::SyncStaging);
+    steps::advance(src, staged, Step::SyncLog)
+}
+
+// The log goes: "the point of no return".
+fn remove_log(src: &[u8], run: Run) -> Run
+    requires { ⌜ SoundRun (now src) run ⌝ }
+    ensures { λ r. ⌜ Follows plain (now (src .entry)) (λ s. removeLog ∷ syncJournal ∷ []) run r ⌝ }
+{
+    let removed = steps::advance(src, run, Step::RemoveLog);
+    steps::advance(src, removed, Step::SyncJournal)
+}
+
+// What follows the operations where no step failed.
+fn finish(src: &[u8], run: Run, w: WalRead) -> Run
+    requires { ⌜ SoundRun (now src) run × SoundRead (now src) w ⌝ }
+    ensures { λ r. ⌜ Follows plain (now (src .entry)) (commitEnd (opsRead (now (src .entry)) w)) run r ⌝ }
+{
+    let named = sync_collection_dirs(src, run, w);
+    let synced = steps::advance(src, named, Step::SyncCollections);
+    let removed = remove_log(src, synced);
+    let cleaned = recovery::delete_all_backup_files(src, removed);
+    recovery::cleanup_staging_dir(src, cleaned)
+}
+
+// What follows them where one did (`rollback_applied_operations`, and the log and the staging files go).
+fn roll_back(src: &[u8], run: Run, w: WalRead) -> Run
+    requires { ⌜ SoundRun (now src) run × SoundRead (now src) w ⌝ }
+    ensures { λ r. ⌜ Follows plain (now (src .entry)) (commitUndo (opsRead (now (src .entry)) w)) run r ⌝ }
+{
+    let undone = recovery::undo_all(src, run, w);
+    let removed = remove_log(src, undone);
+    recovery::cleanup_staging_dir(src, removed)
+}
+
+// The steps of a commit, or where `limited` the first n of them. `w` is what was read of the store's log.
+pub fn apply_inner(src: &[u8], s: Store, w: WalRead, limited: bool, n: u64) -> Run
+    requires { ⌜ Fits (now src) s × (SoundRead (now src) w × (opsRead (now src) w ≡ opsOf (journal (logBytes (now src) (s .log))))) ⌝ }
+    ensures { λ r. ⌜ Commits (now (src .entry)) s limited n r ⌝ }
+{
+    let run = steps::start(s, limited, n);
+    let begun = mark_and_sync(src, run);
+    let tried = operations::apply_operations(src, begun, w);
+    let refusal = tried.refusal;
+    if refusal == 0 {
+        finish(src, tried, w)
+    } else {
+        roll_back(src, tried, w)
+    }
+}

@@ -1,0 +1,39 @@
+-- The contracts of the exported entries: what a call answers and what it leaves in the lent outputs, by the model's Answers alone.
+use mathlib.Core.Path.{_≡_}
+use mathlib.Core.Bool.{Bool, _||_}
+use Prim.Native.Nat.{ℕ}
+use lib.ListN.{length}
+use lib.Dec.{eqb}
+use Rattle.model.specs.Base.{Bytes, if_then_else_}
+use Rattle.model.specs.Answers.{Answer, Pending, overwritten}
+
+-- 01, Sixteen numbers: "A refusal gives its number alone; 14 and 15 also hand back the rolled-back image".
+abbrev pub handsBack : ℕ → Bool
+handsBack n = eqb n 0 || eqb n 14 || eqb n 15
+
+-- 01, Sixteen numbers: "An answer says how many bytes were written". A refusal leaves the counter.
+abbrev pub counted : ℕ → Bytes → ℕ → ℕ
+counted number bytes before = if handsBack number then length bytes else before
+
+-- Bytes written at the front of an output, and their count.
+pub record Writes (bytes out out' : Bytes) (count : ℕ) : Type 0 where
+  pub same : out' ≡ overwritten bytes out
+  pub size : count ≡ length bytes
+
+-- A call with one output: its number, the output and the counter of written bytes, each by an equation with the answer. `out` and `written` as
+-- they were lent, `out'` and `written'` as they are handed back.
+pub record Gives (a : Answer) (n : ℕ) (out out' : Bytes) (written written' : ℕ) : Type 0 where
+  pub number : n ≡ a .number
+  pub image : out' ≡ overwritten (a .image) out
+  pub count : written' ≡ counted (a .number) (a .image) written
+
+-- A call of a step entry: the same, and the same of the step output.
+pub record StepGives (a : Answer) (n : ℕ) (out out' : Bytes) (written written' : ℕ) (step step' : Bytes) (stepWritten stepWritten' : ℕ) : Type 0 where
+  pub given : Gives a n out out' written written'
+  pub field : step' ≡ overwritten (a .step) step
+  pub fieldCount : stepWritten' ≡ counted (a .number) (a .step) stepWritten
+
+-- `cda_storage_has_pending_work`: 1 is yes, 0 is no.
+pub record PendingGives (a : Pending) (n pending pending' : ℕ) : Type 0 where
+  pub number : n ≡ a .number
+  pub answer : pending' ≡ (if eqb (a .number) 0 then (if a .yes? then 1 else 0) else pending)

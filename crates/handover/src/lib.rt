@@ -1,0 +1,107 @@
+// What every exported entry does before and behind its own work: the image is read, the answer is written into the lent outputs.
+ghost use mathlib.Core.Path.{_≡_};
+ghost use mathlib.Core.Bool.{false};
+ghost use Prim.Native.Nat.{_≤_};
+ghost use lib.ListN.{length};
+ghost use Rattle.model.specs.Image.{encode};
+ghost use Rattle.model.specs.Answers.{outcome};
+ghost use Rattle.store.specs.Stores.{storeOf, SoundStore};
+ghost use Rattle.wal.specs.Tails.{withTail, SoundTail};
+ghost use Rattle.steps.specs.Steps.{SoundStep};
+ghost use Rattle.local_storage.specs.Recording.{outcomeOf};
+ghost use Rattle.handover.specs.Contract.{handsBack, Gives, StepGives, Writes};
+ghost use Rattle.handover.specs.Opening.{Opens, fieldOf, StepStands, stepped};
+use local_storage::Recorded;
+use steps::Step;
+use store::Store;
+use wal::Tail;
+
+// A store image, where it is accepted and the output has room: `number` is 0; else the refusal 1 or 2.
+pub struct Opened {
+    pub number: u32,
+    pub store: Store,
+}
+
+// 01, Sixteen numbers: "1. The image breaks its layout or a limit. 2. The lent output has under 19,262 bytes".
+pub fn open_image(image: &[u8], room: bool) -> Opened
+    ensures { λ r. ⌜ Opens (now (image .entry)) room r ⌝ }
+{
+    let d = decode::decode(image);
+    let ok = d.ok;
+    let s = d.store;
+    if ok {
+        if room {
+            return Opened {
+                number: 0,
+                store: s,
+            };
+        }
+        return Opened {
+            number: 2,
+            store: s,
+        };
+    }
+    Opened {
+        number: 1,
+        store: s,
+    }
+}
+
+// A store's image, with the log that a tail leaves, written at the front of the output, and how many bytes it has.
+pub fn hand_image(src: &[u8], s: Store, tail: Tail, out: &mut [u8], written: &mut usize)
+    requires { ⌜ (SoundStore (now src) s × SoundTail (now src) tail) × (length (encode (withTail (now src) tail (storeOf (now src) s))) ≤ length (now out)) ⌝ }
+    ensures { λ _. ⌜ Writes (encode (withTail (now (src .entry)) tail (storeOf (now (src .entry)) s))) (now (out .entry)) (now (out .exit)) (now (written .exit)) ⌝ }
+{
+    *written = encode::encode(src, s, tail, out);
+}
+
+// What a method that records answered.
+pub fn hand_on(src: &[u8], r: Recorded, out: &mut [u8], written: &mut usize) -> u32
+    requires { ⌜ (SoundStore (now src) (r .storage .store) × SoundTail (now src) (r .tail)) × ((length (outcome (outcomeOf (now src) r) .image) ≤ length (now out)) × ((r .number ≡ 0 → ⊥) → handsBack (r .number) ≡ false)) ⌝ }
+    ensures { λ n. ⌜ Gives (outcome (outcomeOf (now (src .entry)) r)) n (now (out .entry)) (now (out .exit)) (now (written .entry)) (now (written .exit)) ⌝ }
+{
+    let n = r.number;
+    if n != 0 {
+        return n;
+    }
+    let storage = r.storage;
+    let s = storage.store;
+    let tail = r.tail;
+    hand_image(src, s, tail, out, written);
+    0
+}
+
+// The field of the n-th step, none for n = 0, written at the front of the output, and how many bytes it has.
+fn hand_field(src: &[u8], last: Step, n: u64, step: &mut [u8], step_written: &mut usize)
+    requires { ⌜ SoundStep (now src) last × (length (fieldOf (now src) last n) ≤ length (now step)) ⌝ }
+    ensures { λ _. ⌜ Writes (fieldOf (now (src .entry)) last n) (now (step .entry)) (now (step .exit)) (now («step_written» .exit)) ⌝ }
+{
+    if n == 0 {
+        *step_written = 0;
+    } else {
+        *step_written = steps::write_step(src, last, step);
+    }
+}
+
+// The image after n steps and the last step's field; 16 where some of the n steps are left.
+pub fn hand_step(
+    src: &[u8],
+    s: Store,
+    left: u64,
+    last: Step,
+    n: u64,
+    out: &mut [u8],
+    written: &mut usize,
+    step: &mut [u8],
+    step_written: &mut usize,
+) -> u32
+    requires { ⌜ StepStands (now src) s left last n (length (now out)) (length (now step)) ⌝ }
+    ensures { λ r. ⌜ StepGives (stepped (now (src .entry)) s left last n) r (now (out .entry)) (now (out .exit)) (now (written .entry)) (now (written .exit)) (now (step .entry)) (now (step .exit)) (now («step_written» .entry)) (now («step_written» .exit)) ⌝ }
+{
+    if left != 0 {
+        return 16;
+    }
+    hand_image(src, s, Tail::Nothing, out, written);
+    hand_field(src, last, n, step, step_written);
+    0
+}

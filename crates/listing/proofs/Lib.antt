@@ -1,0 +1,5 @@
+pub mod Decimal
+pub mod Shapes
+pub mod Counting
+pub mod Placing
+pub mod Answered

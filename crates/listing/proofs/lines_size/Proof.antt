@@ -1,0 +1,55 @@
+-- `lines_size` meets its contract. The invariant: the nodes before i are counted.
+use Prim.Native.Nat.{_-_}
+use Rattle.listing.proofs.Counting.{Counting, start, counted, all-counted}
+use borrow.Author.Needs.{needs}
+use Rattle.listing.proofs.lines_size.Statement.{statement}
+use Rattle.listing.proofs.lines_size.Tie as tie
+
+abbrev Inv-loop : tie.InvT-loop
+Inv-loop t n size₀ i₀ size i = Counting t size i
+
+abbrev μ-loop : tie.MeasureT-loop
+μ-loop t n size₀ i₀ size i = n - i
+
+loop-holds : tie.Need-loop-holds Inv-loop μ-loop
+loop-holds c = start (c .pre)
+
+mul-x : tie.Need-mul-x Inv-loop μ-loop
+mul-x c = search needs
+
+element-copy-out-x : tie.Need-element-copy-out-x Inv-loop μ-loop
+element-copy-out-x c = search needs
+
+line-size-requires : tie.Need-line-size-requires Inv-loop μ-loop
+line-size-requires c κs = search needs
+
+add-size : tie.Need-add-size Inv-loop μ-loop
+add-size c = search needs
+
+add-i : tie.Need-add-i Inv-loop μ-loop
+add-i c = search needs
+
+loop-less : tie.Need-loop-less Inv-loop μ-loop
+loop-less c = search needs
+
+loop-again : tie.Need-loop-again Inv-loop μ-loop
+loop-again c = counted (c .before .before .before .loop .inv) _ (c .before .before .loop-test .taken) (c .line-size .ensures)
+
+returns : tie.Need-returns Inv-loop μ-loop
+returns c = all-counted (c .before .loop .inv) (c .loop-test .left)
+
+pub lines-size-spec : {M : Type 1} → statement M
+lines-size-spec =
+    tie.close
+    (tie.spec
+    Inv-loop
+    μ-loop
+    loop-holds
+    mul-x
+    element-copy-out-x
+    line-size-requires
+    add-size
+    add-i
+    loop-less
+    loop-again
+    returns)

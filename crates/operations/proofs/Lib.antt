@@ -1,0 +1,4 @@
+pub mod Careful
+pub mod Picks
+pub mod ByKind
+pub mod Each

@@ -1,0 +1,186 @@
+// What the operations of a log do at commit: local_storage.rs, `apply_operations`. Each step may fail; behind a failing step no other is
+// done (`steps::attempt`).
+ghost use mathlib.Core.Bool.{Bool};
+ghost use Rattle.model.specs.Name.{backupName};
+ghost use Rattle.model.specs.Operation.{write, copyCollection};
+ghost use Rattle.model.specs.Step.{renameFile, renameDirectory};
+ghost use Rattle.model.specs.Plan.{opSteps, operationSteps};
+ghost use Rattle.laws.specs.OperationLaws.{ValidOp};
+ghost use Rattle.laws.specs.Tests.{All};
+ghost use Rattle.spans.specs.Spans.{nameOf, Sound};
+ghost use Rattle.plans.specs.Machine.{single};
+ghost use Rattle.plans.specs.ModelPlans.{careful};
+ghost use Rattle.steps.specs.Steps.{FileName};
+ghost use Rattle.steps.specs.CodeRuns.{SoundRun, Follows};
+ghost use Rattle.transaction.specs.Operations.{opOf, SoundOp};
+ghost use Rattle.wal.specs.Logs.{opsRead, SoundRead};
+ghost use Rattle.operations.specs.Parts.{backUpStanding, backUpStandingDir, makeMissing, backUpAll, copyAll};
+use spans::BackupName;
+use spans::NameRef;
+use steps::Run;
+use steps::Step;
+use transaction::Operation;
+use wal::WalRead;
+
+// Renames a file to its backup name. 01, Sixteen numbers, 14: "backup name over 64 bytes".
+fn back_up(src: &[u8], run: Run, dir: NameRef, file: NameRef) -> Run
+    requires { ⌜ SoundRun (now src) run × (Sound (now src) dir × FileName (now src) file) ⌝ }
+    ensures { λ r. ⌜ Follows careful (now (src .entry)) (single (renameFile (nameOf (now (src .entry)) dir) (nameOf (now (src .entry)) file) (backupName (nameOf (now (src .entry)) file)))) run r ⌝ }
+{
+    let b = spans::backup(src, file);
+    match b {
+        BackupName::Is(q) => steps::attempt(src, run, Step::RenameFile(dir, file, q)),
+        BackupName::TooLong => steps::refuse(run),
+    }
+}
+
+// The same for a directory.
+fn back_up_dir(src: &[u8], run: Run, dir: NameRef) -> Run
+    requires { ⌜ SoundRun (now src) run × Sound (now src) dir ⌝ }
+    ensures { λ r. ⌜ Follows careful (now (src .entry)) (single (renameDirectory (nameOf (now (src .entry)) dir) (backupName (nameOf (now (src .entry)) dir)))) run r ⌝ }
+{
+    let b = spans::backup(src, dir);
+    match b {
+        BackupName::Is(q) => steps::attempt(src, run, Step::RenameDirectory(dir, q)),
+        BackupName::TooLong => steps::refuse(run),
+    }
+}
+
+// Backs up a file, if it stands.
+fn back_up_standing(src: &[u8], run: Run, dir: NameRef, file: NameRef) -> Run
+    requires { ⌜ SoundRun (now src) run × (Sound (now src) dir × FileName (now src) file) ⌝ }
+    ensures { λ r. ⌜ Follows careful (now (src .entry)) (backUpStanding (nameOf (now (src .entry)) dir) (nameOf (now (src .entry)) file)) run r ⌝ }
+{
+    let s = run.store;
+    let t = s.tree;
+    if store::exists(src, t, dir, file) {
+        return back_up(src, run, dir, file);
+    }
+    run
+}
+
+// The same for a directory.
+fn back_up_standing_dir(src: &[u8], run: Run, dir: NameRef) -> Run
+    requires { ⌜ SoundRun (now src) run × Sound (now src) dir ⌝ }
+    ensures { λ r. ⌜ Follows careful (now (src .entry)) (backUpStandingDir (nameOf (now (src .entry)) dir)) run r ⌝ }
+{
+    let s = run.store;
+    let t = s.tree;
+    if store::dir_exists(src, t, dir) {
+        return back_up_dir(src, run, dir);
+    }
+    run
+}
+
+// Makes a directory, if it is missing.
+fn make_missing(src: &[u8], run: Run, dir: NameRef) -> Run
+    requires { ⌜ SoundRun (now src) run × Sound (now src) dir ⌝ }
+    ensures { λ r. ⌜ Follows careful (now (src .entry)) (makeMissing (nameOf (now (src .entry)) dir)) run r ⌝ }
+{
+    let s = run.store;
+    let t = s.tree;
+    if !store::dir_exists(src, t, dir) {
+        return steps::attempt(src, run, Step::MakeDirectory(dir));
+    }
+    run
+}
+
+// A Write: the collection is made where it is missing, a file of that name is backed up, the staging file takes its place.
+fn write(src: &[u8], run: Run, dir: NameRef, key: NameRef, staged: NameRef) -> Run
+    requires { ⌜ SoundRun (now src) run × (Sound (now src) dir × (FileName (now src) key × Sound (now src) staged)) ⌝ }
+    ensures { λ r. ⌜ Follows careful (now (src .entry)) (opSteps (write (record { collection = nameOf (now (src .entry)) dir; key = nameOf (now (src .entry)) key; staged = nameOf (now (src .entry)) staged }))) run r ⌝ }
+{
+    let made = make_missing(src, run, dir);
+    let kept = back_up_standing(src, made, dir, key);
+    steps::attempt(src, kept, Step::MoveStaged(staged, dir, key))
+}
+
+// Backs up every file of a directory, as it is listed where the walk starts.
+fn backup_all_files_in_dir(src: &[u8], run: Run, dir: NameRef) -> Run
+    requires { ⌜ SoundRun (now src) run × Sound (now src) dir ⌝ }
+    ensures { λ r. ⌜ Follows careful (now (src .entry)) (backUpAll (nameOf (now (src .entry)) dir)) run r ⌝ }
+{
+    let s = run.store;
+    let t = s.tree;
+    let n = t.len;
+    let mut work = run;
+    let mut i: usize = 0;
+    while i < n {
+        let x = t.nodes[i];
+        if store::is_file_of(src, x, dir) {
+            let file = x.file;
+            work = back_up(src, work, dir, file);
+        }
+        i += 1;
+    }
+    work
+}
+
+// Copies every file of a directory, as it is listed where the walk starts.
+fn copy_dir_contents(src: &[u8], run: Run, from: NameRef, to: NameRef) -> Run
+    requires { ⌜ SoundRun (now src) run × (Sound (now src) from × Sound (now src) to) ⌝ }
+    ensures { λ r. ⌜ Follows careful (now (src .entry)) (copyAll (nameOf (now (src .entry)) from) (nameOf (now (src .entry)) to)) run r ⌝ }
+{
+    let s = run.store;
+    let t = s.tree;
+    let n = t.len;
+    let mut work = run;
+    let mut i: usize = 0;
+    while i < n {
+        let x = t.nodes[i];
+        if store::is_file_of(src, x, from) {
+            let file = x.file;
+            work = steps::attempt(src, work, Step::CopyFile(from, to, file));
+        }
+        i += 1;
+    }
+    work
+}
+
+// A CopyCollection: its destination is backed up where it stands, and made; then the source is copied. 01, Sixteen numbers, 14: "a copy's
+// source missing".
+fn copy_collection(src: &[u8], run: Run, from: NameRef, to: NameRef) -> Run
+    requires { ⌜ SoundRun (now src) run × (Sound (now src) from × Sound (now src) to) ⌝ }
+    ensures { λ r. ⌜ ((existed : Bool) → Follows careful (now (src .entry)) (opSteps (copyCollection (nameOf (now (src .entry)) from) (nameOf (now (src .entry)) to) existed)) run r) ⌝ }
+{
+    let kept = back_up_standing_dir(src, run, to);
+    let made = steps::attempt(src, kept, Step::MakeDirectory(to));
+    let s = made.store;
+    let t = s.tree;
+    if store::dir_exists(src, t, from) {
+        return copy_dir_contents(src, made, from, to);
+    }
+    steps::refuse(made)
+}
+
+// What an operation does.
+pub fn apply_operation(src: &[u8], run: Run, op: Operation) -> Run
+    requires { ⌜ SoundRun (now src) run × (SoundOp (now src) op × ValidOp (opOf (now src) op)) ⌝ }
+    ensures { λ r. ⌜ Follows careful (now (src .entry)) (opSteps (opOf (now (src .entry)) op)) run r ⌝ }
+{
+    match op {
+        Operation::Write(c, k, f) => write(src, run, c, k, f),
+        Operation::Delete(c, k) => back_up_standing(src, run, c, k),
+        Operation::DeleteAll(c) => backup_all_files_in_dir(src, run, c),
+        Operation::CreateCollection(c) => make_missing(src, run, c),
+        Operation::DeleteCollection(c) => back_up_standing_dir(src, run, c),
+        Operation::CopyCollection(a, b, _) => copy_collection(src, run, a, b),
+    }
+}
+
+// What the operations that were read do, in their order.
+pub fn apply_operations(src: &[u8], run: Run, w: WalRead) -> Run
+    requires { ⌜ SoundRun (now src) run × (SoundRead (now src) w × All ValidOp (opsRead (now src) w)) ⌝ }
+    ensures { λ r. ⌜ Follows careful (now (src .entry)) (operationSteps (opsRead (now (src .entry)) w)) run r ⌝ }
+{
+    let n = w.len;
+    let mut work = run;
+    let mut done: usize = 0;
+    while done < n {
+        let x = w.ops[done];
+        let op = x.op;
+        work = apply_operation(src, work, op);
+        done += 1;
+    }
+    work
+}

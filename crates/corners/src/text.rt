@@ -21,3 +21,16 @@ pub fn told(input: &[u8], yes: &[u8], no: &[u8], answer: bool) {
     }
     put(b"\n");
 }
+
+fn wide(b: u8) -> u64 {
+    b as u64
+}
+
+// Bytes in hexadecimal.
+pub fn put_hex(s: &[u8]) {
+    let mut i: usize = 0;
+    while i < s.len() {
+        io::print_hex(1, wide(s[i]), 2);
+        i += 1;
+    }
+}

@@ -1,0 +1,61 @@
+//! Random runs: commits and recoveries with every step, cuts recovered, single calls, and transactions from begin to end.
+use crate::generate::{self, Rng};
+use crate::panel::Panel;
+use plain::Image;
+use store::{Call, Lent, Plan};
+
+pub fn run(panel: &mut Panel, seed: u64, from: u64, cases: u64) {
+    for case in from..from + cases {
+        let rng = &mut Rng::new(seed, case);
+        match rng.below(8) {
+            0..=1 => cut_commit(panel, rng),
+            2..=3 => drop(panel.plan(Plan::Recover, &generate::leftover(rng).encode())),
+            4..=5 => single_calls(panel, rng),
+            _ => transaction(panel, rng),
+        }
+        panel.progress("random", case - from, cases);
+    }
+    panel.summary(&format!("random, seed {seed}, cases {from} to {}", from + cases - 1));
+}
+
+/// A commit, then recovery from a few of its cuts.
+fn cut_commit(panel: &mut Panel, rng: &mut Rng) {
+    let images = panel.plan(Plan::Commit, &generate::transaction(rng).encode());
+    for _ in 0..3.min(images.len()) {
+        let cut = images[rng.below(images.len())].clone();
+        let images = panel.plan(Plan::Recover, &cut);
+        if rng.one_in(3) && !images.is_empty() {
+            panel.plan(Plan::Recover, &images[rng.below(images.len())]);
+        }
+    }
+}
+
+fn single_calls(panel: &mut Panel, rng: &mut Rng) {
+    let image = generate::recording(rng);
+    let bytes = image.encode();
+    for _ in 0..3 {
+        let call = generate::call(rng, &image);
+        panel.ask(&call, &bytes, Lent::AMPLE);
+    }
+}
+
+/// Begin, some recordings, then commit, rollback or a cut, each on the image that the call before handed back.
+fn transaction(panel: &mut Panel, rng: &mut Rng) {
+    let mut bytes = Image { log: None, open: false, ..generate::transaction(rng) }.encode();
+    for turn in 0..rng.below(7) + 1 {
+        let image = Image::decode(&bytes).unwrap_or_default();
+        let call = if turn == 0 { Call::Begin } else { generate::call(rng, &image) };
+        let answer = panel.ask(&call, &bytes, Lent::AMPLE);
+        if let (Some(next), false) = (answer.out, matches!(call, Call::ListKeys { .. })) {
+            bytes = next;
+        }
+    }
+    if rng.one_in(5) {
+        panel.ask(&Call::Rollback, &bytes, Lent::AMPLE);
+        return;
+    }
+    let images = panel.plan(Plan::Commit, &bytes);
+    if !images.is_empty() {
+        panel.plan(Plan::Recover, &images[rng.below(images.len())]);
+    }
+}

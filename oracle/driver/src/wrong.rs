@@ -1,0 +1,140 @@
+//! Useless stores, most of them from document 01's note to the testers, in the port's place: the panel must differ on each.
+use crate::corners;
+use crate::panel::{Panel, Question};
+use plain::Plain;
+use store::{Call, Out, Plan, Store};
+
+/// Spoils an answer of the plain reading: the call, the lent image, the number, the outputs.
+type Spoil = fn(&Call, &[u8], u32, &mut Out, &mut Out) -> u32;
+
+const WRONG: [(&str, Spoil); 11] = [
+    ("refuses each call", |_, _, _, _, _| 4),
+    ("gives one image always", |_, _, number, out, _| {
+        if number == 0 {
+            out.put(b"\x10\x01\x00c");
+        }
+        number
+    }),
+    ("recovery changes nothing", |call, image, number, out, _| {
+        if *call == Call::Recover && number == 0 {
+            out.put(image);
+        }
+        number
+    }),
+    ("commit changes nothing", |call, image, number, out, _| {
+        if *call == Call::Commit && number == 0 {
+            out.put(image);
+        }
+        number
+    }),
+    ("commits wholly in step 1", |call, image, number, out, _| {
+        if *call == Call::CommitStep(1) && number == 0 {
+            Plain.commit(image, out);
+        }
+        number
+    }),
+    ("a plan that is one step too long", |call, image, number, out, step| match *call {
+        Call::CommitStep(n) if number == 16 && n > 0 => Plain.commit_step(image, n - 1, out, step),
+        _ => number,
+    }),
+    ("a plan that is one step too short", |call, image, number, _, _| match *call {
+        Call::CommitStep(n) if number == 0 && Plain.plan(Plan::Commit, image).1.len() as u64 == n + 2 => 16,
+        _ => number,
+    }),
+    ("undecodable is corruption", |_, _, number, _, _| if number == 11 { 13 } else { number }),
+    ("a byte behind the image is touched", |_, _, number, out, _| {
+        if let Some(byte) = out.bytes.get_mut(out.written) {
+            *byte ^= 1;
+        }
+        number
+    }),
+    ("a refusal counts", |_, _, number, out, _| {
+        if number == 3 {
+            out.written = 0;
+        }
+        number
+    }),
+    ("the field of the step before", |call, image, number, _, step| match *call {
+        Call::RecoverStep(n @ 1..) if number == 0 => {
+            let mut image_before = vec![0; store::IMAGE_ROOM];
+            Plain.recover_step(image, n - 1, &mut Out { bytes: &mut image_before, written: 0 }, step)
+        }
+        _ => number,
+    }),
+];
+
+pub fn run(panel: &mut Panel, file: &str) {
+    let questions: Vec<Question> = corners::read(file).into_iter().map(|(question, _)| question).collect();
+    panel.port = Some(Box::new(Wrong(|_, _, number, _, _| number)));
+    assert!(!questions.iter().any(|q| panel.differ(q)), "an unspoiled store is taken");
+    for (what, spoil) in WRONG {
+        panel.port = Some(Box::new(Wrong(spoil)));
+        if !questions.iter().any(|q| panel.differ(q)) {
+            println!("a useless store passed: {what}");
+            panel.fail();
+        }
+    }
+    println!("wrong: {} useless stores, each found out by {file}", WRONG.len());
+}
+
+struct Wrong(Spoil);
+
+impl Wrong {
+    fn spoiled(&self, call: Call, image: &[u8], number: u32, out: &mut Out) -> u32 {
+        (self.0)(&call, image, number, out, &mut Out { bytes: &mut [], written: 0 })
+    }
+}
+
+impl Store for Wrong {
+    fn name(&self) -> &'static str {
+        "wrong"
+    }
+    fn begin(&self, image: &[u8], out: &mut Out) -> u32 {
+        self.spoiled(Call::Begin, image, Plain.begin(image, out), out)
+    }
+    fn write(&self, image: &[u8], collection: &[u8], key: &[u8], staged: &[u8], number: u32, out: &mut Out) -> u32 {
+        let call = Call::Write { collection: collection.into(), key: key.into(), staged: staged.into(), number };
+        self.spoiled(call, image, Plain.write(image, collection, key, staged, number, out), out)
+    }
+    fn delete(&self, image: &[u8], collection: &[u8], key: &[u8], out: &mut Out) -> u32 {
+        let call = Call::Delete { collection: collection.into(), key: key.into() };
+        self.spoiled(call, image, Plain.delete(image, collection, key, out), out)
+    }
+    fn delete_all(&self, image: &[u8], collection: &[u8], out: &mut Out) -> u32 {
+        self.spoiled(Call::DeleteAll { collection: collection.into() }, image, Plain.delete_all(image, collection, out), out)
+    }
+    fn create_collection(&self, image: &[u8], name: &[u8], out: &mut Out) -> u32 {
+        self.spoiled(Call::CreateCollection { name: name.into() }, image, Plain.create_collection(image, name, out), out)
+    }
+    fn delete_collection(&self, image: &[u8], name: &[u8], out: &mut Out) -> u32 {
+        self.spoiled(Call::DeleteCollection { name: name.into() }, image, Plain.delete_collection(image, name, out), out)
+    }
+    fn copy_collection(&self, image: &[u8], source: &[u8], dest: &[u8], out: &mut Out) -> u32 {
+        let call = Call::CopyCollection { source: source.into(), dest: dest.into() };
+        self.spoiled(call, image, Plain.copy_collection(image, source, dest, out), out)
+    }
+    fn commit(&self, image: &[u8], out: &mut Out) -> u32 {
+        self.spoiled(Call::Commit, image, Plain.commit(image, out), out)
+    }
+    fn commit_step(&self, image: &[u8], n: u64, out: &mut Out, step: &mut Out) -> u32 {
+        let number = Plain.commit_step(image, n, out, step);
+        (self.0)(&Call::CommitStep(n), image, number, out, step)
+    }
+    fn rollback(&self, image: &[u8], out: &mut Out) -> u32 {
+        self.spoiled(Call::Rollback, image, Plain.rollback(image, out), out)
+    }
+    fn has_pending_work(&self, image: &[u8], pending: &mut u32) -> u32 {
+        let number = Plain.has_pending_work(image, pending);
+        self.spoiled(Call::HasPendingWork, image, number, &mut Out { bytes: &mut [], written: 0 })
+    }
+    fn recover(&self, image: &[u8], out: &mut Out) -> u32 {
+        self.spoiled(Call::Recover, image, Plain.recover(image, out), out)
+    }
+    fn recover_step(&self, image: &[u8], n: u64, out: &mut Out, step: &mut Out) -> u32 {
+        let number = Plain.recover_step(image, n, out, step);
+        (self.0)(&Call::RecoverStep(n), image, number, out, step)
+    }
+    fn list_keys(&self, image: &[u8], collection: &[u8], out: &mut Out) -> u32 {
+        self.spoiled(Call::ListKeys { collection: collection.into() }, image, Plain.list_keys(image, collection, out), out)
+    }
+}

@@ -1,0 +1,359 @@
+//! The original behind the fourteen entries: an image is put on disk, the original's own code works on it, the disk is read
+//! back.
+//!
+//! Where document 01 added a rule, the original has no opinion (`NO_OPINION`): numbers 1, 2, 4, 5, 10, 12, and 6 for a name
+//! that the original takes. Document 01's limits are laid upon it as failing calls (`Watch::within_limits`), so 14 for a
+//! long backup name and 15 are 01's, and what follows them is the original's.
+mod calls;
+mod disk;
+mod listing;
+mod trace;
+
+pub use disk::Root;
+pub use trace::{Cut, Trace};
+
+use cda_interfaces::storage_api::{Collection, CollectionName, Operation, Storage, StorageError, Transaction, staging_folder};
+use cda_storage::{LocalStorage, WalStatus, collection, has_pending_work, open_wal, read_wal, sanitize};
+use plain::{Image, image::STAGING_LIMIT, image::put_field, log::OPERATION_LIMIT, name::is_valid};
+use std::path::Path;
+use store::{Answer, IMAGE_ROOM, KEYS_ROOM, NO_OPINION, Out, Plan, STEP_ROOM, Store};
+use tokio::block_on;
+
+pub struct Original {
+    pub root: Root,
+}
+
+/// `None`: the original has no opinion.
+type Opinion<T> = Option<T>;
+
+/// The end of a commit or recovery, and what was seen on the way.
+pub struct Run {
+    pub number: u32,
+    pub image: Image,
+    pub trace: Trace,
+}
+
+impl Original {
+    /// The original at work in a folder of its own, in memory where the system has such a file system.
+    pub fn new() -> Original {
+        let memory = Path::new("/dev/shm");
+        let folder = if memory.is_dir() { memory.to_path_buf() } else { std::env::temp_dir() };
+        Original { root: Root(folder.join(format!("cda-oracle-{}", std::process::id()))) }
+    }
+
+    /// A store that stands open over the image on disk, with the image's transaction if it has an open mark. A new store
+    /// would recover what it finds: it is opened while the disk is empty.
+    fn open(&self, image: &Image) -> (LocalStorage, Option<Transaction>) {
+        self.root.clear();
+        staging_folder(self.root.staging().to_str().unwrap());
+        let storage = LocalStorage::new(&self.root.0).unwrap();
+        let transaction = image.open.then(|| storage.begin_transaction().unwrap());
+        self.root.put(image);
+        (storage, transaction)
+    }
+
+    fn read_back(&self, storage: &LocalStorage) -> Image {
+        let image = self.root.get();
+        Image { open: is_open(storage), ..image }
+    }
+
+    /// Number 4 is added: the operations of a Recording log that the original reads untruncated.
+    fn recorded(&self) -> Opinion<Vec<Operation>> {
+        let (WalStatus::Recording, log) = open_wal(&self.root.log()).ok()?? else { return None };
+        let read = read_wal(&log).ok()?;
+        (!read.truncated && read.operations.len() <= OPERATION_LIMIT).then_some(read.operations)
+    }
+
+    /// A commit or recovery up to a cut.
+    pub fn run(&self, plan: Plan, image: &Image, cut: Cut) -> Opinion<Run> {
+        match plan {
+            Plan::Commit => self.commit_until(image, cut),
+            Plan::Recover => self.recover_until(image, cut),
+        }
+    }
+
+    fn commit_until(&self, image: &Image, cut: Cut) -> Opinion<Run> {
+        let (storage, transaction) = self.open(image);
+        let mut transaction = transaction?;
+        self.recorded()?.into_iter().for_each(|o| transaction.record(o));
+        trace::start(&self.root, image, true, cut);
+        let result = block_on(transaction.commit());
+        let (trace, image) = trace::stop();
+        let number = trace.failed.unwrap_or(0);
+        assert!(cut != Cut::Never || result.is_err() == (number != 0), "a failed commit has a failing step: {result:?}");
+        Some(Run { number, image: Image { open: is_open(&storage), ..image }, trace })
+    }
+
+    fn recover_until(&self, image: &Image, cut: Cut) -> Opinion<Run> {
+        if over_the_limit(image.log.as_deref().unwrap_or_default()) {
+            return None;
+        }
+        self.root.clear();
+        self.root.put(image);
+        Some(self.recover_in_place(image, cut))
+    }
+
+    /// Recovery of what stands on disk, which is this image.
+    pub fn recover_in_place(&self, image: &Image, cut: Cut) -> Run {
+        trace::start(&self.root, image, false, cut);
+        let result = LocalStorage::new(&self.root.0);
+        let (trace, image) = trace::stop();
+        let number = match result {
+            _ if cut != Cut::Never => 0,
+            Ok(_) => 0,
+            Err(StorageError::Corruption(_)) => 13,
+            Err(StorageError::Other(_)) => 11,
+            Err(error) => panic!("recovery: {error}"),
+        };
+        assert!(number == 0 || trace.steps.is_empty(), "a refusal changes nothing");
+        Run { number, image, trace }
+    }
+
+    /// Opens a store over what the image says, whatever its names, and says what came of it.
+    pub fn restart(&self, image: &Image) -> (Result<(), String>, Image) {
+        self.root.clear();
+        self.root.put(image);
+        let opened = LocalStorage::new(&self.root.0).map(|_| ()).map_err(|error| error.to_string());
+        (opened, self.root.get())
+    }
+
+    /// Records one operation, or has no opinion: numbers 4 and 5, and what `added` says.
+    fn record(
+        &self,
+        image: &[u8],
+        out: &mut Out,
+        added: impl FnOnce(&Image) -> bool,
+        work: impl FnOnce(&LocalStorage, &mut Transaction) -> Result<(), StorageError>,
+    ) -> u32 {
+        let opinion = || {
+            let image = decode(image, out.bytes.len() >= IMAGE_ROOM)?;
+            let (storage, transaction) = self.open(&image);
+            let mut transaction = transaction?;
+            if self.recorded()?.len() == OPERATION_LIMIT || added(&image) {
+                return None;
+            }
+            let result = work(&storage, &mut transaction);
+            let after = self.read_back(&storage);
+            assert!(result.is_ok() || after == image, "a refusal changes nothing");
+            Some(result.map(|()| after))
+        };
+        match opinion() {
+            None => NO_OPINION,
+            Some(Ok(image)) => {
+                out.put(&image.encode());
+                0
+            }
+            Some(Err(StorageError::CollectionNotFound(_))) => 7,
+            Some(Err(StorageError::KeyNotFound(_))) => 8,
+            Some(Err(StorageError::TransactionConflict(_))) => 9,
+            Some(Err(StorageError::Other(_))) => 6,
+            Some(Err(error)) => panic!("recording: {error}"),
+        }
+    }
+
+    fn whole(&self, plan: Plan, image: &[u8], out: &mut Out) -> u32 {
+        let run = decode(image, out.bytes.len() >= IMAGE_ROOM).and_then(|image| self.run(plan, &image, Cut::Never));
+        let Some(run) = run else { return NO_OPINION };
+        if matches!(run.number, 0 | 14 | 15) {
+            out.put(&run.image.encode());
+        }
+        run.number
+    }
+
+    fn step(&self, plan: Plan, image: &[u8], n: u64, out: &mut Out, step: &mut Out) -> u32 {
+        if out.bytes.len() < IMAGE_ROOM || step.bytes.len() < STEP_ROOM {
+            return NO_OPINION;
+        }
+        let (_, answers) = self.plan(plan, image);
+        let answer = &answers[usize::try_from(n).unwrap_or(usize::MAX).min(answers.len() - 1)];
+        if answer.number == 0 {
+            out.put(answer.out.as_ref().unwrap());
+            step.put(answer.step.as_ref().unwrap());
+        }
+        answer.number
+    }
+}
+
+impl Drop for Original {
+    fn drop(&mut self) {
+        let _ = std::fs::remove_dir_all(&self.root.0);
+    }
+}
+
+/// The open mark, which the original keeps in memory: begin is busy. Where it isn't, the disk has changed.
+fn is_open(storage: &LocalStorage) -> bool {
+    matches!(storage.begin_transaction(), Err(StorageError::TransactionBusy))
+}
+
+fn decode(image: &[u8], room: bool) -> Opinion<Image> {
+    Image::decode(image).filter(|_| room)
+}
+
+/// Number 12 is added: a Committing log of which the original reads 32 operations and that goes on.
+fn over_the_limit(log: &[u8]) -> bool {
+    let mut end = 8usize;
+    for _ in 0..OPERATION_LIMIT {
+        let Some(length) = log.get(end + 4..end + 8) else { return false };
+        end = end.saturating_add(8).saturating_add(u32::from_le_bytes(length.try_into().unwrap()) as usize);
+    }
+    let committing = plain::log::status(log) == Some(plain::log::Status::Committing);
+    let whole = |log: &[u8]| read_wal(log).is_ok_and(|read| !read.truncated && read.operations.len() == OPERATION_LIMIT);
+    committing && log.get(..end).is_some_and(|first| first.len() < log.len() && whole(first))
+}
+
+/// A given name as the original takes it. `None` is a name that 01 refuses and the original doesn't, or can't be given.
+fn given(name: &[u8]) -> Opinion<&str> {
+    std::str::from_utf8(name).ok().filter(|text| is_valid(name) || sanitize(text).is_err())
+}
+
+fn custom(name: &[u8]) -> CollectionName {
+    CollectionName::Custom(given(name).unwrap().to_string())
+}
+
+impl Store for Original {
+    fn name(&self) -> &'static str {
+        "original"
+    }
+
+    fn begin(&self, image: &[u8], out: &mut Out) -> u32 {
+        let Some(image) = decode(image, out.bytes.len() >= IMAGE_ROOM) else { return NO_OPINION };
+        let (storage, _transaction) = self.open(&image);
+        let begun = storage.begin_transaction();
+        match &begun {
+            Ok(_) => {
+                out.put(&self.read_back(&storage).encode());
+                0
+            }
+            Err(StorageError::TransactionBusy) => 3,
+            Err(error) => panic!("begin: {error}"),
+        }
+    }
+
+    fn write(&self, image: &[u8], folder: &[u8], key: &[u8], staged: &[u8], number: u32, out: &mut Out) -> u32 {
+        let key = key.to_ascii_lowercase();
+        let added = |image: &Image| {
+            let (Some(folder), Some(key), true) = (given(folder), given(&key), is_valid(staged)) else { return true };
+            let refused = sanitize(folder).is_err() || sanitize(key).is_err();
+            !refused && (number == 0 || image.staging.len() == STAGING_LIMIT || image.staging.contains_key(staged))
+        };
+        self.record(image, out, added, |_, transaction| {
+            let folder = given(folder).unwrap();
+            sanitize(folder)?;
+            uuid::name_next(given(staged).unwrap());
+            let handle = collection(&self.root.collections(), folder);
+            block_on(handle.write(transaction, given(&key).unwrap(), &mut &number.to_le_bytes()[..]))
+        })
+    }
+
+    fn delete(&self, image: &[u8], folder: &[u8], key: &[u8], out: &mut Out) -> u32 {
+        let added = |_: &Image| given(folder).is_none() || given(&key.to_ascii_lowercase()).is_none();
+        self.record(image, out, added, |_, transaction| {
+            let (folder, key) = (given(folder).unwrap(), std::str::from_utf8(key).unwrap());
+            sanitize(folder)?;
+            block_on(collection(&self.root.collections(), folder).delete(transaction, key))
+        })
+    }
+
+    fn delete_all(&self, image: &[u8], folder: &[u8], out: &mut Out) -> u32 {
+        let added = |_: &Image| given(folder).is_none();
+        self.record(image, out, added, |_, transaction| {
+            let folder = given(folder).unwrap();
+            sanitize(folder)?;
+            block_on(collection(&self.root.collections(), folder).delete_all(transaction))
+        })
+    }
+
+    fn create_collection(&self, image: &[u8], name: &[u8], out: &mut Out) -> u32 {
+        let added = |_: &Image| given(name).is_none();
+        self.record(image, out, added, |storage, transaction| block_on(storage.create_collection(transaction, &custom(name))).map(|_| ()))
+    }
+
+    fn delete_collection(&self, image: &[u8], name: &[u8], out: &mut Out) -> u32 {
+        let added = |_: &Image| given(name).is_none();
+        self.record(image, out, added, |storage, transaction| block_on(storage.delete_collection(transaction, &custom(name))))
+    }
+
+    fn copy_collection(&self, image: &[u8], source: &[u8], dest: &[u8], out: &mut Out) -> u32 {
+        let added = |image: &Image| given(source).is_none() || image.dirs.contains_key(source) && given(dest).is_none();
+        self.record(image, out, added, |storage, transaction| {
+            // A destination that can't be given is not looked at where the source is missing.
+            let dest = if given(dest).is_some() { dest } else { b"unused" };
+            block_on(storage.copy_collection(transaction, &custom(source), &custom(dest)))
+        })
+    }
+
+    fn commit(&self, image: &[u8], out: &mut Out) -> u32 {
+        self.whole(Plan::Commit, image, out)
+    }
+
+    fn commit_step(&self, image: &[u8], n: u64, out: &mut Out, step: &mut Out) -> u32 {
+        self.step(Plan::Commit, image, n, out, step)
+    }
+
+    fn rollback(&self, image: &[u8], out: &mut Out) -> u32 {
+        let opinion = || {
+            let image = decode(image, out.bytes.len() >= IMAGE_ROOM)?;
+            let (storage, transaction) = self.open(&image);
+            self.recorded()?;
+            transaction?.rollback();
+            Some(self.read_back(&storage))
+        };
+        let Some(image) = opinion() else { return NO_OPINION };
+        out.put(&image.encode());
+        0
+    }
+
+    fn has_pending_work(&self, image: &[u8], pending: &mut u32) -> u32 {
+        let Some(image) = Image::decode(image) else { return NO_OPINION };
+        self.root.clear();
+        self.root.put(&image);
+        *pending = u32::from(has_pending_work(&self.root.journal(), &self.root.collections()));
+        0
+    }
+
+    fn recover(&self, image: &[u8], out: &mut Out) -> u32 {
+        self.whole(Plan::Recover, image, out)
+    }
+
+    fn recover_step(&self, image: &[u8], n: u64, out: &mut Out, step: &mut Out) -> u32 {
+        self.step(Plan::Recover, image, n, out, step)
+    }
+
+    fn list_keys(&self, image: &[u8], folder: &[u8], out: &mut Out) -> u32 {
+        let Some(image) = decode(image, out.bytes.len() >= KEYS_ROOM) else { return NO_OPINION };
+        let Some(folder) = given(folder) else { return NO_OPINION };
+        if sanitize(folder).is_err() {
+            return 6;
+        }
+        self.root.clear();
+        self.root.put(&image);
+        let mut keys = Vec::new();
+        for key in block_on(collection(&self.root.collections(), folder).list()).unwrap() {
+            put_field(&mut keys, 0x03, &[key.as_bytes()]);
+        }
+        out.put(&keys);
+        0
+    }
+
+    /// All answers by one run.
+    fn plan(&self, plan: Plan, image: &[u8]) -> (Answer, Vec<Answer>) {
+        let run = Image::decode(image).and_then(|image| Some((self.run(plan, &image, Cut::Never)?, image)));
+        let (run, start) = match run {
+            None => return (Answer::refusal(NO_OPINION), vec![Answer::refusal(NO_OPINION)]),
+            Some((run, _)) if (11..=13).contains(&run.number) => {
+                return (Answer::refusal(run.number), vec![Answer::refusal(run.number)]);
+            }
+            Some(done) => done,
+        };
+        let whole = Answer { number: run.number, out: Some(run.image.encode()), ..Answer::default() };
+        let last = run.trace.steps.len();
+        let images = std::iter::once(start).chain(run.trace.images);
+        let fields = std::iter::once(Vec::new()).chain(run.trace.steps.iter().map(|step| step.field()));
+        let answer = |(n, (image, field)): (usize, (Image, Vec<u8>))| {
+            let image = Image { open: plan == Plan::Commit && n < last, ..image };
+            Answer { out: Some(image.encode()), step: Some(field), ..Answer::default() }
+        };
+        let steps = images.zip(fields).enumerate().map(answer);
+        (whole, steps.chain([Answer::refusal(16)]).collect())
+    }
+}

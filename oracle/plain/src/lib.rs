@@ -1,0 +1,269 @@
+//! A plain reading of document 01: a store in memory, on ordered maps, with nothing in mind but the text.
+pub mod image;
+pub mod log;
+pub mod name;
+mod run;
+pub mod step;
+
+pub use image::Image;
+pub use log::Operation;
+pub use name::Name;
+
+use log::{Ending, OPERATION_LIMIT, Status};
+use name::{backup, is_backup, is_tmp, is_valid};
+use run::{Recovery, Run, Stop};
+use store::{IMAGE_ROOM, KEYS_ROOM, Out, STEP_ROOM, Store};
+
+pub struct Plain;
+
+/// A refusal's number.
+type Refused<T> = Result<T, u32>;
+
+fn refuse_unless(test: bool, number: u32) -> Refused<()> {
+    if test { Ok(()) } else { Err(number) }
+}
+
+fn decode(image: &[u8], room: bool) -> Refused<Image> {
+    let image = Image::decode(image).ok_or(1u32)?;
+    refuse_unless(room, 2)?;
+    Ok(image)
+}
+
+/// Number 4: the operations of the open transaction.
+fn transaction(image: &Image) -> Refused<Vec<Operation>> {
+    let log = image.log.as_ref().filter(|l| image.open && log::status(l) == Some(Status::Recording)).ok_or(4u32)?;
+    match log::operations(log) {
+        (operations, Ending::Whole) => Ok(operations),
+        _ => Err(4),
+    }
+}
+
+/// An entry that hands an image back.
+fn answer(out: &mut Out, image: &[u8], entry: impl FnOnce(&mut Image) -> Refused<()>) -> u32 {
+    let result = decode(image, out.bytes.len() >= IMAGE_ROOM).and_then(|mut image| entry(&mut image).map(|()| image));
+    match result {
+        Ok(image) => {
+            out.put(&image.encode());
+            0
+        }
+        Err(number) => number,
+    }
+}
+
+/// An entry that records an operation: 4, 5, its own tests, the operation into the log.
+fn record(out: &mut Out, image: &[u8], entry: impl FnOnce(&mut Image) -> Refused<Operation>) -> u32 {
+    answer(out, image, |image| {
+        refuse_unless(transaction(image)?.len() < OPERATION_LIMIT, 5)?;
+        let operation = entry(image)?;
+        log::append(image.log.as_mut().expect("a transaction has a log"), &operation.encode());
+        Ok(())
+    })
+}
+
+/// Deleting "k" where only "K" stands renames K to k at once.
+fn rename_case(image: &mut Image, collection: &[u8], key: &Name) {
+    let Some(files) = image.dirs.get_mut(collection) else { return };
+    if files.contains_key(key) {
+        return;
+    }
+    let other = files.keys().find(|f| !is_backup(f) && !is_tmp(f) && f.eq_ignore_ascii_case(key)).cloned();
+    if let Some(number) = other.and_then(|f| files.remove(&f)) {
+        files.insert(key.clone(), number);
+    }
+}
+
+fn any_backup(image: &Image) -> bool {
+    image.dirs.iter().any(|(dir, files)| is_backup(dir) || files.keys().any(|f| is_backup(f)))
+}
+
+/// `has_new_artifacts`
+fn any_new_artifact(image: &Image, operations: &[Operation]) -> bool {
+    operations.iter().any(|operation| match operation {
+        Operation::Write { collection, key, .. } => image.has(collection, key) && !image.has(collection, &backup(key)),
+        Operation::CreateCollection { name } => image.dirs.contains_key(name),
+        Operation::CopyCollection { dest, existed, .. } => {
+            !existed && image.dirs.contains_key(dest) && !image.dirs.contains_key(&backup(dest))
+        }
+        _ => false,
+    })
+}
+
+/// What recovery will do, or 11, 12, 13.
+fn recovery(image: &Image) -> Refused<Recovery> {
+    let Some(log) = &image.log else { return Ok(Recovery::NoLog) };
+    match log::status(log) {
+        None => Ok(Recovery::NoLog),
+        Some(Status::Recording) => Ok(Recovery::Discard),
+        Some(Status::Committing) => match log::operations(log) {
+            (operations, Ending::Whole) => Ok(Recovery::Undo(operations)),
+            (_, Ending::Undecodable) => Err(11),
+            (_, Ending::TooMany) => Err(12),
+            (operations, Ending::Truncated) => {
+                refuse_unless(!any_backup(image) && !any_new_artifact(image, &operations), 13)?;
+                Ok(Recovery::Discard)
+            }
+        },
+    }
+}
+
+/// A step entry: the run up to n steps, then the image and the last step's field, or 16.
+fn step_answer(image: Image, n: u64, out: &mut Out, step: &mut Out, go: impl FnOnce(&mut Run) -> Result<(), Stop>) -> u32 {
+    let mut run = Run { image, left: n, last: None };
+    let ended = go(&mut run).is_ok();
+    if ended && run.left > 0 {
+        return 16;
+    }
+    out.put(&run.image.encode());
+    step.put(&run.last.map(|s| s.field()).unwrap_or_default());
+    0
+}
+
+fn step_room(out: &Out, step: &Out) -> bool {
+    out.bytes.len() >= IMAGE_ROOM && step.bytes.len() >= STEP_ROOM
+}
+
+impl Store for Plain {
+    fn name(&self) -> &'static str {
+        "plain"
+    }
+
+    fn begin(&self, image: &[u8], out: &mut Out) -> u32 {
+        answer(out, image, |image| {
+            refuse_unless(!image.open, 3)?;
+            image.log = Some(log::header(Status::Recording));
+            image.open = true;
+            Ok(())
+        })
+    }
+
+    fn write(&self, image: &[u8], collection: &[u8], key: &[u8], staged: &[u8], number: u32, out: &mut Out) -> u32 {
+        record(out, image, |image| {
+            let key = key.to_ascii_lowercase();
+            refuse_unless(is_valid(collection) && is_valid(&key) && is_valid(staged), 6)?;
+            let free = !image.staging.contains_key(staged) && image.staging.len() < image::STAGING_LIMIT;
+            refuse_unless(free && number != 0, 10)?;
+            image.staging.insert(staged.to_vec(), number);
+            Ok(Operation::Write { collection: collection.to_vec(), key, staged: staged.to_vec() })
+        })
+    }
+
+    fn delete(&self, image: &[u8], collection: &[u8], key: &[u8], out: &mut Out) -> u32 {
+        record(out, image, |image| {
+            let key = key.to_ascii_lowercase();
+            refuse_unless(is_valid(collection) && is_valid(&key), 6)?;
+            rename_case(image, collection, &key);
+            refuse_unless(image.has(collection, &key), 8)?;
+            Ok(Operation::Delete { collection: collection.to_vec(), key })
+        })
+    }
+
+    fn delete_all(&self, image: &[u8], collection: &[u8], out: &mut Out) -> u32 {
+        record(out, image, |_| {
+            refuse_unless(is_valid(collection), 6)?;
+            Ok(Operation::DeleteAll { collection: collection.to_vec() })
+        })
+    }
+
+    fn create_collection(&self, image: &[u8], name: &[u8], out: &mut Out) -> u32 {
+        record(out, image, |image| {
+            refuse_unless(is_valid(name), 6)?;
+            refuse_unless(!image.dirs.contains_key(name), 9)?;
+            Ok(Operation::CreateCollection { name: name.to_vec() })
+        })
+    }
+
+    fn delete_collection(&self, image: &[u8], name: &[u8], out: &mut Out) -> u32 {
+        record(out, image, |image| {
+            refuse_unless(is_valid(name), 6)?;
+            refuse_unless(image.dirs.contains_key(name), 7)?;
+            Ok(Operation::DeleteCollection { name: name.to_vec() })
+        })
+    }
+
+    fn copy_collection(&self, image: &[u8], source: &[u8], dest: &[u8], out: &mut Out) -> u32 {
+        record(out, image, |image| {
+            refuse_unless(is_valid(source), 6)?;
+            refuse_unless(image.dirs.contains_key(source), 7)?;
+            refuse_unless(is_valid(dest), 6)?;
+            let existed = image.dirs.contains_key(dest);
+            Ok(Operation::CopyCollection { source: source.to_vec(), dest: dest.to_vec(), existed })
+        })
+    }
+
+    fn commit(&self, image: &[u8], out: &mut Out) -> u32 {
+        let begun = decode(image, out.bytes.len() >= IMAGE_ROOM).and_then(|image| Ok((transaction(&image)?, image)));
+        match begun {
+            Err(number) => number,
+            Ok((operations, image)) => {
+                let mut run = Run { image, left: u64::MAX, last: None };
+                let Ok(number) = run.commit(&operations) else { unreachable!("no cut") };
+                out.put(&run.image.encode());
+                number
+            }
+        }
+    }
+
+    fn commit_step(&self, image: &[u8], n: u64, out: &mut Out, step: &mut Out) -> u32 {
+        let begun = decode(image, step_room(out, step)).and_then(|image| Ok((transaction(&image)?, image)));
+        match begun {
+            Err(number) => number,
+            Ok((operations, image)) => step_answer(image, n, out, step, |run| run.commit(&operations).map(|_| ())),
+        }
+    }
+
+    fn rollback(&self, image: &[u8], out: &mut Out) -> u32 {
+        answer(out, image, |image| {
+            transaction(image)?;
+            image.staging.clear();
+            image.log = None;
+            image.open = false;
+            Ok(())
+        })
+    }
+
+    fn has_pending_work(&self, image: &[u8], pending: &mut u32) -> u32 {
+        let Some(image) = Image::decode(image) else { return 1 };
+        *pending = u32::from(image.log.is_some() || any_backup(&image) || !image.staging.is_empty());
+        0
+    }
+
+    fn recover(&self, image: &[u8], out: &mut Out) -> u32 {
+        answer(out, image, |image| {
+            let what = recovery(image)?;
+            let mut run = Run { image: std::mem::take(image), left: u64::MAX, last: None };
+            run.image.open = false;
+            let Ok(()) = run.recover(what) else { unreachable!("no cut and no fault") };
+            *image = run.image;
+            Ok(())
+        })
+    }
+
+    fn recover_step(&self, image: &[u8], n: u64, out: &mut Out, step: &mut Out) -> u32 {
+        let begun = decode(image, step_room(out, step)).and_then(|image| Ok((recovery(&image)?, image)));
+        match begun {
+            Err(number) => number,
+            Ok((what, mut image)) => {
+                image.open = false;
+                step_answer(image, n, out, step, |run| run.recover(what))
+            }
+        }
+    }
+
+    fn list_keys(&self, image: &[u8], collection: &[u8], out: &mut Out) -> u32 {
+        let image = match decode(image, out.bytes.len() >= KEYS_ROOM) {
+            Ok(image) => image,
+            Err(number) => return number,
+        };
+        if !is_valid(collection) {
+            return 6;
+        }
+        let mut keys = Vec::new();
+        for file in image.dirs.get(collection).into_iter().flat_map(|files| files.keys()) {
+            if !is_backup(file) && !is_tmp(file) {
+                image::put_field(&mut keys, 0x03, &[&file.to_ascii_lowercase()]);
+            }
+        }
+        out.put(&keys);
+        0
+    }
+}

@@ -1,0 +1,14 @@
+//! The port behind the fourteen entries: the functions that the static library exports. A lent slice is a pointer and a
+//! length, a lent counter a pointer.
+#[cfg(linked)]
+mod linked;
+
+use store::Store;
+
+/// The port, where its static library stood when this was built.
+pub fn port() -> Option<Box<dyn Store>> {
+    #[cfg(linked)]
+    return Some(Box::new(linked::Port));
+    #[cfg(not(linked))]
+    None
+}

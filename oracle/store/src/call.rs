@@ -1,0 +1,125 @@
+//! A call as a value, and its answer with every byte that may not have been touched.
+use crate::{IMAGE_ROOM, Name, Out, STEP_ROOM, Store};
+use std::cell::Cell;
+
+#[derive(Clone, PartialEq, Eq, Debug)]
+pub enum Call {
+    Begin,
+    Write { collection: Name, key: Name, staged: Name, number: u32 },
+    Delete { collection: Name, key: Name },
+    DeleteAll { collection: Name },
+    CreateCollection { name: Name },
+    DeleteCollection { name: Name },
+    CopyCollection { source: Name, dest: Name },
+    Commit,
+    CommitStep(u64),
+    Rollback,
+    HasPendingWork,
+    Recover,
+    RecoverStep(u64),
+    ListKeys { collection: Name },
+}
+
+/// The two entries that carry out file steps.
+#[derive(Clone, Copy, PartialEq, Eq, Debug)]
+pub enum Plan {
+    Commit,
+    Recover,
+}
+
+impl Plan {
+    pub fn whole(self) -> Call {
+        match self {
+            Plan::Commit => Call::Commit,
+            Plan::Recover => Call::Recover,
+        }
+    }
+    pub fn step(self, n: u64) -> Call {
+        match self {
+            Plan::Commit => Call::CommitStep(n),
+            Plan::Recover => Call::RecoverStep(n),
+        }
+    }
+}
+
+/// The lengths of the lent outputs.
+#[derive(Clone, Copy, PartialEq, Eq, Debug)]
+pub struct Lent {
+    pub out: usize,
+    pub step: usize,
+}
+
+impl Lent {
+    pub const AMPLE: Lent = Lent { out: IMAGE_ROOM + 5, step: STEP_ROOM + 3 };
+}
+
+/// The number and what was written to each lent output, if anything. `stray` says what else was touched.
+#[derive(Clone, PartialEq, Eq, Debug, Default)]
+pub struct Answer {
+    pub number: u32,
+    pub out: Option<Vec<u8>>,
+    pub step: Option<Vec<u8>>,
+    pub pending: Option<u32>,
+    pub stray: Option<String>,
+}
+
+impl Answer {
+    pub fn refusal(number: u32) -> Answer {
+        Answer { number, ..Answer::default() }
+    }
+}
+
+const UNTOUCHED: usize = 0x5A5A_5A5A;
+
+thread_local! { static TURN: Cell<u8> = const { Cell::new(0) }; }
+
+/// What a lent output of this length holds before a call. It differs from call to call, so that no fixed byte passes for it.
+fn before(length: usize, turn: u8) -> Vec<u8> {
+    (0..length).map(|i| (i as u8).wrapping_mul(167).wrapping_add(turn)).collect()
+}
+
+pub fn ask<S: Store + ?Sized>(store: &S, call: &Call, image: &[u8], lent: Lent) -> Answer {
+    let turn = TURN.with(|t| t.replace(t.get().wrapping_add(91)));
+    let (clean, clean_step) = (before(lent.out, turn), before(lent.step, turn));
+    let (mut bytes, mut step_bytes) = (clean.clone(), clean_step.clone());
+    let mut out = Out { bytes: &mut bytes, written: UNTOUCHED };
+    let mut step = Out { bytes: &mut step_bytes, written: UNTOUCHED };
+    let mut pending = UNTOUCHED as u32;
+    let number = match call {
+        Call::Begin => store.begin(image, &mut out),
+        Call::Write { collection, key, staged, number } => store.write(image, collection, key, staged, *number, &mut out),
+        Call::Delete { collection, key } => store.delete(image, collection, key, &mut out),
+        Call::DeleteAll { collection } => store.delete_all(image, collection, &mut out),
+        Call::CreateCollection { name } => store.create_collection(image, name, &mut out),
+        Call::DeleteCollection { name } => store.delete_collection(image, name, &mut out),
+        Call::CopyCollection { source, dest } => store.copy_collection(image, source, dest, &mut out),
+        Call::Commit => store.commit(image, &mut out),
+        Call::CommitStep(n) => store.commit_step(image, *n, &mut out, &mut step),
+        Call::Rollback => store.rollback(image, &mut out),
+        Call::HasPendingWork => store.has_pending_work(image, &mut pending),
+        Call::Recover => store.recover(image, &mut out),
+        Call::RecoverStep(n) => store.recover_step(image, *n, &mut out, &mut step),
+        Call::ListKeys { collection } => store.list_keys(image, collection, &mut out),
+    };
+    let mut answer = Answer::refusal(number);
+    let mut stray = Vec::new();
+    answer.out = written(&out, &clean, "out", &mut stray);
+    answer.step = written(&step, &clean_step, "step", &mut stray);
+    answer.pending = (pending != UNTOUCHED as u32).then_some(pending);
+    answer.stray = (!stray.is_empty()).then(|| stray.join(", "));
+    answer
+}
+
+/// What was written to a lent output, after a look at the bytes behind it.
+fn written(out: &Out, clean: &[u8], what: &str, stray: &mut Vec<String>) -> Option<Vec<u8>> {
+    let end = if out.written == UNTOUCHED { 0 } else { out.written };
+    if end > clean.len() {
+        stray.push(format!("{what}: {end} bytes said of {}", clean.len()));
+        return None;
+    }
+    if out.bytes[end..] != clean[end..] {
+        let at = end + out.bytes[end..].iter().zip(&clean[end..]).position(|(a, b)| a != b).unwrap();
+        stray.push(format!("{what}: byte {at} touched, {end} written"));
+    }
+    (out.written != UNTOUCHED).then(|| out.bytes[..end].to_vec())
+}

@@ -1,19 +1,18 @@
 -- An entry from image to image, by what its method answered.
-use mathlib.Core.Path.{_≡_, refl, sym, ap, subst, _∙_}
-use mathlib.Core.Bool.{Bool, true, false}
-use mathlib.Core.List.{List, [], _∷_}
+use mathlib.Core.Path.{_≡_, sym, ap, subst, _∙_}
+use mathlib.Core.Bool.{false}
+use mathlib.Core.List.{List}
 use Prim.Native.Nat.{ℕ, _≤_}
 use native.Mathlib.Omega.{arith}
 use lib.ListN.{length}
 use lib.Dec.{leb}
-use mathlib.Core.Logic.{inl, inr}
 use borrow.Author.Tests.{leb-true}
 use Rattle.model.specs.Limits.{imageRoom}
-use Rattle.model.specs.Base.{Bytes, In}
+use Rattle.model.specs.Base.{Bytes}
 use Rattle.model.specs.Store as model
 use Rattle.model.specs.Record.{Outcome, refuse, give}
 use Rattle.model.specs.Answers.{Answer, refusal, outcome, imageEntry}
-use Rattle.laws.specs.Tests.{All}
+use Rattle.laws.specs.Tests.{All, all-in}
 use Rattle.laws.specs.Bounds.{Bounded}
 use Rattle.store.specs.Stores.{storeOf, SoundStore}
 use Rattle.wal.specs.Tails.{SoundTail}
@@ -26,12 +25,6 @@ use Rattle.handover.specs.Opening.{Opens}
 use Rattle.handover.specs.Numbers.{Numbered}
 use Rattle.handover.specs.declared.Opened.{Opened}
 use Rattle.handover.proofs.Outputs.{left-alone}
-
--- Numbers that hand nothing back.
-one-of : (l : List ℕ) → All (λ n. handsBack n ≡ false) l → (n : ℕ) → In n l → handsBack n ≡ false
-one-of [] h n i = absurd i
-one-of (k ∷ l) h n (inl e) = subst (λ (j : ℕ). handsBack j ≡ false) (sym e) (h .0)
-one-of (k ∷ l) h n (inr i) = one-of l (h .1) n i
 
 -- An image or an output that is refused.
 pub not-opened : (f : model.Store → Outcome) (image : Bytes) (len : ℕ) {o : Opened} → Opens image (leb imageRoom len) o → (o .number ≡ 0 → ⊥) → {out : Bytes} {written : ℕ} → Gives (imageEntry f image len) (o .number) out out written written
@@ -48,7 +41,7 @@ module _ (f : model.Store → Outcome) (image : Bytes) (len : ℕ) {o : Opened} 
     (a .sound, a .tail),
     (
       let k = leb-true imageRoom len (w .roomy z) in let i = subst (λ (x : Answer). length (x .image) ≤ imageRoom) same (b .image) in omega arith,
-      λ q. one-of l h (r .number) (subst (Numbered l) (answer-refused a q) n),
+      λ q. all-in (λ n. handsBack n ≡ false) l h (r .number) (subst (Numbered l) (answer-refused a q) n),
     ),
   )
 

@@ -1,0 +1,206 @@
+//! The fourteen entries of the port as methods of [`Image`]. They are pure: an image goes in, an answer comes out, and no file
+//! is touched.
+use crate::{field, image::Image, refusal::Refusal, step::Step};
+use cda_storage_sys::{self as sys, IMAGE_ROOM, KEYS_ROOM, Output, STEP_ROOM};
+use std::{error::Error, fmt};
+
+/// A commit that was refused. 14 and 15 also hand back the rolled-back image.
+#[derive(Clone, PartialEq, Eq, Debug)]
+pub struct CommitError {
+    /// Why.
+    pub refusal: Refusal,
+    /// The image after the rollback, for [`Refusal::StepFailed`] and [`Refusal::StoreFull`].
+    pub image: Option<Image>,
+}
+
+impl fmt::Display for CommitError {
+    fn fmt(&self, f: &mut fmt::Formatter) -> fmt::Result {
+        self.refusal.fmt(f)
+    }
+}
+
+impl Error for CommitError {}
+
+/// The two plans of file steps.
+#[derive(Clone, Copy, PartialEq, Eq, Hash, Debug)]
+pub enum Plan {
+    /// What a commit does, or a failing commit and its rollback.
+    Commit,
+    /// What a recovery does.
+    Recover,
+}
+
+/// A step that was asked for: its number, what it does, and the image behind it.
+#[derive(Clone, PartialEq, Eq, Debug)]
+pub struct Stepped {
+    /// The step's number, from 1.
+    pub number: u64,
+    /// What it does.
+    pub step: Step,
+    /// The image after this step.
+    pub image: Image,
+}
+
+/// The steps of a plan, in order. It ends behind the last one; a refusal of the whole plan comes as its only item.
+#[derive(Clone, Debug)]
+pub struct Steps<'a> {
+    image: &'a Image,
+    plan: Plan,
+    number: u64,
+    over: bool,
+}
+
+impl Iterator for Steps<'_> {
+    type Item = Result<Stepped, Refusal>;
+
+    fn next(&mut self) -> Option<Self::Item> {
+        if self.over {
+            return None;
+        }
+        self.number += 1;
+        let number = self.number;
+        match self.image.step(self.plan, number) {
+            Ok((image, step)) => step.map(|step| Ok(Stepped { number, step, image })),
+            Err(refusal) => {
+                self.over = true;
+                (refusal != Refusal::PastTheEnd).then_some(Err(refusal))
+            }
+        }
+    }
+}
+
+impl Image {
+    /// Begins a transaction.
+    pub fn begin(&self) -> Result<Image, Refusal> {
+        answer(|out| sys::begin(self.bytes(), out))
+    }
+
+    /// Records a Write of staged content to a key. The staging file is added with this content number.
+    pub fn write(&self, collection: &str, key: &str, staged: &str, number: u32) -> Result<Image, Refusal> {
+        answer(|out| sys::write(self.bytes(), collection.as_bytes(), key.as_bytes(), staged.as_bytes(), number, out))
+    }
+
+    /// Records a Delete. A file of that name in other letter cases is renamed to the lowered key at once.
+    pub fn delete(&self, collection: &str, key: &str) -> Result<Image, Refusal> {
+        answer(|out| sys::delete(self.bytes(), collection.as_bytes(), key.as_bytes(), out))
+    }
+
+    /// Records the deletion of all files of a collection.
+    pub fn delete_all(&self, collection: &str) -> Result<Image, Refusal> {
+        answer(|out| sys::delete_all(self.bytes(), collection.as_bytes(), out))
+    }
+
+    /// Records the creation of a collection.
+    pub fn create_collection(&self, name: &str) -> Result<Image, Refusal> {
+        answer(|out| sys::create_collection(self.bytes(), name.as_bytes(), out))
+    }
+
+    /// Records the deletion of a collection.
+    pub fn delete_collection(&self, name: &str) -> Result<Image, Refusal> {
+        answer(|out| sys::delete_collection(self.bytes(), name.as_bytes(), out))
+    }
+
+    /// Records the copy of a collection, which replaces its destination.
+    pub fn copy_collection(&self, source: &str, destination: &str) -> Result<Image, Refusal> {
+        answer(|out| sys::copy_collection(self.bytes(), source.as_bytes(), destination.as_bytes(), out))
+    }
+
+    /// Commits the transaction, whole.
+    pub fn commit(&self) -> Result<Image, CommitError> {
+        let (number, bytes) = lend(IMAGE_ROOM, |out| sys::commit(self.bytes(), out));
+        match refused(number) {
+            Ok(()) => Ok(Image::written(bytes)),
+            Err(refusal) => {
+                let rolled_back = matches!(refusal, Refusal::StepFailed | Refusal::StoreFull);
+                Err(CommitError { refusal, image: rolled_back.then(|| Image::written(bytes)) })
+            }
+        }
+    }
+
+    /// Discards the transaction.
+    pub fn rollback(&self) -> Result<Image, Refusal> {
+        answer(|out| sys::rollback(self.bytes(), out))
+    }
+
+    /// Whether an interrupted transaction left work for recovery.
+    pub fn has_pending_work(&self) -> Result<bool, Refusal> {
+        let mut pending = 0;
+        refused(sys::has_pending_work(self.bytes(), &mut pending)).map(|()| pending != 0)
+    }
+
+    /// Recovers what an interrupted transaction left, whole.
+    pub fn recover(&self) -> Result<Image, Refusal> {
+        answer(|out| sys::recover(self.bytes(), out))
+    }
+
+    /// The keys of a collection, lowered, in the order of the files' names; none if the collection is missing.
+    pub fn list_keys(&self, collection: &str) -> Result<Vec<String>, Refusal> {
+        let (number, bytes) = lend(KEYS_ROOM, |out| sys::list_keys(self.bytes(), collection.as_bytes(), out));
+        refused(number)?;
+        let mut fields = &bytes[..];
+        Ok(std::iter::from_fn(|| field::name(field::take(&mut fields)?.1)).collect())
+    }
+
+    /// The image after n steps of the commit, and step n (none for n = 0).
+    pub fn commit_step(&self, n: u64) -> Result<(Image, Option<Step>), Refusal> {
+        self.step(Plan::Commit, n)
+    }
+
+    /// The image after n steps of the recovery, and step n (none for n = 0).
+    pub fn recover_step(&self, n: u64) -> Result<(Image, Option<Step>), Refusal> {
+        self.step(Plan::Recover, n)
+    }
+
+    /// The commit's steps. Those of a failing commit end with its rollback; [`Image::commit`] tells.
+    pub fn commit_steps(&self) -> Steps<'_> {
+        self.steps(Plan::Commit)
+    }
+
+    /// The recovery's steps.
+    pub fn recover_steps(&self) -> Steps<'_> {
+        self.steps(Plan::Recover)
+    }
+
+    /// The steps of either plan.
+    pub fn steps(&self, plan: Plan) -> Steps<'_> {
+        Steps { image: self, plan, number: 0, over: false }
+    }
+
+    /// The image after n steps of either plan, and step n (none for n = 0).
+    pub fn step(&self, plan: Plan, n: u64) -> Result<(Image, Option<Step>), Refusal> {
+        let mut written = Vec::new();
+        let (number, field) = lend(STEP_ROOM, |step| {
+            let (number, image) = lend(IMAGE_ROOM, |out| match plan {
+                Plan::Commit => sys::commit_step(self.bytes(), n, out, step),
+                Plan::Recover => sys::recover_step(self.bytes(), n, out, step),
+            });
+            written = image;
+            number
+        });
+        refused(number)?;
+        let step = (n > 0).then(|| Step::from_field(&field).expect("the port writes step fields"));
+        Ok((Image::written(written), step))
+    }
+}
+
+/// Lends room for an answer: the number, and what was written.
+fn lend(room: usize, call: impl FnOnce(Output) -> u32) -> (u32, Vec<u8>) {
+    let (mut bytes, mut written) = (vec![0; room], 0);
+    let number = call(Output { bytes: &mut bytes, written: &mut written });
+    bytes.truncate(written);
+    (number, bytes)
+}
+
+/// An entry that answers with an image.
+fn answer(call: impl FnOnce(Output) -> u32) -> Result<Image, Refusal> {
+    let (number, bytes) = lend(IMAGE_ROOM, call);
+    refused(number).map(|()| Image::written(bytes))
+}
+
+/// A number as a result.
+fn refused(number: u32) -> Result<(), Refusal> {
+    match number {
+        0 => Ok(()),
+        _ => Err(Refusal::from_number(number).expect("the port gives numbers from 0 to 16")),
+    }
+}

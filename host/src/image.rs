@@ -1,0 +1,102 @@
+//! A store image: document 01, 'How a store is handed over'.
+use crate::{field, refusal::Refusal};
+use std::collections::BTreeMap;
+
+/// Files of a directory and their content numbers.
+pub type Files = BTreeMap<String, u32>;
+
+/// A store, as the bytes that the port takes and hands back. It comes from the port, or the port has accepted it.
+///
+/// An image that recovery or a failed commit handed back can be refused by the next call with
+/// [`Refusal::InvalidImage`]: a restore can yield the directory or file `..bak` or `...bak`.
+#[derive(Clone, PartialEq, Eq, Hash, Debug, Default)]
+pub struct Image(Vec<u8>);
+
+impl Image {
+    /// Takes bytes that the port accepts as an image, or refuses them with [`Refusal::InvalidImage`].
+    pub fn new(bytes: Vec<u8>) -> Result<Image, Refusal> {
+        let image = Image(bytes);
+        image.has_pending_work().map(|_| image)
+    }
+
+    /// What the port wrote.
+    pub(crate) fn written(bytes: Vec<u8>) -> Image {
+        Image(bytes)
+    }
+
+    /// The image's bytes.
+    pub fn bytes(&self) -> &[u8] {
+        &self.0
+    }
+
+    /// The store that the image holds.
+    pub fn contents(&self) -> Contents {
+        Contents::parse(&self.0).expect("an image has the layout that the port gave or accepted")
+    }
+}
+
+/// What an image holds.
+#[derive(Clone, PartialEq, Eq, Hash, Debug, Default)]
+pub struct Contents {
+    /// The collections, and the files of each.
+    pub directories: BTreeMap<String, Files>,
+    /// The staging files.
+    pub staging: Files,
+    /// The log, if there is one.
+    pub log: Option<Vec<u8>>,
+    /// Whether a transaction is open.
+    pub open: bool,
+}
+
+impl Contents {
+    /// The image of this store, if the port accepts it.
+    pub fn image(&self) -> Result<Image, Refusal> {
+        Image::new(self.encode())
+    }
+
+    fn encode(&self) -> Vec<u8> {
+        let mut out = Vec::new();
+        for (directory, files) in &self.directories {
+            field::put(&mut out, 0x10, &[directory.as_bytes()]);
+            put_files(&mut out, 0x11, files);
+        }
+        put_files(&mut out, 0x12, &self.staging);
+        if let Some(log) = &self.log {
+            field::put(&mut out, 0x13, &[log]);
+        }
+        if self.open {
+            field::put(&mut out, 0x14, &[]);
+        }
+        out
+    }
+
+    fn parse(mut bytes: &[u8]) -> Option<Contents> {
+        let mut contents = Contents::default();
+        while !bytes.is_empty() {
+            let (tag, value) = field::take(&mut bytes)?;
+            match tag {
+                0x10 => {
+                    contents.directories.insert(field::name(value)?, Files::new());
+                }
+                0x11 => take_file(contents.directories.last_entry()?.get_mut(), value)?,
+                0x12 => take_file(&mut contents.staging, value)?,
+                0x13 => contents.log = Some(value.to_vec()),
+                0x14 => contents.open = true,
+                _ => return None,
+            }
+        }
+        Some(contents)
+    }
+}
+
+fn put_files(out: &mut Vec<u8>, tag: u8, files: &Files) {
+    for (name, number) in files {
+        field::put(out, tag, &[&number.to_le_bytes(), name.as_bytes()]);
+    }
+}
+
+fn take_file(files: &mut Files, value: &[u8]) -> Option<()> {
+    let (number, name) = value.split_first_chunk()?;
+    files.insert(field::name(name)?, u32::from_le_bytes(*number));
+    Some(())
+}

@@ -1,0 +1,45 @@
+//! Writes the declarations and the header, and links the static library: the one that CDA_LIB names, else the one that `rt
+//! staticlib cda_storage` writes.
+mod list;
+
+use std::{
+    env, fs,
+    path::{Path, PathBuf},
+};
+
+const ENTRIES: &str = include_str!("entries.txt");
+const REFUSALS: &str = include_str!("refusals.txt");
+
+fn main() {
+    for file in ["build.rs", "list.rs", "entries.txt", "refusals.txt"] {
+        println!("cargo::rerun-if-changed={file}");
+    }
+    println!("cargo::rustc-check-cfg=cfg(linked)");
+    println!("cargo::rerun-if-env-changed=CDA_LIB");
+    let out = PathBuf::from(env::var("OUT_DIR").unwrap());
+    fs::write(out.join("entries.rs"), list::declarations(ENTRIES)).unwrap();
+    fs::write(out.join("refusals.rs"), list::refusals(REFUSALS)).unwrap();
+    fs::write(out.join("cda_storage.h"), list::header(ENTRIES, REFUSALS)).unwrap();
+    let named = env::var_os("CDA_LIB").map(PathBuf::from);
+    let beside = Path::new(&env::var("CARGO_MANIFEST_DIR").unwrap()).join("../../target/staticlib/libcda_storage.a");
+    let library = named.unwrap_or(beside);
+    println!("cargo::rerun-if-changed={}", library.display());
+    match library.canonicalize() {
+        Ok(library) => link(&library),
+        Err(error) if env::var_os("CARGO_FEATURE_REQUIRED").is_some() || env::var_os("CDA_LIB").is_some() => {
+            println!(
+                "cargo::error={}: {error}. `rt staticlib cda_storage` makes the static library; CDA_LIB names another.",
+                library.display()
+            );
+        }
+        Err(_) => {}
+    }
+}
+
+fn link(library: &Path) {
+    println!("cargo::rustc-cfg=linked");
+    println!("cargo::metadata=library={}", library.display());
+    println!("cargo::rustc-env=CDA_STORAGE_LIBRARY={}", library.display());
+    println!("cargo::rustc-link-search=native={}", library.parent().unwrap().display());
+    println!("cargo::rustc-link-lib=static=cda_storage");
+}

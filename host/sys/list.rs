@@ -1,0 +1,115 @@
+//! The two lists, read, and what is made of them: the declarations in Rust and the header in C.
+
+/// A parameter: how C and Rust declare it, and how the safe function takes it and hands it on. `#` stands for its name.
+struct Kind {
+    c: &'static str,
+    raw: &'static str,
+    safe: &'static str,
+    given: &'static str,
+}
+
+const SLICE: Kind =
+    Kind { c: "const uint8_t *#, size_t #_len", raw: "#: *const u8, #_len: usize", safe: "#: &[u8]", given: "#.as_ptr(), #.len()" };
+const OUTPUT: Kind = Kind {
+    c: "uint8_t *#, size_t #_len, size_t *#_written",
+    raw: "#: *mut u8, #_len: usize, #_written: *mut usize",
+    safe: "#: Output",
+    given: "#.bytes.as_mut_ptr(), #.bytes.len(), #.written",
+};
+const U32: Kind = Kind { c: "uint32_t #", raw: "#: u32", safe: "#: u32", given: "#" };
+const U64: Kind = Kind { c: "uint64_t #", raw: "#: u64", safe: "#: u64", given: "#" };
+const FLAG: Kind = Kind { c: "uint32_t *#", raw: "#: *mut u32", safe: "#: &mut u32", given: "#" };
+
+fn kind(word: &str) -> Kind {
+    match word {
+        "slice" => SLICE,
+        "output" => OUTPUT,
+        "u32" => U32,
+        "u64" => U64,
+        "flag" => FLAG,
+        _ => panic!("{word} is no kind of parameter"),
+    }
+}
+
+/// The lines of a list, parted at the bars.
+fn rows(list: &str) -> impl Iterator<Item = [&str; 3]> {
+    let lines = list.lines().filter(|line| !line.starts_with('#'));
+    lines.map(|line| line.splitn(3, '|').map(str::trim).collect::<Vec<_>>().try_into().expect("three parts"))
+}
+
+/// A function's parameters, each in the form that is asked for.
+fn parameters(list: &str, form: impl Fn(&Kind) -> &'static str) -> Vec<String> {
+    let each = list.split(',').map(|parameter| {
+        let (word, name) = parameter.trim().split_once(' ').expect("a kind and a name");
+        form(&kind(word)).replace('#', name)
+    });
+    each.collect()
+}
+
+/// The declarations, and a safe function over each.
+pub fn declarations(entries: &str) -> String {
+    let (mut raw, mut safe) = (String::new(), String::new());
+    for [name, list, what] in rows(entries) {
+        raw += &format!("    fn cda_storage_{name}({}) -> u32;\n", parameters(list, |k| k.raw).join(", "));
+        safe += &format!("/// {what}\npub fn {name}({}) -> u32 {{\n", parameters(list, |k| k.safe).join(", "));
+        safe += &format!("    unsafe {{ cda_storage_{name}({}) }}\n}}\n", parameters(list, |k| k.given).join(", "));
+    }
+    format!("unsafe extern \"C\" {{\n{raw}}}\n{safe}")
+}
+
+/// The refusals as a constant.
+pub fn refusals(list: &str) -> String {
+    let each = rows(list).map(|[number, name, what]| format!("    ({number}, {name:?}, {what:?}),\n"));
+    format!(
+        "/// The sixteen refusals: number, name, sentence.\npub const REFUSALS: [(u32, &str, &str); 16] = [\n{}];\n",
+        each.collect::<String>()
+    )
+}
+
+const TOP: &str = "/* Made from host/sys/entries.txt and refusals.txt by `cargo run -p cda-storage-sys --example header`. */
+#ifndef CDA_STORAGE_H
+#define CDA_STORAGE_H
+
+#include <stddef.h>
+#include <stdint.h>
+
+#ifdef __cplusplus
+extern \"C\" {
+#endif
+
+/* Least lengths of the lent outputs: an image, a key list, a step field. */
+#define CDA_STORAGE_IMAGE_ROOM 19262
+#define CDA_STORAGE_KEYS_ROOM 8576
+#define CDA_STORAGE_STEP_ROOM 197
+
+/* What the functions return: 0, or a refusal, which leaves outputs and counters as they were (but for 14 and 15 of a commit). */
+enum cda_storage_number {
+    CDA_STORAGE_DONE = 0,
+";
+
+/// The header for C and C++.
+pub fn header(entries: &str, refusals: &str) -> String {
+    let mut text = TOP.to_string();
+    for [number, name, what] in rows(refusals) {
+        let comma = if number == "16" { "" } else { "," };
+        text += &format!("    /* {what} */\n    CDA_STORAGE_{} = {number}{comma}\n", screaming(name));
+    }
+    text += "};\n";
+    for [name, list, what] in rows(entries) {
+        let parameters = parameters(list, |k| k.c).join(",\n    ");
+        text += &format!("\n/* {what} */\nuint32_t cda_storage_{name}(\n    {parameters});\n");
+    }
+    text + "\n#ifdef __cplusplus\n}\n#endif\n\n#endif\n"
+}
+
+/// StepFailed as STEP_FAILED.
+fn screaming(name: &str) -> String {
+    let mut text = String::new();
+    for (at, letter) in name.char_indices() {
+        if at > 0 && letter.is_uppercase() {
+            text.push('_');
+        }
+        text.push(letter.to_ascii_uppercase());
+    }
+    text
+}

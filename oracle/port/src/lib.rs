@@ -1,5 +1,4 @@
-//! The port behind the fourteen entries: the functions that the static library exports. A lent slice is a pointer and a
-//! length, a lent counter a pointer.
+//! The port behind the fourteen entries: the functions that the static library exports (host/sys).
 #[cfg(linked)]
 mod linked;
 

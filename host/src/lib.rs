@@ -1,17 +1,19 @@
 //! The collection store of a depot diagnostic box: the proved port, and a store on real directories over it.
 //!
 //! The port takes a store image, as bytes, and hands back a number, an image, and the file steps to carry out. [`Image`] has
-//! its fourteen entries as methods.
+//! its fourteen entries as methods; [`FileStore`] keeps a store on a directory and carries out the steps.
 #![forbid(unsafe_code)]
 #![warn(missing_docs)]
 
 mod entries;
 mod field;
+mod file_store;
 mod image;
 mod refusal;
 mod step;
 
 pub use entries::{CommitError, Plan, Stepped, Steps};
+pub use file_store::{Event, FileStore, StoreError, Transaction, scan};
 pub use image::{Contents, Files, Image};
 pub use refusal::Refusal;
 pub use step::Step;

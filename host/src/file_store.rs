@@ -17,6 +17,7 @@ use crate::{
 use layout::Layout;
 use std::{
     cell::{Cell, RefCell},
+    ffi::OsStr,
     fmt,
     fs::{self, File, TryLockError},
     path::{Path, PathBuf},
@@ -136,7 +137,8 @@ impl FileStore {
         let directories = self.image()?.contents().directories;
         let files = directories.get(collection).ok_or(Refusal::CollectionNotFound)?;
         let key = key.to_ascii_lowercase();
-        let listed = |name: &&String| !name.ends_with(".bak") && !name.ends_with(".tmp") && name.eq_ignore_ascii_case(&key);
+        let is_key = |name: &str| !matches!(Path::new(name).extension().and_then(OsStr::to_str), Some("bak" | "tmp"));
+        let listed = |name: &&String| is_key(name) && name.eq_ignore_ascii_case(&key);
         let name = files.keys().find(|name| **name == key).or_else(|| files.keys().find(listed)).ok_or(Refusal::KeyNotFound)?;
         let path = self.layout.file(collection, name);
         File::open(&path).map_err(StoreError::at(&path))

@@ -73,7 +73,8 @@ impl<'a> Transaction<'a> {
         self.record(|image| image.delete_all(collection))
     }
 
-    /// Applies what was recorded. On [`Refusal::StepFailed`] and [`Refusal::StoreFull`] the transaction was rolled back.
+    /// Applies what was recorded. On [`Refusal::StepFailed`] and [`Refusal::StoreFull`] the transaction was rolled back. Where
+    /// a file call failed behind the step that removes the log, the commit stands, and the next open only clears up.
     pub fn commit(mut self) -> Result<(), StoreError> {
         self.store.running()?;
         self.ended = true;

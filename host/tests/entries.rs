@@ -1,0 +1,170 @@
+//! The entries on images, every refusal, and every step in words.
+use cda_storage_sys::{self as sys, Output};
+use cda_store::{Contents, Files, Image, Refusal, Step};
+use std::collections::BTreeMap;
+
+fn store(files: &[(&str, &[(&str, u32)])]) -> Contents {
+    let files_of = |files: &[(&str, u32)]| files.iter().map(|(name, number)| (name.to_string(), *number)).collect::<Files>();
+    let directories = files.iter().map(|(directory, files)| (directory.to_string(), files_of(files))).collect();
+    Contents { directories, ..Contents::default() }
+}
+
+fn begun(files: &[(&str, &[(&str, u32)])]) -> Image {
+    store(files).image().unwrap().begin().unwrap()
+}
+
+/// db/a=7 and a Write of 9 to a, staged as s.tmp: document 01's ten-step case.
+fn ten_steps() -> Image {
+    begun(&[("db", &[("a", 7)])]).write("db", "a", "s.tmp", 9).unwrap()
+}
+
+/// An image whose log is another.
+fn with_log(image: &Image, log: impl FnOnce(&mut Vec<u8>)) -> Image {
+    let mut contents = image.contents();
+    log(contents.log.as_mut().unwrap());
+    contents.image().unwrap()
+}
+
+fn crc32(bytes: &[u8]) -> u32 {
+    !bytes.iter().fold(!0, |crc, byte| {
+        (0..8).fold(crc ^ u32::from(*byte), |crc: u32, _| if crc & 1 == 1 { crc >> 1 ^ 0xEDB8_8320 } else { crc >> 1 })
+    })
+}
+
+#[test]
+fn an_image_is_document_01s_bytes() {
+    let image = store(&[("db", &[("a", 7)])]).image().unwrap();
+    assert_eq!(image.bytes(), b"\x10\x02\0db\x11\x05\0\x07\0\0\0a");
+    assert_eq!(image.contents(), store(&[("db", &[("a", 7)])]));
+    assert_eq!(Image::default().contents(), Contents::default());
+    let open = ten_steps().contents();
+    assert!(open.open && open.staging == Files::from([("s.tmp".into(), 9)]));
+    assert_eq!(open.image().unwrap(), ten_steps());
+}
+
+#[test]
+fn the_ten_step_case() {
+    let image = ten_steps();
+    let words: Vec<String> = image.commit_steps().map(|stepped| stepped.unwrap().step.to_string()).collect();
+    let told = [
+        "mark the log Committing",
+        "sync the staging files",
+        "sync the log",
+        "rename db/a to db/a.bak",
+        "move staged s.tmp to db/a",
+        "sync directory db",
+        "sync the collections",
+        "remove the log",
+        "sync the journal",
+        "remove db/a.bak",
+    ];
+    assert_eq!(words, told);
+    assert_eq!(image.commit().unwrap().contents(), store(&[("db", &[("a", 9)])]));
+    assert_eq!(image.commit_step(0).unwrap(), (image.clone(), None));
+    for n in 0..=10 {
+        let cut = image.commit_step(n).unwrap().0;
+        let left: &[(&str, u32)] = match n {
+            1..=3 => &[],
+            0 | 4..=7 => &[("a", 7)],
+            _ => &[("a", 9)],
+        };
+        let recovered = cut.recover().unwrap();
+        assert_eq!(recovered.contents(), store(&[("db", left)]), "cut after {n}");
+        assert_eq!(cut.recover_steps().last().map_or(cut.clone(), |stepped| stepped.unwrap().image), recovered, "cut after {n}");
+        assert!(!recovered.has_pending_work().unwrap());
+    }
+}
+
+#[test]
+fn every_step_in_words() {
+    let field = |tag: u8, value: &[u8]| [&[tag, value.len() as u8, 0], value].concat();
+    let told: [(u8, &[u8], &str); 15] = [
+        (0x20, b"", "mark the log Committing"),
+        (0x21, b"", "sync the staging files"),
+        (0x22, b"", "sync the log"),
+        (0x23, b"c", "make directory c"),
+        (0x24, b"c\0a\0b", "rename c/a to c/b"),
+        (0x25, b"s\0c\0a", "move staged s to c/a"),
+        (0x26, b"c\0d", "rename directory c to d"),
+        (0x27, b"c\0d\0a", "copy c/a to d/a"),
+        (0x28, b"c\0a", "remove c/a"),
+        (0x29, b"c", "remove directory c"),
+        (0x2B, b"", "remove the log"),
+        (0x2C, b"s", "remove staged s"),
+        (0x2D, b"c", "sync directory c"),
+        (0x2D, b"", "sync the collections"),
+        (0x2E, b"", "sync the journal"),
+    ];
+    for (tag, value, words) in told {
+        assert_eq!(Step::from_field(&field(tag, value)).unwrap().to_string(), words);
+    }
+    for (tag, value) in [(0x2A, &b""[..]), (0x23, b""), (0x24, b"c\0a"), (0x22, b"c"), (0x28, b"c\0a\0b")] {
+        assert_eq!(Step::from_field(&field(tag, value)), None);
+    }
+}
+
+#[test]
+fn refusals_have_numbers_names_and_sentences() {
+    for (number, refusal) in (1..).zip(Refusal::ALL) {
+        assert_eq!((refusal.number(), refusal.name()), (number, format!("{refusal:?}").as_str()));
+        assert_eq!(Refusal::from_number(number), Some(refusal));
+    }
+    assert_eq!((Refusal::from_number(0), Refusal::from_number(17)), (None, None));
+    assert_eq!(Refusal::TransactionBusy.to_string(), "refusal 3 (TransactionBusy): a transaction is open already");
+}
+
+#[test]
+fn recording_is_refused() {
+    let open = begun(&[("db", &[("a", 7)])]);
+    assert_eq!(Image::new(vec![0xFF]), Err(Refusal::InvalidImage));
+    assert_eq!(open.begin(), Err(Refusal::TransactionBusy));
+    assert_eq!(Image::default().delete_all("db"), Err(Refusal::NoTransaction));
+    assert_eq!(Image::default().rollback(), Err(Refusal::NoTransaction));
+    let full = (0..32).fold(open.clone(), |image, _| image.delete_all("db").unwrap());
+    assert_eq!(full.delete_all("db"), Err(Refusal::TooManyOperations));
+    assert_eq!(open.create_collection("a/b"), Err(Refusal::InvalidName));
+    assert_eq!(open.list_keys("a b"), Err(Refusal::InvalidName));
+    assert_eq!(open.delete_collection("no"), Err(Refusal::CollectionNotFound));
+    assert_eq!(open.copy_collection("no", "db"), Err(Refusal::CollectionNotFound));
+    assert_eq!(open.delete("db", "no"), Err(Refusal::KeyNotFound));
+    assert_eq!(open.create_collection("db"), Err(Refusal::CollectionExists));
+    assert_eq!(open.write("db", "a", "s.tmp", 0), Err(Refusal::StagingRefused));
+    assert_eq!(ten_steps().write("db", "b", "s.tmp", 1), Err(Refusal::StagingRefused));
+    let (mut room, mut written) = ([0; sys::IMAGE_ROOM - 1], 0);
+    assert_eq!(sys::begin(b"", Output { bytes: &mut room, written: &mut written }), Refusal::OutputTooShort.number());
+}
+
+#[test]
+fn recovery_is_refused() {
+    let committing = ten_steps().commit_step(1).unwrap().0;
+    let undecodable = with_log(&committing, |log| log.extend([&crc32(b"?").to_le_bytes()[..], &[1, 0, 0, 0], b"?"].concat()));
+    assert_eq!(undecodable.recover(), Err(Refusal::UndecodablePayload));
+    assert_eq!(undecodable.recover_steps().collect::<Vec<_>>(), [Err(Refusal::UndecodablePayload)]);
+    let full = (0..32).fold(begun(&[]), |image, _| image.delete_all("db").unwrap()).commit_step(1).unwrap().0;
+    assert_eq!(with_log(&full, |log| log.push(0)).recover(), Err(Refusal::LogTooLong));
+    assert_eq!(with_log(&committing, |log| log.push(0)).recover(), Err(Refusal::Corruption));
+}
+
+#[test]
+fn a_failing_commit_hands_back_the_rolled_back_image() {
+    let mut missing = ten_steps().contents();
+    missing.staging.clear();
+    let error = missing.image().unwrap().commit().unwrap_err();
+    assert_eq!((error.refusal, error.image.unwrap().contents()), (Refusal::StepFailed, store(&[("db", &[("a", 7)])])));
+
+    let files: BTreeMap<String, u32> = (0..128).map(|i| (format!("f{i}"), 1)).collect();
+    let full = Contents { directories: BTreeMap::from([("db".to_string(), files)]), ..Contents::default() };
+    let error = full.image().unwrap().begin().unwrap().write("db", "x", "s", 2).unwrap().commit().unwrap_err();
+    assert_eq!((error.refusal, error.image.unwrap().contents()), (Refusal::StoreFull, full));
+
+    let error = Image::default().commit().unwrap_err();
+    assert_eq!((error.refusal, error.image), (Refusal::NoTransaction, None));
+    assert_eq!(ten_steps().commit_step(11), Err(Refusal::PastTheEnd));
+}
+
+#[test]
+fn keys_are_listed_lowered() {
+    let image = store(&[("db", &[("A", 1), ("a", 2), ("b.bak", 3), ("c.tmp", 4)])]).image().unwrap();
+    assert_eq!(image.list_keys("db").unwrap(), ["a", "a"]);
+    assert_eq!(image.list_keys("none").unwrap(), [""; 0]);
+}

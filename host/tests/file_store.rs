@@ -1,0 +1,310 @@
+//! A store on a real directory: what the calls do, what is refused, and what a failed file call leaves.
+mod common;
+
+use cda_store::{Event, FileStore, Refusal, Step, StoreError, Transaction, scan};
+use common::Folder;
+use std::{
+    fs,
+    io::{self, Read},
+    os::unix::fs::symlink,
+    path::Path,
+};
+
+fn refusal(result: Result<(), StoreError>) -> Refusal {
+    match result {
+        Err(StoreError::Refused(refusal)) => refusal,
+        other => panic!("{other:?}"),
+    }
+}
+
+/// What a transaction makes of these files.
+fn committed(files: &[&str], record: impl FnOnce(&mut Transaction)) -> Vec<String> {
+    let folder = Folder::with(files);
+    let store = FileStore::open(&folder.0).unwrap();
+    let mut transaction = store.begin().unwrap();
+    record(&mut transaction);
+    transaction.commit().unwrap();
+    assert!(!store.image().unwrap().has_pending_work().unwrap());
+    folder.files()
+}
+
+#[test]
+fn open_creates_nothing() {
+    let folder = Folder::new();
+    let store = FileStore::open(&folder.0).unwrap();
+    assert_eq!(store.collections().unwrap(), [""; 0]);
+    assert_eq!(store.list("db").unwrap(), [""; 0]);
+    assert!(folder.everything().is_empty());
+    store.begin().unwrap();
+    assert_eq!(folder.everything().len(), 3);
+}
+
+#[test]
+fn a_missing_root_is_an_error() {
+    let folder = Folder::new();
+    let missing = folder.0.join("none");
+    match FileStore::open(&missing) {
+        Err(StoreError::Io { path, step: None, source }) => assert_eq!((path, source.kind()), (missing.clone(), io::ErrorKind::NotFound)),
+        other => panic!("{other:?}"),
+    }
+    let store = FileStore::open(&folder.0).unwrap();
+    fs::remove_dir_all(&folder.0).unwrap();
+    assert!(matches!(store.begin(), Err(StoreError::Io { .. })));
+    assert!(!folder.0.exists());
+}
+
+#[test]
+fn one_store_at_a_time() {
+    let folder = Folder::new();
+    let store = FileStore::open(&folder.0).unwrap();
+    assert!(matches!(FileStore::open(&folder.0), Err(StoreError::Locked { path }) if path == folder.0));
+    drop(store);
+    FileStore::open(&folder.0).unwrap();
+}
+
+#[test]
+fn writes_are_seen_when_committed() {
+    let folder = Folder::with(&["db/a=old"]);
+    let store = FileStore::open(&folder.0).unwrap();
+    let mut transaction = store.begin().unwrap();
+    transaction.write("db", "A", &b"new"[..]).unwrap();
+    transaction.write("db", "b", &b""[..]).unwrap();
+    transaction.write("fonts", "f", &[7; 100_000][..]).unwrap();
+    assert_eq!(folder.files(), ["db/", "db/a=old"]);
+    assert_eq!(store.list("db").unwrap(), ["a"]);
+    assert_eq!(transaction.image().contents().staging.len(), 3);
+    transaction.commit().unwrap();
+    assert_eq!(store.collections().unwrap(), ["db", "fonts"]);
+    assert_eq!(store.list("db").unwrap(), ["a", "b"]);
+    let mut content = Vec::new();
+    store.read("fonts", "F").unwrap().read_to_end(&mut content).unwrap();
+    assert_eq!(content, [7; 100_000]);
+    assert!(!folder.0.join("journal/transaction.wal").exists());
+    assert!(common::contents(&folder.0.join("journal/staging")).is_empty());
+}
+
+#[test]
+fn operations() {
+    assert_eq!(committed(&["db/a=1", "db/b=2"], |t| t.delete("db", "a").unwrap()), ["db/", "db/b=2"]);
+    assert_eq!(committed(&["db/a=1", "db/b=2"], |t| t.delete_all("db").unwrap()), ["db/"]);
+    assert_eq!(committed(&["db/a=1"], |t| t.create_collection("new").unwrap()), ["db/", "db/a=1", "new/"]);
+    assert_eq!(committed(&["db/a=1", "c/"], |t| t.delete_collection("db").unwrap()), ["c/"]);
+    let copied = ["c/", "c/a=1", "c/b=2", "db/", "db/a=1", "db/b=2"];
+    assert_eq!(committed(&["db/a=1", "db/b=2", "c/x=3"], |t| t.copy_collection("db", "c").unwrap()), copied);
+    assert_eq!(committed(&["db/a=1"], |t| t.copy_collection("db", "db").unwrap()), ["db/"]);
+}
+
+#[test]
+fn a_rollback_and_a_drop_leave_the_files() {
+    let folder = Folder::with(&["db/a=1", "db/K=2"]);
+    let store = FileStore::open(&folder.0).unwrap();
+    for by_drop in [true, false] {
+        let mut transaction = store.begin().unwrap();
+        transaction.write("db", "a", &b"9"[..]).unwrap();
+        transaction.delete("db", "k").unwrap();
+        if by_drop {
+            drop(transaction)
+        } else {
+            transaction.rollback().unwrap()
+        }
+        assert_eq!(folder.files(), ["db/", "db/a=1", "db/k=2"], "the case rename stays");
+        assert!(!store.image().unwrap().has_pending_work().unwrap());
+    }
+}
+
+#[test]
+fn a_key_is_found_in_other_letter_cases() {
+    let folder = Folder::with(&["db/K.odx=2", "db/x.BAK=1"]);
+    let store = FileStore::open(&folder.0).unwrap();
+    let mut text = String::new();
+    store.read("db", "k.ODX").unwrap().read_to_string(&mut text).unwrap();
+    assert_eq!(text, "2");
+    assert_eq!(refusal(store.read("db", "no").map(|_| ())), Refusal::KeyNotFound);
+    assert_eq!(refusal(store.read("no", "k").map(|_| ())), Refusal::CollectionNotFound);
+    let mut transaction = store.begin().unwrap();
+    transaction.delete("db", "K.ODX").unwrap();
+    transaction.commit().unwrap();
+    assert_eq!(folder.files(), ["db/", "db/x.BAK=1"]);
+}
+
+#[test]
+fn refused_calls_record_nothing() {
+    let folder = Folder::with(&["db/a=1"]);
+    let store = FileStore::open(&folder.0).unwrap();
+    let mut transaction = store.begin().unwrap();
+    let before = folder.everything();
+    assert_eq!(refusal(store.begin().map(|_| ())), Refusal::TransactionBusy);
+    assert_eq!(refusal(transaction.write("db", "a/b", &b""[..])), Refusal::InvalidName);
+    assert_eq!(refusal(transaction.delete_collection("no")), Refusal::CollectionNotFound);
+    assert_eq!(refusal(transaction.delete("db", "no")), Refusal::KeyNotFound);
+    assert_eq!(refusal(transaction.create_collection("db")), Refusal::CollectionExists);
+    assert_eq!(folder.everything(), before);
+    (0..32).for_each(|i| transaction.write("db", &format!("k{i}"), &b"x"[..]).unwrap());
+    assert_eq!(refusal(transaction.delete_all("db")), Refusal::TooManyOperations);
+    transaction.commit().unwrap();
+    assert_eq!(folder.files().len(), 34);
+}
+
+#[test]
+fn a_commit_that_fails_is_rolled_back() {
+    let folder = Folder::with(&["c/a=1", "d/b=2"]);
+    let store = FileStore::open(&folder.0).unwrap();
+    let mut transaction = store.begin().unwrap();
+    transaction.delete_collection("c").unwrap();
+    transaction.copy_collection("c", "d").unwrap();
+    assert_eq!(refusal(transaction.commit()), Refusal::StepFailed);
+    assert_eq!(folder.files(), ["c/", "c/a=1", "d/", "d/b=2"]);
+    let files: Vec<String> = (0..126).map(|i| format!("c/f{i}=x")).collect();
+    let full = Folder::with(&[&files.iter().map(String::as_str).collect::<Vec<_>>()[..], &["c/a=1", "d/b=2"]].concat());
+    let store = FileStore::open(&full.0).unwrap();
+    let mut transaction = store.begin().unwrap();
+    transaction.write("d", "new", &b"3"[..]).unwrap();
+    assert_eq!(refusal(transaction.commit()), Refusal::StoreFull);
+    assert_eq!(full.files().len(), 130);
+    store.begin().unwrap().commit().unwrap();
+}
+
+#[test]
+fn content_that_cannot_be_read_is_not_recorded() {
+    struct Broken;
+    impl Read for Broken {
+        fn read(&mut self, _: &mut [u8]) -> io::Result<usize> {
+            Err(io::Error::other("broken"))
+        }
+    }
+    let folder = Folder::with(&["db/"]);
+    let store = FileStore::open(&folder.0).unwrap();
+    let mut transaction = store.begin().unwrap();
+    let error = transaction.write("db", "a", (&b"part"[..]).chain(Broken)).unwrap_err();
+    assert!(error.to_string().ends_with("1.tmp: broken"), "{error}");
+    assert!(common::contents(&folder.0.join("journal/staging")).is_empty());
+    transaction.write("db", "b", &b"whole"[..]).unwrap();
+    transaction.commit().unwrap();
+    assert_eq!(folder.files(), ["db/", "db/b=whole"]);
+}
+
+/// Opening is refused for what stands at this path, and nothing is changed.
+fn foreign(folder: &Folder, path: &str) {
+    let before = folder.everything();
+    match FileStore::open(&folder.0) {
+        Err(StoreError::Foreign { path: named, why }) => assert_eq!(named, folder.0.join(path), "{why}"),
+        other => panic!("{path}: {other:?}"),
+    }
+    assert_eq!(folder.everything(), before);
+}
+
+/// A store with work for recovery and one thing more.
+fn store_and(make: impl FnOnce(&Path)) -> Folder {
+    let folder = Folder::with(&["db/a=1", "db/b.bak=2"]);
+    fs::create_dir_all(folder.0.join("journal/staging")).unwrap();
+    fs::write(folder.0.join("journal/staging/s.tmp"), "3").unwrap();
+    make(&folder.0);
+    folder
+}
+
+#[test]
+fn foreign_content_is_named_and_left() {
+    for path in
+        ["collections/db/sub", "journal/staging/sub", "journal/other", "journal/transaction.wal", "collections/a b", "collections/..bak"]
+    {
+        foreign(&store_and(|root| fs::create_dir(root.join(path)).unwrap()), path);
+    }
+    let long = format!("collections/db/{}", "x".repeat(65));
+    for path in ["collections/file", "collections/db/a b", "collections/db/\u{e9}", "collections/db/...bak", "journal/staging/a\\b", &long]
+    {
+        foreign(&store_and(|root| fs::write(root.join(path), "").unwrap()), path);
+    }
+    foreign(&store_and(|root| symlink("a", root.join("collections/db/link")).unwrap()), "collections/db/link");
+    let other =
+        |root: &Path| fs::rename(root.join("collections"), root.join("other")).and_then(|()| fs::write(root.join("collections"), ""));
+    foreign(&store_and(|root| other(root).unwrap()), "collections");
+}
+
+#[test]
+fn what_is_over_a_limit_is_named_and_left() {
+    let fill = |root: &Path, folder: &str, count: usize| {
+        (0..count).for_each(|i| fs::write(root.join(folder).join(format!("f{i:03}")), "").unwrap());
+    };
+    foreign(&store_and(|root| fill(root, "collections/db", 127)), "collections/db/f126");
+    foreign(&store_and(|root| fill(root, "journal/staging", 32)), "journal/staging/s.tmp");
+    let directories = |root: &Path| (0..16).for_each(|i| fs::create_dir(root.join(format!("collections/e{i:02}"))).unwrap());
+    foreign(&store_and(directories), "collections/e15");
+    foreign(&store_and(|root| fs::write(root.join("journal/transaction.wal"), [0; 6825]).unwrap()), "journal/transaction.wal");
+}
+
+#[test]
+fn other_entries_of_the_root_are_left_alone() {
+    let folder = store_and(|root| fs::create_dir(root.join("lost+found")).unwrap());
+    FileStore::open(&folder.0).unwrap();
+    assert!(folder.0.join("lost+found").is_dir());
+    assert_eq!(folder.files(), ["db/", "db/a=1"]);
+}
+
+/// A commit of a Write to db/a that meets a failing call at this step; `disturb` provokes it before the step.
+fn fails_at(number: u64, disturb: impl Fn(&Path) + 'static) -> (Folder, StoreError) {
+    let folder = Folder::with(&["db/a=old"]);
+    let root = folder.0.clone();
+    let observer = move |event: &Event| {
+        if !event.done && event.number == number {
+            disturb(&root);
+        }
+    };
+    let store = FileStore::open_observed(&folder.0, observer).unwrap();
+    let mut transaction = store.begin().unwrap();
+    transaction.write("db", "a", &b"new"[..]).unwrap();
+    let error = transaction.commit().unwrap_err();
+    assert!(matches!(store.begin(), Err(StoreError::Stopped)) && matches!(store.list("db"), Err(StoreError::Stopped)));
+    drop(store);
+    (folder, error)
+}
+
+#[test]
+fn a_failed_call_stops_and_the_next_open_recovers() {
+    // A directory in the way of the rename to a.bak; it is taken away again before the store is opened.
+    let (folder, error) = fails_at(4, |root| fs::create_dir(root.join("collections/db/a.bak")).unwrap());
+    let step = Step::RenameFile { directory: "db".into(), from: "a".into(), to: "a.bak".into() };
+    assert!(matches!(&error, StoreError::Io { step: Some(at), path, .. } if *at == step && path.ends_with("db/a")), "{error}");
+    assert!(error.to_string().ends_with("(step: rename db/a to db/a.bak)"), "{error}");
+    assert!(matches!(FileStore::open(&folder.0), Err(StoreError::Foreign { .. })));
+    fs::remove_dir(folder.0.join("collections/db/a.bak")).unwrap();
+    FileStore::open(&folder.0).unwrap();
+    assert_eq!(folder.files(), ["db/"], "a key that waits for its backup is lost, as in the original (docs/FINDINGS.md, 2)");
+
+    // The staged content is gone; the backup stands and is restored.
+    let (folder, error) = fails_at(5, |root| fs::remove_dir_all(root.join("journal/staging")).unwrap());
+    assert!(matches!(error, StoreError::Io { step: Some(Step::MoveStaged { .. }), .. }));
+    FileStore::open(&folder.0).unwrap();
+    assert_eq!(folder.files(), ["db/", "db/a=old"]);
+
+    // The last step fails: the commit stands.
+    let (folder, error) = fails_at(10, |root| fs::remove_file(root.join("collections/db/a.bak")).unwrap());
+    assert!(matches!(error, StoreError::Io { step: Some(Step::RemoveFile { .. }), .. }));
+    FileStore::open(&folder.0).unwrap();
+    assert_eq!(folder.files(), ["db/", "db/a=new"]);
+}
+
+#[test]
+fn a_lost_log_stops_the_recording() {
+    let folder = Folder::with(&["db/a=1"]);
+    let store = FileStore::open(&folder.0).unwrap();
+    let mut transaction = store.begin().unwrap();
+    fs::remove_file(folder.0.join("journal/transaction.wal")).unwrap();
+    assert!(matches!(transaction.delete_all("db"), Err(StoreError::Io { step: None, .. })));
+    assert!(matches!(transaction.delete_all("db"), Err(StoreError::Stopped)));
+    assert!(matches!(transaction.commit(), Err(StoreError::Stopped)));
+    drop(store);
+    FileStore::open(&folder.0).unwrap();
+    assert_eq!(folder.files(), ["db/", "db/a=1"]);
+}
+
+#[test]
+fn a_refused_recovery_changes_nothing() {
+    let folder = Folder::with(&["db/a=1"]);
+    fs::create_dir(folder.0.join("journal")).unwrap();
+    let committing = scan(&folder.0).unwrap().begin().unwrap().write("db", "a", "s", 9).unwrap().commit_step(1).unwrap().0;
+    let log = [&committing.contents().log.unwrap()[..], b"?"].concat();
+    fs::write(folder.0.join("journal/transaction.wal"), log).unwrap();
+    let before = folder.everything();
+    assert_eq!(refusal(FileStore::open(&folder.0).map(|_| ())), Refusal::Corruption);
+    assert_eq!(folder.everything(), before);
+}

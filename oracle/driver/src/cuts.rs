@@ -1,29 +1,17 @@
 //! Real cuts: the original is stopped by its process's exit after each step, its disk is read back and held to the step
 //! entry's image, and both sides recover from there.
+use crate::child;
 use crate::generate::{self, Rng};
 use crate::panel::Panel;
 use crate::text;
 use original::{Cut, Original};
 use plain::{Image, Plain};
-use std::ffi::c_int;
 use std::time::Instant;
 use store::{Answer, Call, Lent, Plan, Store, ask};
 
-unsafe extern "C" {
-    fn fork() -> c_int;
-    fn waitpid(child: c_int, status: *mut c_int, options: c_int) -> c_int;
-    fn _exit(code: c_int) -> !;
-}
-
 /// Runs the original in a process of its own, which ends after n steps, and reads its disk.
 fn disk_after_exit(original: &Original, plan: Plan, image: &Image, n: usize) -> Image {
-    let child = unsafe { fork() };
-    if child == 0 {
-        original.run(plan, image, Cut::Exit(n));
-        unsafe { _exit(3) }
-    }
-    let mut status = 0;
-    assert!(child > 0 && unsafe { waitpid(child, &mut status, 0) } == child, "a process for the original");
+    let status = child::run(|| drop(original.run(plan, image, Cut::Exit(n))));
     // With nothing to do there is no step to end after.
     assert!(status == 0 || n == 0, "the original did not come to step {n}: status {status}");
     original.root.get()

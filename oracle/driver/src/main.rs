@@ -1,9 +1,12 @@
 //! Compares the port, the original and the plain reading of document 01.
 mod boundary;
+mod child;
 mod corners;
 mod cuts;
 mod damaged;
 mod generate;
+#[cfg(feature = "host")]
+mod host;
 mod panel;
 mod random;
 mod shrink;
@@ -22,6 +25,7 @@ diff small narrow|wide [N REST]  every small case, or each whose number divided 
 diff boundary                    limits
 diff damaged [N]                 damaged logs and images, all or each N-th
 diff cuts SEED TRANSACTIONS      the original stopped after each step
+diff host SEED TURNS             the host and the original on one directory, in turns
 diff show CALL IMAGE             every judge's answer; the steps too, of a commit or recovery
 diff show restart IMAGE          the original opens a store, whose names may be such as 01 refuses
       --lent OUT STEP            lengths of the lent outputs
@@ -47,6 +51,10 @@ fn main() {
         Some("boundary") => boundary::run(&mut panel),
         Some("damaged") => damaged::run(&mut panel, number(1).unwrap_or(1) as usize),
         Some("cuts") => cuts::run(&mut panel, number(1).unwrap_or(1), number(2).unwrap_or(100)),
+        #[cfg(feature = "host")]
+        Some("host") => host::run(&mut panel, number(1).unwrap_or(1), number(2).unwrap_or(100)),
+        #[cfg(not(feature = "host"))]
+        Some("host") => println!("host: skipped, the port's static library is not there"),
         Some("show") if words[1] == "restart" => restart(&panel, &words[2]),
         Some("show") => show(&panel, &words[1..], lent),
         _ => println!("{USAGE}"),

@@ -16,7 +16,7 @@ use cda_interfaces::storage_api::{Collection, CollectionName, Operation, Storage
 use cda_storage::{LocalStorage, WalStatus, collection, has_pending_work, open_wal, read_wal, sanitize};
 use plain::{Image, image::STAGING_LIMIT, image::put_field, log::OPERATION_LIMIT, name::is_valid};
 use std::path::Path;
-use store::{Answer, IMAGE_ROOM, KEYS_ROOM, NO_OPINION, Out, Plan, STEP_ROOM, Store};
+use store::{Answer, Call, IMAGE_ROOM, KEYS_ROOM, NO_OPINION, Out, Plan, STEP_ROOM, Store};
 use tokio::block_on;
 
 pub struct Original {
@@ -118,13 +118,7 @@ impl Original {
     }
 
     /// Records one operation, or has no opinion: numbers 4 and 5, and what `added` says.
-    fn record(
-        &self,
-        image: &[u8],
-        out: &mut Out,
-        added: impl FnOnce(&Image) -> bool,
-        work: impl FnOnce(&LocalStorage, &mut Transaction) -> Result<(), StorageError>,
-    ) -> u32 {
+    fn record(&self, image: &[u8], out: &mut Out, added: impl FnOnce(&Image) -> bool, call: Call) -> u32 {
         let opinion = || {
             let image = decode(image, out.bytes.len() >= IMAGE_ROOM)?;
             let (storage, transaction) = self.open(&image);
@@ -132,7 +126,7 @@ impl Original {
             if self.recorded()?.len() == OPERATION_LIMIT || added(&image) {
                 return None;
             }
-            let result = work(&storage, &mut transaction);
+            let result = self.carry_out(&call, &storage, &mut transaction);
             let after = self.read_back(&storage);
             assert!(result.is_ok() || after == image, "a refusal changes nothing");
             Some(result.map(|()| after))
@@ -149,6 +143,37 @@ impl Original {
             Some(Err(StorageError::Other(_))) => 6,
             Some(Err(error)) => panic!("recording: {error}"),
         }
+    }
+
+    /// The original's own recording of an operation, whose names can be given.
+    fn carry_out(&self, call: &Call, storage: &LocalStorage, transaction: &mut Transaction) -> Result<(), StorageError> {
+        let handle = |folder: &[u8]| {
+            let folder = given(folder).unwrap();
+            sanitize(folder).map(|()| collection(&self.root.collections(), folder))
+        };
+        match call {
+            Call::Write { collection, key, staged, number } => {
+                let handle = handle(collection)?;
+                uuid::name_next(given(staged).unwrap());
+                block_on(handle.write(transaction, std::str::from_utf8(key).unwrap(), &mut &number.to_le_bytes()[..]))
+            }
+            Call::Delete { collection, key } => block_on(handle(collection)?.delete(transaction, std::str::from_utf8(key).unwrap())),
+            Call::DeleteAll { collection } => block_on(handle(collection)?.delete_all(transaction)),
+            Call::CreateCollection { name } => block_on(storage.create_collection(transaction, &custom(name))).map(|_| ()),
+            Call::DeleteCollection { name } => block_on(storage.delete_collection(transaction, &custom(name))),
+            Call::CopyCollection { source, dest } => {
+                // A destination that can't be given is not looked at where the source is missing.
+                let dest = if given(dest).is_some() { dest } else { &b"unused"[..] };
+                block_on(storage.copy_collection(transaction, &custom(source), &custom(dest)))
+            }
+            other => panic!("{other:?} records nothing"),
+        }
+    }
+
+    /// Opens what stands on disk, which recovers it.
+    pub fn reopen(&self) -> Session<'_> {
+        staging_folder(self.root.staging().to_str().unwrap());
+        Session { original: self, storage: LocalStorage::new(&self.root.0).unwrap(), transaction: None }
     }
 
     fn whole(&self, plan: Plan, image: &[u8], out: &mut Out) -> u32 {
@@ -171,6 +196,31 @@ impl Original {
             step.put(answer.step.as_ref().unwrap());
         }
         answer.number
+    }
+}
+
+/// A store that stands open over what is on disk, and its transaction.
+pub struct Session<'a> {
+    original: &'a Original,
+    storage: LocalStorage,
+    transaction: Option<Transaction>,
+}
+
+impl Session<'_> {
+    pub fn begin(&mut self) {
+        self.transaction = Some(self.storage.begin_transaction().unwrap());
+    }
+
+    /// Whether the original took the operation.
+    pub fn record(&mut self, call: &Call) -> bool {
+        self.original.carry_out(call, &self.storage, self.transaction.as_mut().unwrap()).is_ok()
+    }
+
+    /// Commits the transaction, which is this image, up to a cut.
+    pub fn commit(&mut self, image: &Image, cut: Cut) {
+        trace::start(&self.original.root, image, true, cut);
+        let _ = block_on(self.transaction.take().unwrap().commit());
+        trace::stop();
     }
 }
 
@@ -236,50 +286,33 @@ impl Store for Original {
             let refused = sanitize(folder).is_err() || sanitize(key).is_err();
             !refused && (number == 0 || image.staging.len() == STAGING_LIMIT || image.staging.contains_key(staged))
         };
-        self.record(image, out, added, |_, transaction| {
-            let folder = given(folder).unwrap();
-            sanitize(folder)?;
-            uuid::name_next(given(staged).unwrap());
-            let handle = collection(&self.root.collections(), folder);
-            block_on(handle.write(transaction, given(&key).unwrap(), &mut &number.to_le_bytes()[..]))
-        })
+        let (collection, staged) = (folder.to_vec(), staged.to_vec());
+        self.record(image, out, added, Call::Write { collection, key: key.clone(), staged, number })
     }
 
     fn delete(&self, image: &[u8], folder: &[u8], key: &[u8], out: &mut Out) -> u32 {
         let added = |_: &Image| given(folder).is_none() || given(&key.to_ascii_lowercase()).is_none();
-        self.record(image, out, added, |_, transaction| {
-            let (folder, key) = (given(folder).unwrap(), std::str::from_utf8(key).unwrap());
-            sanitize(folder)?;
-            block_on(collection(&self.root.collections(), folder).delete(transaction, key))
-        })
+        self.record(image, out, added, Call::Delete { collection: folder.to_vec(), key: key.to_vec() })
     }
 
     fn delete_all(&self, image: &[u8], folder: &[u8], out: &mut Out) -> u32 {
         let added = |_: &Image| given(folder).is_none();
-        self.record(image, out, added, |_, transaction| {
-            let folder = given(folder).unwrap();
-            sanitize(folder)?;
-            block_on(collection(&self.root.collections(), folder).delete_all(transaction))
-        })
+        self.record(image, out, added, Call::DeleteAll { collection: folder.to_vec() })
     }
 
     fn create_collection(&self, image: &[u8], name: &[u8], out: &mut Out) -> u32 {
         let added = |_: &Image| given(name).is_none();
-        self.record(image, out, added, |storage, transaction| block_on(storage.create_collection(transaction, &custom(name))).map(|_| ()))
+        self.record(image, out, added, Call::CreateCollection { name: name.to_vec() })
     }
 
     fn delete_collection(&self, image: &[u8], name: &[u8], out: &mut Out) -> u32 {
         let added = |_: &Image| given(name).is_none();
-        self.record(image, out, added, |storage, transaction| block_on(storage.delete_collection(transaction, &custom(name))))
+        self.record(image, out, added, Call::DeleteCollection { name: name.to_vec() })
     }
 
     fn copy_collection(&self, image: &[u8], source: &[u8], dest: &[u8], out: &mut Out) -> u32 {
         let added = |image: &Image| given(source).is_none() || image.dirs.contains_key(source) && given(dest).is_none();
-        self.record(image, out, added, |storage, transaction| {
-            // A destination that can't be given is not looked at where the source is missing.
-            let dest = if given(dest).is_some() { dest } else { b"unused" };
-            block_on(storage.copy_collection(transaction, &custom(source), &custom(dest)))
-        })
+        self.record(image, out, added, Call::CopyCollection { source: source.to_vec(), dest: dest.to_vec() })
     }
 
     fn commit(&self, image: &[u8], out: &mut Out) -> u32 {

@@ -1,6 +1,7 @@
 //! Stand-in for uuid. The caller names the next staging file, of which the original asks `format!("{}.tmp", uuid)`: the
-//! id prints as one space, which no valid name has, and the two places where the path arrives (`tokio::fs::File::create`
-//! and the payload's writer) put the wanted name in its place.
+//! id prints as what stands before .tmp. For a name with another ending it prints as one space, which no valid name has, and
+//! the two places where the path arrives (`tokio::fs::File::create` and the payload's writer) put the wanted name in its
+//! place.
 use std::{cell::RefCell, fmt};
 
 thread_local! { static NEXT: RefCell<String> = const { RefCell::new(String::new()) }; }
@@ -23,6 +24,6 @@ impl Uuid {
 
 impl fmt::Display for Uuid {
     fn fmt(&self, f: &mut fmt::Formatter) -> fmt::Result {
-        f.write_str(" ")
+        NEXT.with(|n| f.write_str(n.borrow().strip_suffix(".tmp").unwrap_or(" ")))
     }
 }

@@ -50,7 +50,7 @@ pub struct FileStore {
     observer: RefCell<Observer>,
 }
 
-type Observer = Box<dyn FnMut(&Event)>;
+type Observer = Box<dyn FnMut(&Event) + Send>;
 
 #[derive(Clone, Copy, PartialEq, Eq, Debug)]
 enum State {
@@ -89,7 +89,7 @@ impl FileStore {
 
     /// Opens the store with an observer, which is told of every step of recovery and commits before and after it is carried
     /// out.
-    pub fn open_observed(root: impl Into<PathBuf>, observer: impl FnMut(&Event) + 'static) -> Result<FileStore, StoreError> {
+    pub fn open_observed(root: impl Into<PathBuf>, observer: impl FnMut(&Event) + Send + 'static) -> Result<FileStore, StoreError> {
         let layout = Layout(root.into());
         let lock = lock(layout.root())?;
         let (state, observer) = (Cell::new(State::Idle), RefCell::new(Box::new(observer) as Observer));

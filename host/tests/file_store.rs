@@ -40,6 +40,13 @@ fn open_creates_nothing() {
 }
 
 #[test]
+fn a_store_can_be_handed_to_another_thread() {
+    let folder = Folder::with(&["db/a=1"]);
+    let store = FileStore::open(&folder.0).unwrap();
+    assert_eq!(std::thread::spawn(move || store.list("db").unwrap()).join().unwrap(), ["a"]);
+}
+
+#[test]
 fn a_missing_root_is_an_error() {
     let folder = Folder::new();
     let missing = folder.0.join("none");
@@ -241,7 +248,7 @@ fn other_entries_of_the_root_are_left_alone() {
 }
 
 /// A commit of a Write to db/a that meets a failing call at this step; `disturb` provokes it before the step.
-fn fails_at(number: u64, disturb: impl Fn(&Path) + 'static) -> (Folder, StoreError) {
+fn fails_at(number: u64, disturb: impl Fn(&Path) + Send + 'static) -> (Folder, StoreError) {
     let folder = Folder::with(&["db/a=old"]);
     let root = folder.0.clone();
     let observer = move |event: &Event| {

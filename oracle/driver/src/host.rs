@@ -1,14 +1,23 @@
 //! The host (host/) and the original on one directory, in turns. Each opens what the other left, which recovers it, records a
-//! transaction, and is ended by its process's exit after some step of the commit. Behind every call the disk is held to what
-//! the port says, as the original's side reads it and as the host does.
+//! transaction, and is ended by its process's exit after some step of the commit; now and then a recovery is ended too. Behind
+//! every call the disk is held to what the port says, as the original's side reads it and as the host does. A commit of the
+//! host that runs to its end is watched as the original's are, unless it has copies, which the host makes on the side: its
+//! file calls, syncs included, are the plan's steps.
 use crate::child;
 use crate::generate::Rng;
 use crate::panel::Panel;
 use crate::text;
 use cda_store::{Event, FileStore, StoreError, Transaction, scan};
 use original::{Cut, Original};
-use plain::{Image, image::Files};
-use std::{cell::Cell, path::Path, rc::Rc, time::Instant};
+use plain::{Image, image::Files, step::Step};
+use std::{
+    path::Path,
+    sync::{
+        Arc,
+        atomic::{AtomicU64, Ordering},
+    },
+    time::Instant,
+};
 use store::{Call, Lent, Plan, Store, ask};
 
 const DIRS: [&str; 5] = ["c", "c.bak", "d", "C", "e.tmp"];
@@ -20,21 +29,31 @@ struct Turns<'a> {
     /// What stands on disk.
     model: Image,
     cut: u64,
-    whole: u64,
-    operations: u64,
+    watched: u64,
+    recoveries: u64,
+    disks: u64,
+}
+
+/// Opens the store for the host, whose process ends after as many steps as are set.
+fn open(root: &Path, steps: &Arc<AtomicU64>) -> FileStore {
+    let steps = Arc::clone(steps);
+    let end = move |event: &Event| {
+        let done = if event.done { event.number } else { event.number - 1 };
+        if done == steps.load(Ordering::Relaxed) {
+            child::end()
+        }
+    };
+    FileStore::open_observed(root, end).unwrap()
+}
+
+fn after(n: u64) -> Arc<AtomicU64> {
+    Arc::new(AtomicU64::new(n))
 }
 
 impl Turns<'_> {
     fn host(&mut self, rng: &mut Rng) {
-        let n = Rc::new(Cell::new(u64::MAX));
-        let seen = Rc::clone(&n);
-        let end = move |event: &Event| {
-            let done = if event.done { event.number } else { event.number - 1 };
-            if done == seen.get() {
-                child::end()
-            }
-        };
-        let store = FileStore::open_observed(&self.original.root.0, end).unwrap();
+        let (original, steps) = (self.original, after(u64::MAX));
+        let store = open(&original.root.0, &steps);
         self.told(&Call::Recover, true);
         let mut transaction = store.begin().unwrap();
         self.told(&Call::Begin, true);
@@ -42,9 +61,19 @@ impl Turns<'_> {
             let accepted = record(&mut transaction, &call);
             self.told(&call, accepted);
         }
-        n.set(self.choose(rng));
-        let status = child::run(|| drop(transaction.commit()));
-        self.ended(status, n.get());
+        let plan = self.plan(Plan::Commit);
+        let n = choose(rng, plan.len());
+        let copies = plan.iter().any(|field| field[0] == 0x27);
+        if n == plan.len() && !copies {
+            let trace = original.watch(&self.model, || drop(transaction.commit()));
+            self.agree(&Call::Commit, trace.steps.iter().map(Step::field).eq(plan));
+            self.watched += 1;
+            self.ended(0, Plan::Commit, n);
+        } else {
+            steps.store(n as u64, Ordering::Relaxed);
+            let status = child::run(|| drop(transaction.commit()));
+            self.ended(status, Plan::Commit, n);
+        }
     }
 
     fn original(&mut self, rng: &mut Rng) {
@@ -57,9 +86,31 @@ impl Turns<'_> {
             let accepted = session.record(&call);
             self.told(&call, accepted);
         }
-        let (n, image) = (self.choose(rng), self.model.clone());
-        let status = child::run(move || session.commit(&image, Cut::Exit(n as usize)));
-        self.ended(status, n);
+        let (n, image) = (choose(rng, self.plan(Plan::Commit).len()), self.model.clone());
+        let status = child::run(move || session.commit(&image, Cut::Exit(n)));
+        self.ended(status, Plan::Commit, n);
+    }
+
+    /// A recovery, by either, that is ended too.
+    fn recovery(&mut self, rng: &mut Rng) {
+        let steps = self.plan(Plan::Recover).len();
+        if steps == 0 {
+            return;
+        }
+        let (n, original) = (rng.below(steps) + 1, self.original);
+        let status = if rng.one_in(2) {
+            child::run(|| drop(open(&original.root.0, &after(n as u64))))
+        } else {
+            child::run(|| drop(original.recover_in_place(&self.model, Cut::Exit(n))))
+        };
+        self.ended(status, Plan::Recover, n);
+        self.recoveries += 1;
+    }
+
+    /// The fields of a plan's steps, by the port.
+    fn plan(&self, plan: Plan) -> Vec<Vec<u8>> {
+        let answers = self.port.plan(plan, &self.model.encode()).1;
+        answers.into_iter().skip(1).filter_map(|answer| answer.step).collect()
     }
 
     /// A call was accepted or refused on disk: so it is by the port. A Write's staging file has the name that was found for it.
@@ -75,20 +126,15 @@ impl Turns<'_> {
             self.model = Image::decode(&image).expect("an image");
         }
         self.same_disk(&call);
-        self.operations += 1;
+        self.disks += 1;
     }
 
-    /// After how many steps of the commit the process is to end.
-    fn choose(&self, rng: &mut Rng) -> u64 {
-        let steps = self.port.plan(Plan::Commit, &self.model.encode()).1.len() - 2;
-        if rng.one_in(4) { steps as u64 } else { rng.below(steps + 1) as u64 }
-    }
-
-    fn ended(&mut self, status: i32, n: u64) {
-        let call = Plan::Commit.step(n);
+    /// A process ended after n steps.
+    fn ended(&mut self, status: i32, plan: Plan, n: usize) {
+        let call = plan.step(n as u64);
         self.agree(&call, status == 0);
         self.told(&call, true);
-        *(if self.model.open { &mut self.cut } else { &mut self.whole }) += 1;
+        self.cut += u64::from(self.model.open);
         self.model.open = false;
     }
 
@@ -107,6 +153,11 @@ impl Turns<'_> {
             std::process::exit(1)
         }
     }
+}
+
+/// After how many steps of a commit its process is to end.
+fn choose(rng: &mut Rng, steps: usize) -> usize {
+    if rng.one_in(3) { steps } else { rng.below(steps + 1) }
 }
 
 /// The store as the host scans it, with each file's content as its number.
@@ -170,22 +221,28 @@ pub fn run(panel: &mut Panel, seed: u64, turns: u64) {
     let original = panel.original.take().expect("the original");
     let port = panel.port.take().expect("the port");
     original.root.clear();
-    let mut all = Turns { original: &original, port: port.as_ref(), model: Image::default(), cut: 0, whole: 0, operations: 0 };
+    let (model, port) = (Image::default(), port.as_ref());
+    let mut all = Turns { original: &original, port, model, cut: 0, watched: 0, recoveries: 0, disks: 0 };
     for turn in 0..turns {
         let rng = &mut Rng::new(seed, turn);
+        if rng.one_in(4) {
+            all.recovery(rng);
+        }
         if turn % 2 == 0 {
             all.host(rng)
         } else {
             all.original(rng)
         }
-        panel.inputs = all.operations;
+        panel.inputs = all.disks;
         panel.progress("host", turn, turns);
     }
     println!(
-        "host, seed {seed}: original, host and port agree; {turns} turns on one directory, {} commits cut, {} to their end, {} disks compared, {:.1} s",
+        "host, seed {seed}: original, host and port agree; {turns} turns on one directory, {} commits and {} recoveries cut, {} commits of the \
+         host watched, {} disks compared, {:.1} s",
         all.cut,
-        all.whole,
-        all.operations,
+        all.recoveries,
+        all.watched,
+        all.disks,
         started.elapsed().as_secs_f64()
     );
 }

@@ -170,6 +170,13 @@ impl Original {
         }
     }
 
+    /// The steps of a commit by another hand, as its file calls show them. The disk holds the image.
+    pub fn watch(&self, image: &Image, commit: impl FnOnce()) -> Trace {
+        trace::start(&self.root, image, true, Cut::Never);
+        commit();
+        trace::stop().0
+    }
+
     /// Opens what stands on disk, which recovers it.
     pub fn reopen(&self) -> Session<'_> {
         staging_folder(self.root.staging().to_str().unwrap());

@@ -1,8 +1,8 @@
 //! The host (host/) and the original on one directory, in turns. Each opens what the other left, which recovers it, records a
-//! transaction, and is ended by its process's exit after some step of the commit; now and then a recovery is ended too. Behind
-//! every call the disk is held to what the port says, as the original's side reads it and as the host does. A commit of the
-//! host that runs to its end is watched as the original's are, unless it has copies, which the host makes on the side: its
-//! file calls, syncs included, are the plan's steps.
+//! transaction, and is ended by its process's exit after some step of the commit; now and then a recovery is ended too, or a
+//! file is put there from outside. Behind every call the disk is held to what the port says, as the original's side reads it
+//! and as the host does. A commit of the host that runs to its end is watched as the original's are, unless it has copies,
+//! which the host makes on the side: its file calls, syncs included, are the plan's steps.
 use crate::child;
 use crate::generate::Rng;
 use crate::panel::Panel;
@@ -22,6 +22,7 @@ use store::{Call, Lent, Plan, Store, ask};
 
 const DIRS: [&str; 5] = ["c", "c.bak", "d", "C", "e.tmp"];
 const KEYS: [&str; 7] = ["a", "a.bak", "b", "A", "a.tmp", "B.x", "....bak"];
+const PROVISIONED: &str = "Q";
 
 struct Turns<'a> {
     original: &'a Original,
@@ -89,6 +90,15 @@ impl Turns<'_> {
         let (n, image) = (choose(rng, self.plan(Plan::Commit).len()), self.model.clone());
         let status = child::run(move || session.commit(&image, Cut::Exit(n)));
         self.ended(status, Plan::Commit, n);
+    }
+
+    /// A file is put into a collection from outside, with a name that isn't lowered.
+    fn provision(&mut self, rng: &mut Rng) {
+        let number = rng.below(1000) as u32 + 1;
+        if let Some((dir, files)) = self.model.dirs.iter_mut().next() {
+            files.insert(PROVISIONED.into(), number);
+            std::fs::write(self.original.root.dir(dir).join(PROVISIONED), number.to_le_bytes()).unwrap();
+        }
     }
 
     /// A recovery, by either, that is ended too.
@@ -208,6 +218,7 @@ fn one(rng: &mut Rng, staged: Vec<u8>) -> Call {
     let (collection, key) = (rng.pick(&DIRS).into(), rng.pick(&KEYS).into());
     match rng.below(10) {
         0..=4 => Call::Write { collection, key, staged, number: rng.below(1000) as u32 + 1 },
+        5 if rng.one_in(2) => Call::Delete { collection, key: PROVISIONED.into() },
         5 => Call::Delete { collection, key },
         6 => Call::DeleteAll { collection },
         7 => Call::CreateCollection { name: collection },
@@ -227,6 +238,9 @@ pub fn run(panel: &mut Panel, seed: u64, turns: u64) {
         let rng = &mut Rng::new(seed, turn);
         if rng.one_in(4) {
             all.recovery(rng);
+        }
+        if rng.one_in(2) {
+            all.provision(rng);
         }
         if turn % 2 == 0 {
             all.host(rng)

@@ -8,6 +8,9 @@
 //! - within the conditions of the cut rule (document 01, 'The words of demand 3') it has the files from before if the log
 //!   stood, else all writes done.
 //!
+//! Then children that commit one transaction after another, of new keys, are killed at any moment, also inside a step: the
+//! store, opened again, has each transaction whole or not at all, and none behind one that it has not.
+//!
 //! `killed TRANSACTIONS SEED` runs another number of transactions, from another seed.
 mod common;
 
@@ -23,7 +26,7 @@ use std::{
     process::{Command, Stdio},
     sync::atomic::{AtomicU64, Ordering},
     thread,
-    time::Instant,
+    time::{Duration, Instant},
 };
 
 const COLLECTIONS: [&str; 3] = ["db", "fonts", "x"];
@@ -179,6 +182,7 @@ struct Seen {
     kills: AtomicU64,
     within: AtomicU64,
     before: AtomicU64,
+    moments: AtomicU64,
 }
 
 fn count(counter: &AtomicU64, holds: bool) {
@@ -232,28 +236,73 @@ fn claim(case: &Case, image: &Image, n: u64, log_stood: bool) -> Option<Tree> {
     if n > 0 && waits { None } else { Some(if log_stood { case.before.clone() } else { after }) }
 }
 
+/// The new keys of a transaction, each with its content, in a store that has the earlier ones.
+fn new_keys(seed: u64, transaction: u64) -> BTreeMap<String, Vec<u8>> {
+    let random = &mut Random::new(seed, transaction);
+    (0..=random.below(3)).map(|i| (format!("t{transaction}-{i}"), vec![random.next() as u8; random.below(100_000) as usize])).collect()
+}
+
+/// The most transactions of new keys; a store has at most 128 files.
+const NEW_KEYS: u64 = 32;
+
+/// The child: commits transactions of new keys until it is killed.
+fn busy(root: &str, seed: u64) {
+    let store = FileStore::open(root).unwrap();
+    for transaction in 0..NEW_KEYS {
+        let mut open = store.begin().unwrap();
+        new_keys(seed, transaction).iter().for_each(|(key, content)| open.write("db", key, &content[..]).unwrap());
+        open.commit().unwrap();
+    }
+    thread::park();
+}
+
+/// Kills a child at any moment.
+fn any_moment(seen: &Seen, root: &Path, seed: u64) {
+    let _ = fs::remove_dir_all(root);
+    fs::create_dir_all(root.join("collections/db")).unwrap();
+    let mut child = Command::new(env::current_exe().unwrap()).arg("busy").arg(root).arg(seed.to_string()).spawn().unwrap();
+    thread::sleep(Duration::from_micros(Random::new(seed, 99).below(200_000)));
+    child.kill().unwrap();
+    child.wait().unwrap();
+    FileStore::open(root).unwrap();
+    let mut left = tree(root).remove("db").unwrap();
+    for transaction in 0..NEW_KEYS {
+        let keys = new_keys(seed, transaction);
+        if left.is_empty() {
+            break;
+        }
+        keys.iter().for_each(|(key, content)| assert_eq!(left.remove(key).as_ref(), Some(content), "seed {seed}, {key}"));
+    }
+    assert!(left.is_empty(), "seed {seed}");
+    count(&seen.moments, true);
+}
+
 fn main() {
     let words: Vec<String> = env::args().skip(1).collect();
     let number = |i: usize| words.get(i).and_then(|word| word.parse::<u64>().ok());
-    if words.first().is_some_and(|word| word == "child") {
-        let [seed, case, n] = [2, 3, 4].map(|i| number(i).expect("a number"));
-        return child(&words[1], &Case::new(seed, case), n);
+    let given = |i: usize| number(i).expect("a number");
+    match words.first().map(String::as_str) {
+        Some("child") => child(&words[1], &Case::new(given(2), given(3)), given(4)),
+        Some("busy") => busy(&words[1], given(2)),
+        _ => parent(number(0).unwrap_or(300), number(1).unwrap_or(1)),
     }
-    let (transactions, seed) = (number(0).unwrap_or(300), number(1).unwrap_or(1));
+}
+
+fn parent(transactions: u64, seed: u64) {
     let (started, seen, next) = (Instant::now(), Seen::default(), AtomicU64::new(0));
-    thread::scope(|scope| {
-        for _ in 0..WORKERS {
-            scope.spawn(|| {
-                let folder = Folder::new();
-                let cases = iter::repeat_with(|| next.fetch_add(1, Ordering::Relaxed)).take_while(|number| *number < transactions);
-                cases.for_each(|number| every_step(&seen, &folder.0.join("store"), seed, number));
-            });
-        }
-    });
-    let Seen { failing, kills, within, before } = seen;
+    let work = || {
+        let folder = Folder::new();
+        let cases = iter::repeat_with(|| next.fetch_add(1, Ordering::Relaxed)).take_while(|number| *number < transactions);
+        cases.for_each(|number| {
+            every_step(&seen, &folder.0.join("store"), seed, number);
+            any_moment(&seen, &folder.0.join("busy"), seed + number);
+        });
+    };
+    thread::scope(|scope| (0..WORKERS).for_each(|_| drop(scope.spawn(work))));
+    let Seen { failing, kills, within, before, moments } = seen;
     println!(
         "killed, seed {seed}: {transactions} transactions, {failing:?} of them failing, {kills:?} kills; {within:?} within the cut rule's \
-         conditions, of which {before:?} left the files from before; all as the port and the rule say, {:.1} s",
+         conditions, of which {before:?} left the files from before; {moments:?} kills at any moment; all as the port and the rule say, {:.1} s",
         started.elapsed().as_secs_f64()
     );
 }

@@ -41,5 +41,5 @@ fn link(library: &Path) {
     println!("cargo::metadata=library={}", library.display());
     println!("cargo::rustc-env=CDA_STORAGE_LIBRARY={}", library.display());
     println!("cargo::rustc-link-search=native={}", library.parent().unwrap().display());
-    println!("cargo::rustc-link-lib=static=cda_storage");
+    println!("cargo::rustc-link-lib=static:+verbatim={}", library.file_name().unwrap().display());
 }

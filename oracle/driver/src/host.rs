@@ -79,16 +79,16 @@ impl Turns<'_> {
 
     fn original(&mut self, rng: &mut Rng) {
         let original = self.original;
-        let mut session = original.reopen();
+        let mut opened = original.reopen();
         self.told(&Call::Recover, true);
-        session.begin();
+        opened.begin();
         self.told(&Call::Begin, true);
         for call in calls(rng) {
-            let accepted = session.record(&call);
+            let accepted = opened.record(&call);
             self.told(&call, accepted);
         }
         let (n, image) = (choose(rng, self.plan(Plan::Commit).len()), self.model.clone());
-        let status = child::run(move || session.commit(&image, Cut::Exit(n)));
+        let status = child::run(move || opened.commit(&image, Cut::Exit(n)));
         self.ended(status, Plan::Commit, n);
     }
 

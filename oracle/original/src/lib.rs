@@ -178,9 +178,9 @@ impl Original {
     }
 
     /// Opens what stands on disk, which recovers it.
-    pub fn reopen(&self) -> Session<'_> {
+    pub fn reopen(&self) -> Opened<'_> {
         staging_folder(self.root.staging().to_str().unwrap());
-        Session { original: self, storage: LocalStorage::new(&self.root.0).unwrap(), transaction: None }
+        Opened { original: self, storage: LocalStorage::new(&self.root.0).unwrap(), transaction: None }
     }
 
     fn whole(&self, plan: Plan, image: &[u8], out: &mut Out) -> u32 {
@@ -207,13 +207,13 @@ impl Original {
 }
 
 /// A store that stands open over what is on disk, and its transaction.
-pub struct Session<'a> {
+pub struct Opened<'a> {
     original: &'a Original,
     storage: LocalStorage,
     transaction: Option<Transaction>,
 }
 
-impl Session<'_> {
+impl Opened<'_> {
     pub fn begin(&mut self) {
         self.transaction = Some(self.storage.begin_transaction().unwrap());
     }

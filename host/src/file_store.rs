@@ -36,11 +36,13 @@ use std::{
 /// A process that ends anywhere leaves a store that the next open recovers. Document 01's cut rule says what comes of it
 /// where each step is done whole or not at all. On disk each step is one call that the file system does whole, except:
 ///
-/// - a copy is made in the staging directory and moved into its place; a cut inside leaves a staging file, which the next
-///   open removes, so the copy is done or not done;
+/// - a copy is made in the staging directory and moved into its place. A cut inside leaves a staging file, which the next
+///   open removes: the copy was not done;
 /// - the removal of a directory removes its files one by one. Where a cut leaves a part of them, the next open removes the
-///   rest;
-/// - the rewrite of the log's header is one write of eight bytes.
+///   rest.
+///
+/// Outside the rule's conditions files can be lost, as with the original. Above all, a written key that existed is lost where
+/// the cut comes after the log is marked Committing and before the key's rename to its backup. docs/FINDINGS.md has them all.
 ///
 /// Syncs are carried out where the original has them. What a loss of power takes from a disk is outside the rule.
 pub struct FileStore {

@@ -2,6 +2,19 @@
 //!
 //! The port takes a store image, as bytes, and hands back a number, an image, and the file steps to carry out. [`Image`] has
 //! its fourteen entries as methods; [`FileStore`] keeps a store on a directory and carries out the steps.
+//!
+//! ```
+//! # let root = std::env::temp_dir().join(format!("cda-store-{}", std::process::id()));
+//! # std::fs::create_dir(&root)?;
+//! let store = cda_store::FileStore::open(&root)?;
+//! let mut transaction = store.begin()?;
+//! transaction.create_collection("db")?;
+//! transaction.write("db", "faults.mdd", &b"content"[..])?;
+//! transaction.commit()?;
+//! assert_eq!(store.list("db")?, ["faults.mdd"]);
+//! # std::fs::remove_dir_all(&root)?;
+//! # Ok::<(), Box<dyn std::error::Error>>(())
+//! ```
 #![forbid(unsafe_code)]
 #![warn(missing_docs)]
 

@@ -8,8 +8,9 @@
 //! - within the conditions of the cut rule (document 01, 'The words of demand 3') it has the files from before if the log
 //!   stood, else all writes done.
 //!
-//! Then children that commit one transaction after another, of new keys, are killed at any moment, also inside a step: the
-//! store, opened again, has each transaction whole or not at all, and none behind one that it has not.
+//! Then children that commit one transaction after another, of new keys and a copy of their collection, are killed at any
+//! moment, also inside a step: the store, opened again, has each transaction whole or not at all, none behind one that it has
+//! not, and a whole copy.
 //!
 //! `killed TRANSACTIONS SEED` runs another number of transactions, from another seed.
 mod common;
@@ -242,15 +243,16 @@ fn new_keys(seed: u64, transaction: u64) -> BTreeMap<String, Vec<u8>> {
     (0..=random.below(3)).map(|i| (format!("t{transaction}-{i}"), vec![random.next() as u8; random.below(100_000) as usize])).collect()
 }
 
-/// The most transactions of new keys; a store has at most 128 files.
-const NEW_KEYS: u64 = 32;
+/// The most transactions of new keys; a store has at most 128 files, and each key stands in db, its copy and the old copy.
+const NEW_KEYS: u64 = 10;
 
-/// The child: commits transactions of new keys until it is killed.
+/// The child: commits transactions of new keys, and copies, until it is killed.
 fn busy(root: &str, seed: u64) {
     let store = FileStore::open(root).unwrap();
     for transaction in 0..NEW_KEYS {
         let mut open = store.begin().unwrap();
         new_keys(seed, transaction).iter().for_each(|(key, content)| open.write("db", key, &content[..]).unwrap());
+        open.copy_collection("db", "copy").unwrap();
         open.commit().unwrap();
     }
     thread::park();
@@ -265,15 +267,11 @@ fn any_moment(seen: &Seen, root: &Path, seed: u64) {
     child.kill().unwrap();
     child.wait().unwrap();
     FileStore::open(root).unwrap();
-    let mut left = tree(root).remove("db").unwrap();
-    for transaction in 0..NEW_KEYS {
-        let keys = new_keys(seed, transaction);
-        if left.is_empty() {
-            break;
-        }
-        keys.iter().for_each(|(key, content)| assert_eq!(left.remove(key).as_ref(), Some(content), "seed {seed}, {key}"));
-    }
-    assert!(left.is_empty(), "seed {seed}");
+    let mut tree = tree(root);
+    let (db, copy) = (tree.remove("db").unwrap(), tree.remove("copy").unwrap_or_default());
+    let mut committed = BTreeMap::new();
+    (0..NEW_KEYS).take_while(|transaction| db.contains_key(&format!("t{transaction}-0"))).for_each(|t| committed.extend(new_keys(seed, t)));
+    assert!(db == committed && copy == committed && tree.is_empty(), "seed {seed}: {:?}", FileStore::open(root).unwrap().image());
     count(&seen.moments, true);
 }
 

@@ -20,7 +20,7 @@ use common::{Folder, Random, Tree, contents, model_tree, named, numbered, tree};
 use std::{
     collections::{BTreeMap, BTreeSet},
     env, fs,
-    io::{BufRead, BufReader, Write},
+    io::{BufRead, BufReader, Read, Write},
     iter,
     os::unix::process::ExitStatusExt,
     path::Path,
@@ -60,19 +60,20 @@ impl Case {
         Case { before, operations }
     }
 
-    /// The Writes, if there is nothing else.
-    fn writes(&self) -> Option<Vec<(&str, &str, &[u8])>> {
+    /// The Writes, if there is nothing else and their keys are distinct.
+    fn writes(&self) -> Option<BTreeMap<(&str, &str), &[u8]>> {
         let writes = self.operations.iter().map(|operation| match operation {
-            Operation::Write(collection, key, content) => Some((*collection, *key, &content[..])),
+            Operation::Write(collection, key, content) => Some(((*collection, *key), &content[..])),
             _ => None,
         });
-        writes.collect()
+        let writes: BTreeMap<_, _> = writes.collect::<Option<_>>()?;
+        (writes.len() == self.operations.len()).then_some(writes)
     }
 
-    /// The files before, with all writes done.
+    /// The files before, with all writes done, if their collections exist.
     fn after(&self) -> Option<Tree> {
         let mut tree = self.before.clone();
-        for (collection, key, content) in self.writes()? {
+        for ((collection, key), content) in self.writes()? {
             tree.get_mut(collection)?.insert(key.to_string(), content.to_vec());
         }
         Some(tree)
@@ -142,11 +143,10 @@ fn any_operations(random: &mut Random) -> Vec<Operation> {
 /// The child: says the transaction's image, commits it, and stands still behind step n.
 fn child(root: &str, case: &Case, n: u64) {
     let stop = move |event: &Event| {
-        if if n == 0 { event.number == 1 && !event.done } else { event.number == n && event.done } {
+        let done = if event.done { event.number } else { event.number - 1 };
+        if done == n {
             say("here");
-            loop {
-                thread::park();
-            }
+            stand_still();
         }
     };
     let store = FileStore::open_observed(root, stop).unwrap();
@@ -155,6 +155,12 @@ fn child(root: &str, case: &Case, n: u64) {
     say(&transaction.image().bytes().iter().map(|byte| format!("{byte:02x}")).collect::<String>());
     let _ = transaction.commit();
     panic!("there is no step {n}");
+}
+
+/// Waits to be killed, or ends with the parent, which holds the other end of the standard input.
+fn stand_still() -> ! {
+    let _ = std::io::stdin().read_to_end(&mut Vec::new());
+    std::process::exit(1)
 }
 
 fn say(line: &str) {
@@ -166,7 +172,7 @@ fn say(line: &str) {
 fn killed(root: &Path, seed: u64, number: u64, n: u64) -> Image {
     let mut command = Command::new(env::current_exe().unwrap());
     command.arg("child").arg(root).args([seed, number, n].map(|word| word.to_string()));
-    let mut child = command.stdout(Stdio::piped()).spawn().unwrap();
+    let mut child = command.stdin(Stdio::piped()).stdout(Stdio::piped()).spawn().unwrap();
     let mut lines = BufReader::new(child.stdout.take().unwrap()).lines().map(|line| line.unwrap());
     let hex = lines.next().expect("the image");
     assert_eq!(lines.next().as_deref(), Some("here"), "case {number}, step {n}");
@@ -230,7 +236,7 @@ fn same_disk(root: &Path, model: &Contents, by_number: &BTreeMap<u32, Vec<u8>>, 
 fn claim(case: &Case, image: &Image, n: u64, log_stood: bool) -> Option<Tree> {
     let after = case.after()?;
     let steps: Vec<Step> = image.commit_steps().take(n as usize).map(|stepped| stepped.unwrap().step).collect();
-    let waits = case.writes()?.into_iter().any(|(collection, key, _)| {
+    let waits = case.writes()?.into_keys().any(|(collection, key)| {
         let backup = Step::RenameFile { directory: collection.into(), from: key.into(), to: format!("{key}.bak") };
         case.before[collection].contains_key(key) && !steps.contains(&backup)
     });
@@ -255,14 +261,15 @@ fn busy(root: &str, seed: u64) {
         open.copy_collection("db", "copy").unwrap();
         open.commit().unwrap();
     }
-    thread::park();
+    stand_still()
 }
 
 /// Kills a child at any moment.
 fn any_moment(seen: &Seen, root: &Path, seed: u64) {
     let _ = fs::remove_dir_all(root);
     fs::create_dir_all(root.join("collections/db")).unwrap();
-    let mut child = Command::new(env::current_exe().unwrap()).arg("busy").arg(root).arg(seed.to_string()).spawn().unwrap();
+    let mut command = Command::new(env::current_exe().unwrap());
+    let mut child = command.arg("busy").arg(root).arg(seed.to_string()).stdin(Stdio::piped()).spawn().unwrap();
     thread::sleep(Duration::from_micros(Random::new(seed, 99).below(200_000)));
     child.kill().unwrap();
     child.wait().unwrap();

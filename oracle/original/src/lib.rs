@@ -15,12 +15,16 @@ pub use trace::{Cut, Trace};
 use cda_interfaces::storage_api::{Collection, CollectionName, Operation, Storage, StorageError, Transaction, staging_folder};
 use cda_storage::{LocalStorage, WalStatus, collection, has_pending_work, open_wal, read_wal, sanitize};
 use plain::{Image, image::STAGING_LIMIT, image::put_field, log::OPERATION_LIMIT, name::is_valid};
+use std::cell::Cell;
 use std::path::Path;
-use store::{Answer, Call, IMAGE_ROOM, KEYS_ROOM, NO_OPINION, Out, Plan, STEP_ROOM, Store};
+use std::time::{Duration, Instant};
+use store::{Answer, Call, IMAGE_ROOM, KEYS_ROOM, Lent, NO_OPINION, Out, Plan, STEP_ROOM, Store, ask};
 use tokio::block_on;
 
 pub struct Original {
     pub root: Root,
+    /// How long the original's own code worked in the last call.
+    took: Cell<Duration>,
 }
 
 /// `None`: the original has no opinion.
@@ -38,7 +42,26 @@ impl Original {
     pub fn new() -> Original {
         let memory = Path::new("/dev/shm");
         let folder = if memory.is_dir() { memory.to_path_buf() } else { std::env::temp_dir() };
-        Original { root: Root(folder.join(format!("cda-oracle-{}", std::process::id()))) }
+        Original { root: Root(folder.join(format!("cda-oracle-{}", std::process::id()))), took: Cell::default() }
+    }
+
+    fn timed<T>(&self, own_code: impl FnOnce() -> T) -> T {
+        let start = Instant::now();
+        let value = own_code();
+        self.took.set(start.elapsed());
+        value
+    }
+
+    /// How long the original's own code takes over a call, unwatched. The disk is made ready before and read back behind.
+    pub fn time(&self, call: &Call, image: &[u8]) -> Duration {
+        let run = |plan| Image::decode(image).and_then(|image| self.run(plan, &image, Cut::Unwatched));
+        let done = match call {
+            Call::Commit => run(Plan::Commit).is_some(),
+            Call::Recover => run(Plan::Recover).is_some(),
+            _ => ask(self, call, image, Lent::AMPLE).number == 0,
+        };
+        assert!(done, "{call:?} is done");
+        self.took.get()
     }
 
     /// A store that stands open over the image on disk, with the image's transaction if it has an open mark. A new store
@@ -64,6 +87,17 @@ impl Original {
         (!read.truncated && read.operations.len() <= OPERATION_LIMIT).then_some(read.operations)
     }
 
+    /// Runs the original's own code up to a cut: its result, what was seen, and what the disk holds then.
+    fn until<T>(&self, cut: Cut, image: &Image, commit: bool, own_code: impl FnOnce() -> T) -> (T, Trace, Image) {
+        if cut == Cut::Unwatched {
+            return (self.timed(own_code), Trace::default(), self.root.get());
+        }
+        trace::start(&self.root, image, commit, cut);
+        let result = own_code();
+        let (trace, image) = trace::stop();
+        (result, trace, image)
+    }
+
     /// A commit or recovery up to a cut.
     pub fn run(&self, plan: Plan, image: &Image, cut: Cut) -> Opinion<Run> {
         match plan {
@@ -76,9 +110,7 @@ impl Original {
         let (storage, transaction) = self.open(image);
         let mut transaction = transaction?;
         self.recorded()?.into_iter().for_each(|o| transaction.record(o));
-        trace::start(&self.root, image, true, cut);
-        let result = block_on(transaction.commit());
-        let (trace, image) = trace::stop();
+        let (result, trace, image) = self.until(cut, image, true, || block_on(transaction.commit()));
         let number = trace.failed.unwrap_or(0);
         assert!(cut != Cut::Never || result.is_err() == (number != 0), "a failed commit has a failing step: {result:?}");
         Some(Run { number, image: Image { open: is_open(&storage), ..image }, trace })
@@ -95,9 +127,7 @@ impl Original {
 
     /// Recovery of what stands on disk, which is this image.
     pub fn recover_in_place(&self, image: &Image, cut: Cut) -> Run {
-        trace::start(&self.root, image, false, cut);
-        let result = LocalStorage::new(&self.root.0);
-        let (trace, image) = trace::stop();
+        let (result, trace, image) = self.until(cut, image, false, || LocalStorage::new(&self.root.0));
         let number = match result {
             _ if cut != Cut::Never => 0,
             Ok(_) => 0,
@@ -126,7 +156,7 @@ impl Original {
             if self.recorded()?.len() == OPERATION_LIMIT || added(&image) {
                 return None;
             }
-            let result = self.carry_out(&call, &storage, &mut transaction);
+            let result = self.timed(|| self.carry_out(&call, &storage, &mut transaction));
             let after = self.read_back(&storage);
             assert!(result.is_ok() || after == image, "a refusal changes nothing");
             Some(result.map(|()| after))
@@ -275,7 +305,7 @@ impl Store for Original {
     fn begin(&self, image: &[u8], out: &mut Out) -> u32 {
         let Some(image) = decode(image, out.bytes.len() >= IMAGE_ROOM) else { return NO_OPINION };
         let (storage, _transaction) = self.open(&image);
-        let begun = storage.begin_transaction();
+        let begun = self.timed(|| storage.begin_transaction());
         match &begun {
             Ok(_) => {
                 out.put(&self.read_back(&storage).encode());
@@ -335,7 +365,8 @@ impl Store for Original {
             let image = decode(image, out.bytes.len() >= IMAGE_ROOM)?;
             let (storage, transaction) = self.open(&image);
             self.recorded()?;
-            transaction?.rollback();
+            let transaction = transaction?;
+            self.timed(|| transaction.rollback());
             Some(self.read_back(&storage))
         };
         let Some(image) = opinion() else { return NO_OPINION };
@@ -347,7 +378,8 @@ impl Store for Original {
         let Some(image) = Image::decode(image) else { return NO_OPINION };
         self.root.clear();
         self.root.put(&image);
-        *pending = u32::from(has_pending_work(&self.root.journal(), &self.root.collections()));
+        let (journal, collections) = (self.root.journal(), self.root.collections());
+        *pending = u32::from(self.timed(|| has_pending_work(&journal, &collections)));
         0
     }
 
@@ -367,8 +399,9 @@ impl Store for Original {
         }
         self.root.clear();
         self.root.put(&image);
+        let handle = collection(&self.root.collections(), folder);
         let mut keys = Vec::new();
-        for key in block_on(collection(&self.root.collections(), folder).list()).unwrap() {
+        for key in self.timed(|| block_on(handle.list())).unwrap() {
             put_field(&mut keys, 0x03, &[key.as_bytes()]);
         }
         out.put(&keys);

@@ -26,6 +26,8 @@ pub enum Cut {
     Freeze(usize),
     /// After n steps the process exits.
     Exit(usize),
+    /// It runs to its end, and nobody watches: for its time.
+    Unwatched,
 }
 
 /// What a path of the store names.

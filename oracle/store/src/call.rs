@@ -85,22 +85,7 @@ pub fn ask<S: Store + ?Sized>(store: &S, call: &Call, image: &[u8], lent: Lent) 
     let mut out = Out { bytes: &mut bytes, written: UNTOUCHED };
     let mut step = Out { bytes: &mut step_bytes, written: UNTOUCHED };
     let mut pending = UNTOUCHED as u32;
-    let number = match call {
-        Call::Begin => store.begin(image, &mut out),
-        Call::Write { collection, key, staged, number } => store.write(image, collection, key, staged, *number, &mut out),
-        Call::Delete { collection, key } => store.delete(image, collection, key, &mut out),
-        Call::DeleteAll { collection } => store.delete_all(image, collection, &mut out),
-        Call::CreateCollection { name } => store.create_collection(image, name, &mut out),
-        Call::DeleteCollection { name } => store.delete_collection(image, name, &mut out),
-        Call::CopyCollection { source, dest } => store.copy_collection(image, source, dest, &mut out),
-        Call::Commit => store.commit(image, &mut out),
-        Call::CommitStep(n) => store.commit_step(image, *n, &mut out, &mut step),
-        Call::Rollback => store.rollback(image, &mut out),
-        Call::HasPendingWork => store.has_pending_work(image, &mut pending),
-        Call::Recover => store.recover(image, &mut out),
-        Call::RecoverStep(n) => store.recover_step(image, *n, &mut out, &mut step),
-        Call::ListKeys { collection } => store.list_keys(image, collection, &mut out),
-    };
+    let number = pass(store, call, image, &mut out, &mut step, &mut pending);
     let mut answer = Answer::refusal(number);
     let mut stray = Vec::new();
     answer.out = written(&out, &clean, "out", &mut stray);
@@ -108,6 +93,26 @@ pub fn ask<S: Store + ?Sized>(store: &S, call: &Call, image: &[u8], lent: Lent) 
     answer.pending = (pending != UNTOUCHED as u32).then_some(pending);
     answer.stray = (!stray.is_empty()).then(|| stray.join(", "));
     answer
+}
+
+/// Calls the entry that the call names.
+pub fn pass<S: Store + ?Sized>(store: &S, call: &Call, image: &[u8], out: &mut Out, step: &mut Out, pending: &mut u32) -> u32 {
+    match call {
+        Call::Begin => store.begin(image, out),
+        Call::Write { collection, key, staged, number } => store.write(image, collection, key, staged, *number, out),
+        Call::Delete { collection, key } => store.delete(image, collection, key, out),
+        Call::DeleteAll { collection } => store.delete_all(image, collection, out),
+        Call::CreateCollection { name } => store.create_collection(image, name, out),
+        Call::DeleteCollection { name } => store.delete_collection(image, name, out),
+        Call::CopyCollection { source, dest } => store.copy_collection(image, source, dest, out),
+        Call::Commit => store.commit(image, out),
+        Call::CommitStep(n) => store.commit_step(image, *n, out, step),
+        Call::Rollback => store.rollback(image, out),
+        Call::HasPendingWork => store.has_pending_work(image, pending),
+        Call::Recover => store.recover(image, out),
+        Call::RecoverStep(n) => store.recover_step(image, *n, out, step),
+        Call::ListKeys { collection } => store.list_keys(image, collection, out),
+    }
 }
 
 /// What was written to a lent output, after a look at the bytes behind it.

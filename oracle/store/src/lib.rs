@@ -2,7 +2,7 @@
 //! the one way in which all of them are asked.
 mod call;
 
-pub use call::{Answer, Call, Lent, Plan, ask};
+pub use call::{Answer, Call, Lent, Plan, ask, pass};
 
 pub type Name = Vec<u8>;
 

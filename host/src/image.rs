@@ -54,6 +54,14 @@ impl Contents {
         Image::new(self.encode())
     }
 
+    /// The name of a staging file that does not stand, and a content number that no file has.
+    pub fn unused(&self) -> (String, u32) {
+        let files = self.directories.values().chain([&self.staging]);
+        let last = files.flat_map(|files| files.values()).max().copied().unwrap_or(0);
+        let mut names = (last + 1..).map(|number| (format!("{number}.tmp"), number));
+        names.find(|(name, _)| !self.staging.contains_key(name)).expect("fewer files than numbers")
+    }
+
     fn encode(&self) -> Vec<u8> {
         let mut out = Vec::new();
         for (directory, files) in &self.directories {

@@ -51,7 +51,7 @@ impl<'a> Transaction<'a> {
     /// Stages the content and records a Write of it to the key, which is lowered.
     pub fn write(&mut self, collection: &str, key: &str, content: impl Read) -> Result<(), StoreError> {
         self.store.running()?;
-        let (staged, number) = fresh(&self.image.contents());
+        let (staged, number) = self.image.contents().unused();
         let image = self.image.write(collection, key, &staged, number)?;
         self.stage(&staged, content)?;
         self.append(image)
@@ -137,14 +137,6 @@ impl Drop for Transaction<'_> {
             let _ = self.discard();
         }
     }
-}
-
-/// A content number that no file has, and the name of its staging file.
-fn fresh(contents: &Contents) -> (String, u32) {
-    let files = contents.directories.values().chain([&contents.staging]);
-    let last = files.flat_map(|files| files.values()).max().copied().unwrap_or(0);
-    let mut names = (last + 1..).map(|number| (format!("{number}.tmp"), number));
-    names.find(|(name, _)| !contents.staging.contains_key(name)).expect("fewer files than numbers")
 }
 
 /// The rename by which a Delete gives its key the lowered name, if the image shows one.

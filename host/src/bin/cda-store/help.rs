@@ -1,0 +1,88 @@
+//! What `--help` prints.
+use crate::failure::Failure;
+use std::fmt::Write;
+
+struct Topic {
+    name: &'static str,
+    usage: &'static str,
+    /// One line for the list of commands.
+    line: &'static str,
+    more: &'static str,
+}
+
+const UPDATE: &str = "The operations are one transaction. An update that was interrupted before is recovered first. `cda-store cuts` shows what an interruption
+of this one would leave.
+  --stop-after N   For tests: the process ends behind step N of the commit, as if it were killed there, with status 3.";
+
+const TOPICS: [Topic; 10] = [
+    Topic {
+        name: "list",
+        usage: "list DIR",
+        line: "print collections, files and their sizes",
+        more: "Sizes are in bytes. Nothing is changed. A last line says if an interrupted update stands.",
+    },
+    Topic {
+        name: "recover",
+        usage: "recover DIR",
+        line: "end an interrupted update: undo it, or clear up behind it",
+        more: "Prints the file steps that recovery carried out. Nothing is done where no update was interrupted.",
+    },
+    Topic {
+        name: "put",
+        usage: "put DIR COLLECTION/KEY FILE [COLLECTION/KEY FILE ..]",
+        line: "write files",
+        more: "The key is lowered. A collection that is missing is made.",
+    },
+    Topic { name: "delete", usage: "delete DIR COLLECTION/KEY ..", line: "delete files", more: "The key is lowered." },
+    Topic {
+        name: "copy",
+        usage: "copy DIR FROM TO",
+        line: "copy a collection in place of another",
+        more: "A collection that is copied onto itself ends empty, as in the original.",
+    },
+    Topic { name: "create", usage: "create DIR COLLECTION ..", line: "create collections", more: "It is refused where one exists." },
+    Topic { name: "drop", usage: "drop DIR COLLECTION ..", line: "delete collections with their files", more: "It is refused where one is missing." },
+    Topic { name: "clear", usage: "clear DIR COLLECTION ..", line: "delete all files of collections", more: "The collections stay." },
+    Topic {
+        name: "apply",
+        usage: "apply DIR SCRIPT",
+        line: "several operations as one transaction",
+        more: "A line of the script is a command from put to clear without DIR, such as: put db/a new.bin. # begins a remark.",
+    },
+    Topic {
+        name: "cuts",
+        usage: "cuts DIR|IMAGE [OPERATION WORDS ..] [--svg FILE]",
+        line: "what a cut leaves, for each step of an update",
+        more: "For each step n of the commit: the step, and what recovery leaves of a cut behind it. Nothing is changed and nothing is read but names.
+OPERATION is a command from put to apply, without DIR: cda-store cuts store put db/a new.bin. It is taken upon what
+recovery would make of DIR. Without it, the update is the one that was recorded in DIR and not committed, or that an image file holds
+(document 01, 'How a store is handed over').
+  --svg FILE       Draws a picture too.",
+    },
+];
+
+const STATUS: &str =
+    "Exit status: 0 done; 1 refused (the number and why are printed); 2 a file call failed, or something stands in DIR that no store has;
+3 stopped by --stop-after; 64 the command line is wrong.
+";
+
+/// Whether a command records operations and commits them.
+pub fn is_update(name: &str) -> bool {
+    !["list", "recover", "cuts"].contains(&name)
+}
+
+/// The help of a command, if there is one of that name.
+pub fn of(name: &str) -> Result<String, Failure> {
+    let topic = TOPICS.iter().find(|topic| topic.name == name);
+    let Topic { usage, line, more, .. } = topic.ok_or_else(|| Failure::Usage(format!("no command is called {name}")))?;
+    let (option, update) = if is_update(name) { (" [--stop-after N]", format!("{UPDATE}\n")) } else { ("", String::new()) };
+    Ok(format!("Usage: cda-store {usage}{option}\n\n{name}: {line}.\n{more}\n{update}\n{STATUS}"))
+}
+
+pub fn overview() -> String {
+    let mut text = "Usage: cda-store COMMAND ..\n\nA store of collections on a directory, updated by transactions.\n\n".to_string();
+    for topic in &TOPICS {
+        let _ = writeln!(text, "  {:8} {}", topic.name, topic.line);
+    }
+    text + "\ncda-store COMMAND --help says more. DIR must exist; a store needs nothing in it.\n\n" + STATUS
+}

@@ -1,0 +1,106 @@
+//! Listing, recovery and transactions on a directory.
+use crate::{failure::Failure, operation::Operation, progress::Progress};
+use cda_store::{Event, FileStore, Plan, scan};
+use std::{
+    fmt::Write,
+    fs,
+    path::Path,
+    process::exit,
+    sync::{Arc, Mutex, MutexGuard},
+};
+
+/// The exit status after `--stop-after`.
+const STOPPED: i32 = 3;
+
+/// What stands in the store, with sizes. Nothing is changed.
+pub fn list(store: &Path) -> Result<String, Failure> {
+    let image = scan(store)?;
+    let mut text = String::new();
+    for (directory, files) in image.contents().directories {
+        let _ = writeln!(text, "{directory}/");
+        for file in files.keys() {
+            let path = store.join("collections").join(&directory).join(file);
+            let size = fs::metadata(&path).map_err(Failure::at(&path))?.len();
+            let _ = writeln!(text, "{directory}/{file} {size}");
+        }
+    }
+    if image.has_pending_work()? {
+        text += "An update was interrupted here; cda-store recover ends it.\n";
+    }
+    Ok(text)
+}
+
+/// Opens the store, which recovers it, and tells the steps.
+pub fn recover(store: &Path) -> Result<String, Failure> {
+    let watch = Watch::new(None);
+    open(store, &watch)?;
+    let steps = &seen(&watch).recovery;
+    let told = steps.iter().enumerate().map(|(i, step)| format!("{:4}  {step}\n", i + 1));
+    let end = match steps.len() {
+        0 => "Nothing to recover.\n".to_string(),
+        n => format!("Recovered in {}.\n", steps_in_words(n)),
+    };
+    Ok(told.collect::<String>() + &end)
+}
+
+/// Carries out the operations as one transaction.
+pub fn update(store: &Path, operations: &[Operation], stop_after: Option<u64>) -> Result<String, Failure> {
+    let watch = Watch::new(stop_after);
+    let store = open(store, &watch)?;
+    let mut transaction = store.begin()?;
+    operations.iter().try_for_each(|operation| operation.record(&mut transaction))?;
+    if let Some(n) = stop_after.filter(|n| transaction.image().commit_step(*n).is_err()) {
+        return Err(Failure::Usage(format!("the commit has no step {n}")));
+    }
+    transaction.commit()?;
+    let watch = seen(&watch);
+    let recovered = match watch.recovery.len() {
+        0 => String::new(),
+        n => format!("Recovered an interrupted update first, in {}.\n", steps_in_words(n)),
+    };
+    Ok(format!("{recovered}Committed in {}.\n", steps_in_words(watch.committed)))
+}
+
+fn steps_in_words(n: usize) -> String {
+    if n == 1 { "1 step".into() } else { format!("{n} steps") }
+}
+
+fn open(store: &Path, watch: &Shared) -> Result<FileStore, Failure> {
+    let watch = Arc::clone(watch);
+    Ok(FileStore::open_observed(store, move |event| seen(&watch).see(event))?)
+}
+
+/// The store's observer and the command look at the same.
+type Shared = Arc<Mutex<Watch>>;
+
+fn seen(watch: &Shared) -> MutexGuard<'_, Watch> {
+    watch.lock().expect("one thread")
+}
+
+/// What was seen of the steps.
+struct Watch {
+    stop_after: Option<u64>,
+    recovery: Vec<String>,
+    committed: usize,
+    progress: Progress,
+}
+
+impl Watch {
+    fn new(stop_after: Option<u64>) -> Shared {
+        Arc::new(Mutex::new(Watch { stop_after, recovery: Vec::new(), committed: 0, progress: Progress::new() }))
+    }
+
+    fn see(&mut self, event: &Event) {
+        let step = event.step;
+        match (event.plan, event.done) {
+            (_, false) => self.progress.tell(|| format!("step {}: {step}", event.number)),
+            (Plan::Recover, true) => self.recovery.push(step.to_string()),
+            (Plan::Commit, true) => self.committed += 1,
+        }
+        let done = event.number - u64::from(!event.done);
+        if event.plan == Plan::Commit && self.stop_after == Some(done) {
+            println!("Stopped after step {done}; cda-store recover ends the update.");
+            exit(STOPPED);
+        }
+    }
+}

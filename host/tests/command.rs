@@ -1,0 +1,293 @@
+//! The command `cda-store`, run as a process.
+mod common;
+
+use cda_store::{Contents, Image};
+use common::Folder;
+use std::{
+    collections::BTreeMap,
+    fs,
+    path::PathBuf,
+    process::{Command, Output},
+};
+
+const COMMANDS: [&str; 10] = ["list", "recover", "put", "delete", "copy", "create", "drop", "clear", "apply", "cuts"];
+
+/// Document 01's ten-step case.
+const TEN_STEPS: &str = "\
+The commit has 10 steps. Cut behind step n and recovered, the store has:
+
+ n  step                       files
+ 0  -                          earlier
+ 1  mark the log Committing    lost db/a (no backup yet)
+ 2  sync the staging files     lost db/a (no backup yet)
+ 3  sync the log               lost db/a (no backup yet)
+ 4  rename db/a to db/a.bak    earlier
+ 5  move staged 2.tmp to db/a  earlier
+ 6  sync directory db          earlier
+ 7  sync the collections       earlier
+ 8  remove the log             later
+ 9  sync the journal           later
+10  remove db/a.bak            later
+
+11 cuts: 5 earlier, 3 lost, 3 later.
+";
+
+/// A folder with a store in `store` and the files that are put.
+struct Place(Folder);
+
+impl Place {
+    fn new() -> Place {
+        let folder = Folder::new();
+        fs::create_dir(folder.0.join("store")).unwrap();
+        fs::write(folder.0.join("old"), "old").unwrap();
+        fs::write(folder.0.join("new"), "newer").unwrap();
+        Place(folder)
+    }
+
+    /// With db/a in it.
+    fn with_a() -> Place {
+        let place = Place::new();
+        place.done("put store db/a old");
+        place
+    }
+
+    fn run(&self, line: &str) -> Output {
+        let mut command = Command::new(env!("CARGO_BIN_EXE_cda-store"));
+        command.current_dir(&self.0.0).args(line.split_whitespace()).output().unwrap()
+    }
+
+    /// What the command prints, with its exit status.
+    fn said(&self, line: &str) -> (i32, String) {
+        let output = self.run(line);
+        let text = [output.stdout, output.stderr].concat();
+        (output.status.code().unwrap(), String::from_utf8(text).unwrap())
+    }
+
+    fn done(&self, line: &str) -> String {
+        let (status, text) = self.said(line);
+        assert_eq!(status, 0, "{line}: {text}");
+        text
+    }
+
+    fn fails(&self, status: i32, line: &str, why: &str) {
+        let before = self.0.everything();
+        let (got, text) = self.said(line);
+        assert_eq!(got, status, "{line}: {text}");
+        assert!(text.contains(why), "{line}: {text}");
+        assert_eq!(files(before), files(self.0.everything()), "{line} changes nothing");
+    }
+}
+
+/// The files alone: a first begin makes directories.
+fn files(everything: BTreeMap<PathBuf, Option<Vec<u8>>>) -> Vec<(PathBuf, Vec<u8>)> {
+    everything.into_iter().filter_map(|(path, content)| Some((path, content?))).collect()
+}
+
+#[test]
+fn every_command_does_its_work() {
+    let place = Place::new();
+    assert_eq!(place.done("create store db spare"), "Committed in 10 steps.\n");
+    assert_eq!(place.done("put store db/A old db/b new"), "Committed in 9 steps.\n");
+    assert_eq!(place.done("list store"), "db/\ndb/a 3\ndb/b 5\nspare/\n");
+    place.done("copy store db other");
+    place.done("delete store db/a");
+    place.done("clear store other");
+    place.done("drop store spare");
+    assert_eq!(place.done("list store"), "db/\ndb/b 5\nother/\n");
+    assert_eq!(place.done("recover store"), "Nothing to recover.\n");
+}
+
+#[test]
+fn a_script_is_one_transaction() {
+    let place = Place::with_a();
+    fs::write(place.0.0.join("script"), "# both or none\nput db/a new\n\ncreate other # empty\n").unwrap();
+    place.done("apply store script");
+    assert_eq!(place.done("list store"), "db/\ndb/a 5\nother/\n");
+    fs::write(place.0.0.join("script"), "delete db/a\ndrop missing\n").unwrap();
+    place.fails(1, "apply store script", "refusal 7");
+    fs::write(place.0.0.join("script"), "delete db/a\nput db/a\n").unwrap();
+    place.fails(64, "apply store script", "script, line 2");
+}
+
+#[test]
+fn failures_are_told_apart() {
+    let place = Place::with_a();
+    place.fails(1, "drop store missing", "refusal 7 (CollectionNotFound)");
+    place.fails(1, "put store db/.. new", "refusal 6 (InvalidName)");
+    place.fails(1, "create store db", "refusal 9");
+    place.fails(1, "cuts store", "refusal 4");
+    place.fails(2, "put store db/a missing", "missing: ");
+    place.fails(2, "list nowhere", "nowhere");
+    fs::create_dir(place.0.0.join("store/collections/db/folder")).unwrap();
+    place.fails(2, "list store", "store/collections/db/folder");
+    place.fails(2, "put store db/a new", "store/collections/db/folder");
+    for line in [
+        "",
+        "frob",
+        "frob store",
+        "list",
+        "list store more",
+        "put store",
+        "put store db/a",
+        "put store a new",
+        "copy store db",
+        "apply store",
+    ] {
+        place.fails(64, line, "see cda-store --help");
+    }
+    for line in
+        ["put store db/a new --svg x", "list store --stop-after 1", "put store db/a new --stop-after", "put store db/a new --stop-after x"]
+    {
+        place.fails(64, line, "see cda-store --help");
+    }
+}
+
+#[test]
+fn every_command_has_help() {
+    let place = Place::new();
+    let overview = place.done("--help");
+    for command in COMMANDS {
+        assert!(overview.contains(&format!("\n  {command} ")), "{command} in the overview");
+        let help = place.done(&format!("{command} --help"));
+        assert!(help.starts_with(&format!("Usage: cda-store {command} DIR")), "{help}");
+        assert_eq!(help, place.done(&format!("help {command}")));
+        assert!(help.contains("Exit status: 0 done; 1 refused"));
+    }
+    place.fails(64, "help frob", "no command is called frob");
+}
+
+#[test]
+fn the_ten_step_case() {
+    let place = Place::with_a();
+    let before = place.0.everything();
+    let table = place.done("cuts store put db/a new");
+    assert!(table.starts_with(TEN_STEPS), "{table}");
+    assert_eq!(before, place.0.everything());
+    assert_eq!(place.said("put store db/a new --stop-after 0").0, 3);
+    assert_eq!(place.done("cuts store"), table, "the same for the recorded transaction");
+}
+
+#[test]
+fn an_image_file_holds_a_transaction() {
+    let files = [("a".to_string(), 7)].into();
+    let rest = Contents { directories: [("db".to_string(), files)].into(), ..Contents::default() };
+    let image = rest.image().and_then(|image: Image| image.begin()?.write("db", "a", "s.tmp", 9)).unwrap();
+    let place = Place::new();
+    fs::write(place.0.0.join("image"), image.bytes()).unwrap();
+    assert!(place.done("cuts image").starts_with(&TEN_STEPS.replace("2.tmp", "s.tmp")));
+    fs::write(place.0.0.join("image"), "no image").unwrap();
+    place.fails(1, "cuts image", "refusal 1");
+}
+
+/// The first word that the table says of each cut.
+fn claims(table: &str) -> Vec<&str> {
+    let rows = table.lines().skip(3).take_while(|line| !line.is_empty());
+    rows.map(|row| row.rsplit("  ").next().unwrap().split(' ').next().unwrap()).collect()
+}
+
+/// What the table says of each cut is what `recover` leaves on disk.
+#[test]
+fn the_table_holds_on_disk() {
+    let scripts = [
+        "put db/a new",
+        "put db/a new\nput db/b old\nput n/k new",
+        "copy db z\nclear db\ncreate empty",
+        "put db/a new\ndrop db",
+        "delete db/a\ncopy db e\nput e/k new",
+    ];
+    for script in scripts {
+        let place = || {
+            let place = Place::with_a();
+            place.done("put store e/k old");
+            fs::write(place.0.0.join("script"), script).unwrap();
+            place
+        };
+        let updated = place();
+        let (table, earlier) = (updated.done("cuts store apply script"), updated.done("list store"));
+        updated.done("apply store script");
+        let later = updated.done("list store");
+        for (n, claim) in claims(&table).into_iter().enumerate() {
+            let place = place();
+            let (status, text) = place.said(&format!("apply store script --stop-after {n}"));
+            assert_eq!((status, text), (3, format!("Stopped after step {n}; cda-store recover ends the update.\n")));
+            place.done("recover store");
+            let left = place.done("list store");
+            let got = if left == earlier {
+                "earlier"
+            } else if left == later {
+                "later"
+            } else {
+                "neither"
+            };
+            let claim = if ["earlier", "later"].contains(&claim) { claim } else { "neither" };
+            assert_eq!(got, claim, "{script:?} cut behind {n}: {left}");
+        }
+    }
+    Place::with_a().fails(64, "put store db/a new --stop-after 11", "the commit has no step 11");
+}
+
+#[test]
+fn an_interrupted_update_is_told_until_it_is_recovered() {
+    let place = Place::with_a();
+    place.said("put store db/a new --stop-after 4");
+    assert_eq!(place.done("list store"), "db/\ndb/a.bak 3\nAn update was interrupted here; cda-store recover ends it.\n");
+    let recovered = "   1  rename db/a.bak to db/a\n   2  remove the log\n   3  remove staged 2.tmp\nRecovered in 3 steps.\n";
+    assert_eq!(place.done("recover store"), recovered);
+    assert_eq!(place.done("list store"), "db/\ndb/a 3\n");
+}
+
+#[test]
+fn an_update_recovers_first() {
+    let place = Place::with_a();
+    place.said("put store db/a new --stop-after 8");
+    assert_eq!(place.done("put store db/b old"), "Recovered an interrupted update first, in 1 step.\nCommitted in 8 steps.\n");
+    assert_eq!(place.done("list store"), "db/\ndb/a 5\ndb/b 3\n");
+}
+
+#[test]
+fn reasons_are_told() {
+    let place = Place::with_a();
+    place.done("put store e/k old");
+    let told = |script: &str, words: &[&str]| {
+        fs::write(place.0.0.join("script"), script).unwrap();
+        let table = place.done("cuts store apply script");
+        words.iter().for_each(|words| assert!(table.contains(words), "{words}: {table}"));
+    };
+    told("put n/k new", &["kept n/ (made by this update)\n", "10 cuts: 4 earlier, 4 kept, 2 later."]);
+    told("put db/a old\nput db/a new", &["changed db/a (written by this update)\n"]);
+    told("put db/a new\ndrop db", &["changed db/a (written by this update); kept db/a.bak (a name in .bak)\n"]);
+    told("copy db z\ncopy e z", &["kept z/, z/a (made by this update)\n"]);
+    told("drop db\ncopy db z", &["This commit is refused, and its last steps roll it back: refusal 14"]);
+    place.done("put store db/t.tmp old");
+    told("clear db", &["lost db/t.tmp (a name in .tmp)\n"]);
+}
+
+#[test]
+fn the_picture_is_well_formed() {
+    let place = Place::with_a();
+    place.done("put store db/<&\"'> old");
+    assert!(place.done("cuts store put db/a new db/<&\"'> new --svg cuts.svg").contains("lost db/<&\"'>"));
+    let picture = fs::read_to_string(place.0.0.join("cuts.svg")).unwrap();
+    assert_eq!(open_elements(&picture), Vec::<String>::new());
+    for words in ["&lt;&amp;&quot;'&gt;", ">earlier<", ">later<", ">lost<"] {
+        assert!(picture.contains(words), "{words}");
+    }
+    place.fails(2, "cuts store put db/a new --svg nowhere/cuts.svg", "nowhere/cuts.svg");
+}
+
+/// The elements that stay open; a tag or a text that XML doesn't have is a panic.
+fn open_elements(xml: &str) -> Vec<String> {
+    let mut open = Vec::new();
+    for piece in xml.split('<').skip(1) {
+        let (tag, text) = piece.split_once('>').expect("a tag has an end");
+        assert!(!text.contains('>') && text.split('&').skip(1).all(|entity| entity.contains(';')), "{text}");
+        let name = tag.trim_matches('/').split(' ').next().unwrap().to_string();
+        assert!(tag.matches('"').count() % 2 == 0 && !name.is_empty(), "{tag}");
+        match (tag.starts_with('/'), tag.ends_with('/')) {
+            (true, _) => assert_eq!(open.pop(), Some(name)),
+            (false, false) => open.push(name),
+            (false, true) => {}
+        }
+    }
+    open
+}

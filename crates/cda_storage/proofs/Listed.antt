@@ -14,7 +14,6 @@ use Rattle.field.specs.Writing as field
 use Rattle.field.proofs.Written.{written-front}
 use Rattle.spans.specs.Spans.{nameOf, Sound}
 use Rattle.store.specs.Stores.{storeOf, SoundStore}
-use Rattle.local_collection.specs.Keys.{Lists}
 use Rattle.lend.specs.Lending.{Lends}
 use Rattle.lend.specs.declared.Named.{Named}
 use Rattle.handover.specs.Contract.{Gives}
@@ -33,9 +32,9 @@ module _ (c : Name) (image : Bytes) (len : ℕ) {o : Opened} (w : Opens image (l
   pub keys-ask : (SoundStore src (o .store) × Sound src (r .name)) × (length (keyList (nameOf src (r .name)) (storeOf src (o .store))) ≤ len)
   keys-ask = ((lent-sound l (w .held z), further (r .end) (g .names v) .sound), subst (λ (b : Bytes). length b ≤ len) (sym same) room)
 
-  pub keys-listed : {out out' : Bytes} {written written' : ℕ} → length out ≡ len → Lists (keyList (nameOf src (r .name)) (storeOf src (o .store))) out out' written' → Gives (listKeys c image len) 0 out out' written written'
+  pub keys-listed : {out out' : Bytes} {written written' : ℕ} → length out ≡ len → field.Writes (keyList (nameOf src (r .name)) (storeOf src (o .store))) 0 out out' written' → Gives (listKeys c image len) 0 out out' written written'
   keys-listed {out} {out'} {written} {written'} e k =
       keys-gives c image len w z (sym (g .valid) ∙ v) (record {
-        same = k .out ∙ ap (λ (b : Bytes). field.written 0 b out) same ∙ written-front (keyList c (storeOf image (o .store))) out (subst (λ (n : ℕ). length (keyList c (storeOf image (o .store))) ≤ n) (sym e) room);
+        same = k .same ∙ ap (λ (b : Bytes). field.written 0 b out) same ∙ written-front (keyList c (storeOf image (o .store))) out (subst (λ (n : ℕ). length (keyList c (storeOf image (o .store))) ≤ n) (sym e) room);
         size = k .size ∙ ap length same;
       })

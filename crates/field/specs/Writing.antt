@@ -1,4 +1,5 @@
 -- What writing into lent bytes leaves. 01, Sixteen numbers: "the lent output keeps its bytes behind them".
+use mathlib.Core.Path.{_≡_}
 use Prim.Native.Nat.{ℕ, _+_}
 use lib.ListN.{length}
 use lib.Seq.{paste}
@@ -9,6 +10,11 @@ use Rattle.model.specs.Field.{Field, encodeField}
 -- The lent bytes after some bytes are written at a place; where they have no room nothing changes.
 unfoldable pub written : ℕ → Bytes → Bytes → Bytes
 written at bytes out = if leb (at + length bytes) (length out) then paste out at bytes (length bytes) else out
+
+-- The same, and how many bytes these are, whether they had room or not.
+pub record Writes (bytes : Bytes) (at : ℕ) (before after : Bytes) (n : ℕ) : Type 0 where
+  pub same : after ≡ written at bytes before
+  pub size : n ≡ length bytes
 
 -- The field of a tag and a value.
 abbrev pub field : ℕ → Bytes → Field

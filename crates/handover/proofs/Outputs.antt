@@ -26,7 +26,7 @@ use Rattle.local_storage.specs.declared.Recorded.{Recorded}
 use Rattle.field.proofs.Written.{written-front}
 use Rattle.model.specs.Step.{stepField}
 use Rattle.steps.specs.Steps.{stepOf}
-use Rattle.steps.specs.Fields as steps
+use Rattle.field.specs.Writing as writing
 use Rattle.steps.specs.declared.Step.{Step}
 use Rattle.handover.specs.Contract.{handsBack, Gives, StepGives, Writes}
 use Rattle.handover.specs.Opening.{Held, Opens, fieldOf, stepped}
@@ -95,7 +95,7 @@ pub field-of : (src : Bytes) (last : Step) (n : ℕ) → (n ≡ 0 → ⊥) → f
 unfolding fieldOf
 field-of src last n h = rw (ne-eqb n 0 h)
 
-pub field-written : (src : Bytes) (last : Step) (n : ℕ) {out out' : Bytes} {count : ℕ} → (n ≡ 0 → ⊥) → length (fieldOf src last n) ≤ length out → steps.Writes (stepField (stepOf src last)) out out' count → Writes (fieldOf src last n) out out' count
+pub field-written : (src : Bytes) (last : Step) (n : ℕ) {out out' : Bytes} {count : ℕ} → (n ≡ 0 → ⊥) → length (fieldOf src last n) ≤ length out → writing.Writes (stepField (stepOf src last)) 0 out out' count → Writes (fieldOf src last n) out out' count
 field-written src last n {out} h room w =
     let e = field-of src last n h in
     record { same = w .same ∙ written-front (stepField (stepOf src last)) out (subst (λ (b : Bytes). length b ≤ length out) e room) ∙ rw e; size = w .size ∙ ap length (sym e) }

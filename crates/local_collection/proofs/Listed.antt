@@ -14,7 +14,7 @@ use Rattle.model.specs.Field.{encodeField}
 use Rattle.model.specs.Store.{Store, files}
 use Rattle.model.specs.Record.{otherCase, keyList}
 use Rattle.laws.specs.Tests.{and-both}
-use Rattle.field.specs.Writing.{written, field}
+use Rattle.field.specs.Writing.{written, Writes, field}
 use Rattle.field.proofs.Written.{written-written, written-nil, length-written}
 use Rattle.spans.specs.Spans.{nameOf, Sound}
 use Rattle.spans.specs.declared.NameRef.{NameRef}
@@ -26,7 +26,7 @@ use Rattle.store.proofs.Live.{rest, finished, sound-at}
 use Rattle.store.specs.Nodes.{isFileOf}
 use Rattle.store.proofs.Nodes.{file-listed, not-listed, file-named}
 use Rattle.local_collection.specs.declared.OtherCase.the-variants.{Is, Nothing}
-use Rattle.local_collection.specs.Keys.{isKey, isKeyOf, keysOf, OtherCaseOf, Puts, Lists}
+use Rattle.local_collection.specs.Keys.{isKey, isKeyOf, keysOf, OtherCaseOf, Puts}
 
 -- The tests of the code, each in its two ways.
 module _ (f : Name) where
@@ -213,9 +213,9 @@ module _ {src : Bytes} {t : Table} {dir : NameRef} {before now : Bytes} {at i : 
   unfolding keysOf files
   none-left = ap (keysOf (nameOf src dir)) (finished src i (w .sound .sized) h)
 
-  pub listed-all : Lists (keysOf (nameOf src dir) (mapOf src t)) before now at
+  pub listed-all : Writes (keysOf (nameOf src dir) (mapOf src t)) 0 before now at
   listed-all = record {
-    out = sym (written-nil at now) ∙ ap (λ (l : Bytes). written at l now) (sym none-left) ∙ w .wrote;
+    same = sym (written-nil at now) ∙ ap (λ (l : Bytes). written at l now) (sym none-left) ∙ w .wrote;
     size = let e : length (keysOf (nameOf src dir) (drop i (mapOf src t))) ≡ 0 = ap length none-left in omega (arith, w .told);
   }
 
@@ -225,6 +225,6 @@ module _ (c : Name) (s : Store) where
   unfolding keysOf keyList
   keys-room h = h
 
-  pub keys-listed : {before after : Bytes} {n : ℕ} → Lists (keysOf c (s .tree)) before after n → Lists (keyList c s) before after n
+  pub keys-listed : {before after : Bytes} {n : ℕ} → Writes (keysOf c (s .tree)) 0 before after n → Writes (keyList c s) 0 before after n
   unfolding keysOf keyList
   keys-listed w = w

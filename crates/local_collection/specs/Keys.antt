@@ -57,8 +57,3 @@ pub record Puts (key : Bytes) (at : ℕ) (before after : Bytes) (n : ℕ) : Type
   pub out : after ≡ written at (encodeField (field 3 key)) before
   pub size : n ≡ length (encodeField (field 3 key))
   pub small : n ≤ 67
-
--- What `list_keys` does: the lent bytes with the keys' fields at the start, and how long these are.
-pub record Lists (keys before after : Bytes) (n : ℕ) : Type 0 where
-  pub out : after ≡ written 0 keys before
-  pub size : n ≡ length keys

@@ -5,13 +5,13 @@ ghost use lib.ListN.{length};
 ghost use Rattle.model.specs.Base.{sameBytes};
 ghost use Rattle.model.specs.Name.{lower};
 ghost use Rattle.model.specs.Store.{files};
-ghost use Rattle.field.specs.Writing.{written, field};
+ghost use Rattle.field.specs.Writing.{written, Writes, field};
 ghost use Rattle.spans.specs.Spans.{nameOf, Sound};
 ghost use Rattle.model.specs.Record.{keyList};
 ghost use Rattle.store.specs.Tables.{nodeOf, mapOf, SoundNode, SoundTable};
 ghost use Rattle.store.specs.Stores.{storeOf, SoundStore};
 ghost use Rattle.steps.specs.Steps.{FileName, Fits};
-ghost use Rattle.local_collection.specs.Keys.{isKey, isKeyOf, keysOf, Puts, Lists, OtherCaseOf, Normalized};
+ghost use Rattle.local_collection.specs.Keys.{isKey, isKeyOf, keysOf, Puts, OtherCaseOf, Normalized};
 use spans::NameRef;
 use steps::Step;
 use store::Held;
@@ -142,7 +142,7 @@ fn put_key(src: &[u8], file: NameRef, out: &mut [u8], at: usize) -> usize
 // The keys of a tree's directory as fields at the start of the output, and how long they are.
 fn put_keys(src: &[u8], t: Table, dir: NameRef, out: &mut [u8]) -> usize
     requires { ⌜ (SoundTable (now src) t × Sound (now src) dir) × (length (keysOf (nameOf (now src) dir) (mapOf (now src) t)) ≤ length (now out)) ⌝ }
-    ensures { λ r. ⌜ Lists (keysOf (nameOf (now (src .entry)) dir) (mapOf (now (src .entry)) t)) (now (out .entry)) (now (out .exit)) r ⌝ }
+    ensures { λ r. ⌜ Writes (keysOf (nameOf (now (src .entry)) dir) (mapOf (now (src .entry)) t)) 0 (now (out .entry)) (now (out .exit)) r ⌝ }
 {
     let n = t.len;
     let mut at: usize = 0;
@@ -161,7 +161,7 @@ fn put_keys(src: &[u8], t: Table, dir: NameRef, out: &mut [u8]) -> usize
 // 01, Modules in port order: "key list (0x03 fields)" (`list_keys_in_dir`); a missing collection reads as empty.
 pub fn list_keys(src: &[u8], s: Store, dir: NameRef, out: &mut [u8]) -> usize
     requires { ⌜ (SoundStore (now src) s × Sound (now src) dir) × (length (keyList (nameOf (now src) dir) (storeOf (now src) s)) ≤ length (now out)) ⌝ }
-    ensures { λ r. ⌜ Lists (keyList (nameOf (now (src .entry)) dir) (storeOf (now (src .entry)) s)) (now (out .entry)) (now (out .exit)) r ⌝ }
+    ensures { λ r. ⌜ Writes (keyList (nameOf (now (src .entry)) dir) (storeOf (now (src .entry)) s)) 0 (now (out .entry)) (now (out .exit)) r ⌝ }
 {
     put_keys(src, s.tree, dir, out)
 }

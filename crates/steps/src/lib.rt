@@ -10,7 +10,7 @@ ghost use Rattle.model.specs.Map.{look, put, del};
 ghost use Rattle.model.specs.Field.{encodeField};
 ghost use Rattle.model.specs.Step.{fails, newFile, zeroSeparated, stepField};
 ghost use Rattle.model.specs.Answers.{commitNumber};
-ghost use Rattle.field.specs.Writing.{written, field};
+ghost use Rattle.field.specs.Writing.{written, Writes, field};
 ghost use Rattle.spans.specs.Spans.{nameOf, lengthOf, Sound};
 ghost use Rattle.store.specs.Places.{tableRoom};
 ghost use Rattle.store.specs.Tables.{keyOf, mapOf, SoundTable, Holds};
@@ -18,7 +18,6 @@ ghost use Rattle.store.specs.Stores.{storeOf, SoundStore};
 ghost use Rattle.plans.specs.Machine.{single};
 ghost use Rattle.plans.specs.ModelPlans.{plain, careful, fault};
 ghost use Rattle.steps.specs.Steps.{stepOf, SoundStep, Fits, Allowed, Applied};
-ghost use Rattle.steps.specs.Fields.{Writes};
 ghost use Rattle.steps.specs.CodeRuns.{SoundRun, Fresh, Follows, Refuses};
 use spans::NameRef;
 use store::Held;
@@ -332,7 +331,7 @@ pub fn refuse(run: Run) -> Run
 
 // A field of a tag alone. It returns how long the field is; one that has no room is not written.
 fn write_tag(tag: u8, out: &mut [u8]) -> usize
-    ensures { λ r. ⌜ Writes (encodeField (field tag [])) (now (out .entry)) (now (out .exit)) r ⌝ }
+    ensures { λ r. ⌜ Writes (encodeField (field tag [])) 0 (now (out .entry)) (now (out .exit)) r ⌝ }
 {
     field::put_field_head(out, 0, tag, 0);
     3
@@ -341,7 +340,7 @@ fn write_tag(tag: u8, out: &mut [u8]) -> usize
 // The same with a name.
 fn write_one(src: &[u8], tag: u8, a: NameRef, out: &mut [u8]) -> usize
     requires { ⌜ Sound (now src) a ⌝ }
-    ensures { λ r. ⌜ Writes (encodeField (field tag (nameOf (now (src .entry)) a))) (now (out .entry)) (now (out .exit)) r ⌝ }
+    ensures { λ r. ⌜ Writes (encodeField (field tag (nameOf (now (src .entry)) a))) 0 (now (out .entry)) (now (out .exit)) r ⌝ }
 {
     names::put_name_field(src, a, out, 0, tag);
     3 + spans::length_of(a)
@@ -369,7 +368,7 @@ fn put_two(src: &[u8], a: NameRef, b: NameRef, out: &mut [u8]) -> usize
 // A field of two names.
 fn write_two(src: &[u8], tag: u8, a: NameRef, b: NameRef, out: &mut [u8]) -> usize
     requires { ⌜ Sound (now src) a × Sound (now src) b ⌝ }
-    ensures { λ r. ⌜ Writes (encodeField (field tag (zeroSeparated (nameOf (now (src .entry)) a ∷ nameOf (now (src .entry)) b ∷ [])))) (now (out .entry)) (now (out .exit)) r ⌝ }
+    ensures { λ r. ⌜ Writes (encodeField (field tag (zeroSeparated (nameOf (now (src .entry)) a ∷ nameOf (now (src .entry)) b ∷ [])))) 0 (now (out .entry)) (now (out .exit)) r ⌝ }
 {
     let n = spans::length_of(a) + 1 + spans::length_of(b);
     if out.len() < 3 + n {
@@ -382,7 +381,7 @@ fn write_two(src: &[u8], tag: u8, a: NameRef, b: NameRef, out: &mut [u8]) -> usi
 // A field of three names.
 fn write_three(src: &[u8], tag: u8, a: NameRef, b: NameRef, c: NameRef, out: &mut [u8]) -> usize
     requires { ⌜ (Sound (now src) a × Sound (now src) b) × Sound (now src) c ⌝ }
-    ensures { λ r. ⌜ Writes (encodeField (field tag (zeroSeparated (nameOf (now (src .entry)) a ∷ nameOf (now (src .entry)) b ∷ nameOf (now (src .entry)) c ∷ [])))) (now (out .entry)) (now (out .exit)) r ⌝ }
+    ensures { λ r. ⌜ Writes (encodeField (field tag (zeroSeparated (nameOf (now (src .entry)) a ∷ nameOf (now (src .entry)) b ∷ nameOf (now (src .entry)) c ∷ [])))) 0 (now (out .entry)) (now (out .exit)) r ⌝ }
 {
     let n = spans::length_of(a) + 1 + spans::length_of(b) + 1 + spans::length_of(c);
     if out.len() < 3 + n {
@@ -396,7 +395,7 @@ fn write_three(src: &[u8], tag: u8, a: NameRef, b: NameRef, c: NameRef, out: &mu
 // The field of a step: 01, Listings and file steps, "A step is one field; names inside are parted by a zero byte."
 pub fn write_step(src: &[u8], x: Step, out: &mut [u8]) -> usize
     requires { ⌜ SoundStep (now src) x ⌝ }
-    ensures { λ r. ⌜ Writes (stepField (stepOf (now (src .entry)) x)) (now (out .entry)) (now (out .exit)) r ⌝ }
+    ensures { λ r. ⌜ Writes (stepField (stepOf (now (src .entry)) x)) 0 (now (out .entry)) (now (out .exit)) r ⌝ }
 {
     match x {
         Step::RewriteHeader => write_tag(0x20, out),

@@ -153,7 +153,7 @@ module _ {src : Bytes} {o : Operation} {p : Payload} (e : Encodes src o p) where
 
   pub payload-out : {at : ℕ} {out new : Bytes} → new ≡ written at (payloadOf p) out → WritesOp src o (encodePayload (opOf src o)) at out new (p .len)
   payload-out {at} {out} {new} w = record {
-    sound = λ h. record { out = rw (← (e .sound h)) w; size = payload-size ∙ ap length (e .sound h) };
+    sound = λ h. record { same = rw (← (e .sound h)) w; size = payload-size ∙ ap length (e .sound h) };
     unsound = λ h. (w ∙ ap (λ (v : Bytes). written at v out) (e .unsound h) ∙ written-nil at out, payload-size ∙ ap length (e .unsound h));
   }
 

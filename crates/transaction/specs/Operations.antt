@@ -8,7 +8,7 @@ use lib.ListN.{length, take, drop}
 use lib.Dec.{leb}
 use Rattle.model.specs.Base.{Bytes, if_then_else_}
 use Rattle.model.specs.Operation.{Op, write, delete, deleteAll, createCollection, deleteCollection, copyCollection, encodePayload, decodePayload}
-use Rattle.field.specs.Writing.{written}
+use Rattle.field.specs.Writing.{Writes}
 use Rattle.spans.specs.Spans.{nameOf, Sound}
 use Rattle.transaction.specs.declared.Operation.{Operation}
 use Rattle.transaction.specs.declared.Operation.the-variants as code
@@ -79,12 +79,7 @@ pub record Encodes (src : Bytes) (o : Operation) (p : Payload) : Type 0 where
   pub sound : SoundOp src o → payloadOf p ≡ encodePayload (opOf src o)
   pub unsound : (SoundOp src o → ⊥) → payloadOf p ≡ []
 
--- What a function does that writes some bytes at a place and says how many.
-pub record Writes (bytes : Bytes) (at : ℕ) (before after : Bytes) (n : ℕ) : Type 0 where
-  pub out : after ≡ written at bytes before
-  pub size : n ≡ length bytes
-
--- The same of bytes that are made of an operation: nothing is written where its names do not all lie in the bytes.
+-- What a function does that writes bytes made of an operation: nothing is written where its names do not all lie in the bytes.
 pub record WritesOp (src : Bytes) (o : Operation) (bytes : Bytes) (at : ℕ) (before after : Bytes) (n : ℕ) : Type 0 where
   pub sound : SoundOp src o → Writes bytes at before after n
   pub unsound : (SoundOp src o → ⊥) → (after ≡ before) × (n ≡ 0)

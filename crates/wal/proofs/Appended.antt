@@ -10,9 +10,9 @@ use Rattle.model.specs.Field.{littleEndian}
 use Rattle.model.specs.Log.{header, entry}
 use Rattle.model.specs.Operation.{encodePayload}
 use Rattle.laws.specs.AppendLaws.{entry-length}
-use Rattle.field.specs.Writing.{written}
+use Rattle.field.specs.Writing.{written, Writes}
 use Rattle.field.proofs.Written.{written-then, written-room, written-none}
-use Rattle.transaction.specs.Operations.{opOf, payloadOf, Encodes, Writes, WritesOp}
+use Rattle.transaction.specs.Operations.{opOf, payloadOf, Encodes, WritesOp}
 use Rattle.transaction.specs.declared.Operation.{Operation}
 use Rattle.transaction.specs.declared.Payload.{Payload}
 use Rattle.transaction.proofs.Encode.{empty-unsound, some-sound}
@@ -28,12 +28,12 @@ module _ (at n : ℕ) (p out : Bytes) (l : n ≡ length p) where
       8 + n ≤ length out - at → Writes (entry p) at out new (8 + n)
   unfolding entry littleEndian
   entry-written {crc} c a b d h = record {
-    out = written-then at (at + 8) (littleEndian 4 crc ++ littleEndian 4 n) p out (written-then at (at + 4) (littleEndian 4 crc) (littleEndian 4 n) out a b refl (omega arith)) d refl (omega arith) ∙ rw (c, l);
+    same = written-then at (at + 8) (littleEndian 4 crc ++ littleEndian 4 n) p out (written-then at (at + 4) (littleEndian 4 crc) (littleEndian 4 n) out a b refl (omega arith)) d refl (omega arith) ∙ rw (c, l);
     size = omega arith;
   }
 
   pub entry-none : length out - at < 8 + n → Writes (entry p) at out out (8 + n)
-  entry-none h = record { out = written-none at (entry p) out (omega (arith, entry-length p)); size = omega (arith, entry-length p) }
+  entry-none h = record { same = written-none at (entry p) out (omega (arith, entry-length p)); size = omega (arith, entry-length p) }
 
 -- The entry of an operation: that of its payload, and none without one.
 module _ {src : Bytes} {o : Operation} {p : Payload} {at : ℕ} {out : Bytes} (e : Encodes src o p) where

@@ -10,7 +10,7 @@ same-length : tie.Need-same-length
 same-length c = search needs
 
 returns : tie.Need-returns
-returns c = c .before .before .append-operation .ensures .sound (c .before .before .before .before .before .before .pre) .out
+returns c = c .before .before .append-operation .ensures .sound (c .before .before .before .before .before .before .pre) .same
 
 pub put-entry-spec : {M : Type 1} → statement M
 put-entry-spec = tie.close (tie.spec append-operation-requires same-length returns)

@@ -1,15 +1,35 @@
-// Runs the corners of document 01 that are not among the worked cases proved in crate model, and prints each with its answer.
-mod calls;
-mod cuts;
-mod image;
-mod logs;
-mod segments;
-mod stores;
-mod text;
+// Asks the exported entries the corners of document 01, and the published check value of the checksum, and prints what they answer. The
+// questions are data/questions and the expected lines stdout: `oracle/lists` makes both of oracle/corners.txt and the original's answers.
+mod show;
+
+fn one(tag: u8, buf: &[u8; 65536], len: usize) {
+    let value = wal::payload(buf, 0, len);
+    match tag {
+        questions::TEXT => show::put(value),
+        questions::ASKED | questions::ASKED_BY_01 => {
+            let mut out = [0u8; questions::ROOM];
+            let mut step = [0u8; questions::STEP_ROOM];
+            let answer = questions::ask(value, &mut out, &mut step);
+            show::answer(answer, &out, &step);
+        }
+        _ => show::put(b"unreadable\n"),
+    }
+}
+
+fn run(list: i32) {
+    let mut buf = io::large_buffer();
+    for k in 0..questions::MOST {
+        let p = questions::read_next(list, &mut buf);
+        if !p.there {
+            return;
+        }
+        one(p.tag, &buf, p.end);
+    }
+}
 
 fn main() {
-    segments::run();
-    logs::run();
-    stores::run();
-    cuts::run();
+    run(questions::open_list(b"questions"));
+    show::put(b"CRC-32 of 123456789: ");
+    io::print_hex(libc::STDOUT_FILENO, crc32::hash(b"123456789") as u64, 8);
+    show::put(b"\n");
 }

@@ -1,12 +1,14 @@
 //! Compares the port, the original and the plain reading of document 01.
 mod boundary;
 mod child;
+mod choice;
 mod corners;
 mod cuts;
 mod damaged;
 mod generate;
 #[cfg(feature = "host")]
 mod host;
+mod lists;
 mod panel;
 mod random;
 mod shrink;
@@ -26,6 +28,7 @@ diff boundary                    limits
 diff damaged [N]                 damaged logs and images, all or each N-th
 diff cuts SEED TRANSACTIONS      the original stopped after each step
 diff host SEED TURNS             the host and the original on one directory, in turns
+diff lists FILE ROOT             the lists of the programs corners and replay, and what these must print
 diff show CALL IMAGE             every judge's answer; the steps too, of a commit or recovery
 diff show restart IMAGE          the original opens a store, whose names may be such as 01 refuses
       --lent OUT STEP            lengths of the lent outputs
@@ -40,6 +43,7 @@ fn main() {
     let number = |i: usize| words.get(i).map(|w| w.parse().expect("a number"));
     let alone = panel.judges().len() == 1;
     match words.first().map(String::as_str) {
+        Some("lists") => lists::run(&mut panel, &words[1], &words[2]),
         Some(kind) if alone && kind != "show" => println!("{kind}: skipped, the plain reading stands alone"),
         Some("random") => random::run(&mut panel, number(1).unwrap_or(1), number(3).unwrap_or(0), number(2).unwrap_or(1000)),
         Some("corners") => corners::run(&mut panel, &words[1]),

@@ -1,5 +1,5 @@
 //! The judges side by side. The original decides; where it has no opinion, the plain reading of document 01 does.
-use crate::{shrink::shrink, text};
+use crate::{choice::Choice, shrink::shrink, text};
 use original::Original;
 use plain::Plain;
 use std::io::{IsTerminal, Write};
@@ -9,8 +9,8 @@ use store::{Answer, Call, Lent, NO_OPINION, Plan, Store, ask};
 /// The numbers that document 01 added and of which the original says nothing.
 const ADDED: [u32; 7] = [1, 2, 4, 5, 6, 10, 12];
 
-/// What the judges were asked when they differed.
-#[derive(Clone, PartialEq, Eq, Debug)]
+/// What the judges are asked.
+#[derive(Clone, PartialEq, Eq, PartialOrd, Ord, Debug)]
 pub struct Question {
     pub call: Call,
     pub image: Vec<u8>,
@@ -26,6 +26,8 @@ pub struct Panel {
     pub by_original: u64,
     /// Answers that were compared with the plain reading's, where the original has no opinion.
     pub by_01: u64,
+    /// The questions of this run that are kept for a list.
+    pub choice: Option<Choice>,
     numbers: [u64; 17],
     started: Instant,
     told: Instant,
@@ -35,7 +37,7 @@ impl Panel {
     pub fn new(with_original: bool) -> Panel {
         let original = with_original.then(Original::new);
         let (numbers, now) = ([0; 17], Instant::now());
-        Panel { original, port: port::port(), inputs: 0, by_original: 0, by_01: 0, numbers, started: now, told: now }
+        Panel { original, port: port::port(), inputs: 0, by_original: 0, by_01: 0, choice: None, numbers, started: now, told: now }
     }
 
     pub fn judges(&self) -> Vec<&dyn Store> {
@@ -66,6 +68,8 @@ impl Panel {
     fn compare(&mut self, answers: &[&Answer], question: impl FnOnce() -> Question) {
         if !self.agree(answers) {
             self.report(question());
+        } else if let Some(choice) = &mut self.choice {
+            choice.offer(question(), answers[answers.len() - 1]);
         }
         self.count(answers);
     }
@@ -128,8 +132,11 @@ impl Panel {
         let _ = write!(std::io::stderr(), "{line}{end}");
     }
 
-    /// The last line of a kind of run.
+    /// The last line of a kind of run that compares.
     pub fn summary(&self, what: &str) {
+        if self.choice.is_some() {
+            return;
+        }
         let numbers: Vec<String> = (0..17).filter(|n| self.numbers[*n] > 0).map(|n| format!("{n}:{}", self.numbers[n])).collect();
         let judges: Vec<&str> = self.judges().iter().map(|j| j.name()).collect();
         println!(

@@ -3,8 +3,9 @@
 //! An image is words: `db/` a directory, `db/a=7` a file, `~s.tmp=9` a staging file, `recording` or `committing` a log,
 //! `/write/db/a/s.tmp` an operation in it (and `/delete/db/a`, `/delete_all/db`, `/create_collection/db`,
 //! `/delete_collection/db`, `/copy_collection/db/e/0` with whether the destination existed), `times:32` that operation so many
-//! times in all, `log:HEX` any other log, `open` the open mark. `hex:HEX` is an image by its bytes. A name that can't be a word
-//! is `hex:HEX` too.
+//! times in all, `more:HEX` bytes behind the log, `log:HEX` any other log, `open` the open mark. `dirs:16`, `files:128`,
+//! `staged:32` and `bytes:6824` are so many directories, files of db, staging files and zero bytes of log. `hex:HEX` is an
+//! image by its bytes. A name that can't be a word is `hex:HEX` too.
 use plain::{
     Image, Name, Operation,
     log::{Ending, Status, append, header, operations, status},
@@ -110,20 +111,34 @@ pub fn read_store(text: &str) -> Image {
             let files = image.dirs.entry(read_name(dir)).or_default();
             files.extend((!file.is_empty()).then(|| numbered(file)));
         } else {
-            match word {
-                "recording" => image.log = Some(header(Status::Recording)),
-                "committing" => image.log = Some(header(Status::Committing)),
-                "open" => image.open = true,
-                _ if word.starts_with("times:") => {
-                    let log = image.log.as_mut().expect("a log");
-                    let last = operations(log).0.pop().expect("an operation").encode();
-                    (1..word[6..].parse().expect("a count")).for_each(|_| append(log, &last));
-                }
-                _ => image.log = Some(unhex(word.strip_prefix("log:").unwrap_or_else(|| panic!("what is {word}?")))),
-            }
+            read_word(&mut image, word);
         }
     }
     image
+}
+
+/// A word that is no file, directory or operation.
+fn read_word(image: &mut Image, word: &str) {
+    let (kind, value) = word.split_once(':').unwrap_or((word, ""));
+    let count = || value.parse::<usize>().expect("a count");
+    let numbered = |letter: char| (0..count()).map(move |i| (format!("{letter}{i:03}").into_bytes(), 1));
+    match kind {
+        "recording" => image.log = Some(header(Status::Recording)),
+        "committing" => image.log = Some(header(Status::Committing)),
+        "open" => image.open = true,
+        "times" => {
+            let log = image.log.as_mut().expect("a log");
+            let last = operations(log).0.pop().expect("an operation").encode();
+            (1..count()).for_each(|_| append(log, &last));
+        }
+        "more" => image.log.as_mut().expect("a log").extend(unhex(value)),
+        "log" => image.log = Some(unhex(value)),
+        "dirs" => image.dirs.extend(numbered('d').map(|(dir, _)| (dir, Default::default()))),
+        "files" => image.dirs.entry(b"db".to_vec()).or_default().extend(numbered('f')),
+        "staged" => image.staging.extend(numbered('s')),
+        "bytes" => image.log = Some(vec![0; count()]),
+        _ => panic!("what is {word}?"),
+    }
 }
 
 pub fn read_image(text: &str) -> Vec<u8> {
@@ -193,8 +208,8 @@ fn quoted(word: &str) -> String {
 pub fn field(bytes: &[u8]) -> String {
     match bytes {
         [] => "-".into(),
-        [tag, _, _] => format!("{tag:02X}"),
-        [tag, _, _, names @ ..] => format!("{tag:02X} {}", names.split(|b| *b == 0).map(name).collect::<Vec<_>>().join(" ")),
+        [tag, _, _] => format!("{tag:02x}"),
+        [tag, _, _, names @ ..] => format!("{tag:02x} {}", names.split(|b| *b == 0).map(name).collect::<Vec<_>>().join(" ")),
         _ => hex(bytes),
     }
 }

@@ -65,6 +65,11 @@ const WRONG: [(&str, Spoil); 11] = [
 
 pub fn run(panel: &mut Panel, file: &str) {
     let questions: Vec<Question> = corners::read(file).into_iter().map(|(question, _)| question).collect();
+    found_out(panel, &questions, file);
+}
+
+/// Puts each useless store in the port's place: some question must show it.
+pub fn found_out(panel: &mut Panel, questions: &[Question], file: &str) {
     panel.port = Some(Box::new(Wrong(|_, _, number, _, _| number)));
     assert!(!questions.iter().any(|q| panel.differ(q)), "an unspoiled store is taken");
     for (what, spoil) in WRONG {

@@ -2,7 +2,7 @@
 use crate::{IMAGE_ROOM, Name, Out, STEP_ROOM, Store};
 use std::cell::Cell;
 
-#[derive(Clone, PartialEq, Eq, Debug)]
+#[derive(Clone, PartialEq, Eq, PartialOrd, Ord, Debug)]
 pub enum Call {
     Begin,
     Write { collection: Name, key: Name, staged: Name, number: u32 },
@@ -43,7 +43,7 @@ impl Plan {
 }
 
 /// The lengths of the lent outputs.
-#[derive(Clone, Copy, PartialEq, Eq, Debug)]
+#[derive(Clone, Copy, PartialEq, Eq, PartialOrd, Ord, Debug)]
 pub struct Lent {
     pub out: usize,
     pub step: usize,

@@ -1,0 +1,239 @@
+//! Chooses, of a great many questions, a few thousand that differ in kind, the shortest of each.
+use crate::panel::Question;
+use plain::{
+    Image, Name, Operation, Plain,
+    log::{Ending, operations, status},
+    name::{NAME_LIMIT, is_backup, is_valid},
+};
+use std::collections::{BTreeMap, BTreeSet};
+use store::{Answer, Call, IMAGE_ROOM, KEYS_ROOM, Plan, STEP_ROOM, Store};
+
+/// No more questions are chosen, nor more bytes of images, nor longer ones without need; no more of a kind are kept to choose from.
+const QUESTIONS: usize = 3_000;
+const BYTES: usize = 480_000;
+const SHORT: usize = 300;
+const OF_A_KIND: usize = 3;
+
+/// The longest outputs that the programs lend: ROOM and STEP_ROOM of crates/questions/src/lib.rt.
+const LONGEST: usize = 19_300;
+const LONGEST_STEP: usize = 300;
+
+pub const LOGS: [&str; 12] = [
+    "image refused",
+    "absent",
+    "under 8 bytes",
+    "other header",
+    "Recording",
+    "Recording, truncated",
+    "Recording, undecodable",
+    "Recording, over 32",
+    "Committing",
+    "Committing, truncated",
+    "Committing, undecodable",
+    "Committing, over 32",
+];
+
+/// Where the marks say what the answer hands back: nothing, the image as it was, another.
+const HANDED_BACK: usize = 4;
+
+/// What is looked at in a question and its answer.
+#[derive(Clone, PartialEq, Eq, PartialOrd, Ord)]
+pub struct Kind {
+    /// 1 to 14, as in crates/questions/src/lib.rt.
+    pub entry: u8,
+    pub number: u32,
+    /// An index of LOGS.
+    pub log: usize,
+    /// The kinds of operations in the log, of an entry that carries them out or back.
+    operations: BTreeSet<u8>,
+    /// The tags of all steps, or of the one that was asked for.
+    pub steps: BTreeSet<u8>,
+    /// What the names are like.
+    names: Vec<u8>,
+    /// What else is in the image, whether the answer changes it, how much is lent.
+    marks: [u8; 7],
+}
+
+#[derive(Default)]
+pub struct Choice {
+    kinds: BTreeMap<Kind, BTreeSet<(usize, Question)>>,
+}
+
+impl Choice {
+    pub fn offer(&mut self, question: Question, answer: &Answer) {
+        if question.lent.out > LONGEST || question.lent.step > LONGEST_STEP {
+            return;
+        }
+        let size = question.image.len() + answer.out.as_ref().map_or(0, Vec::len);
+        let best = self.kinds.entry(kind(&question, answer)).or_default();
+        best.insert((size, question));
+        if best.len() > OF_A_KIND {
+            best.pop_last();
+        }
+    }
+
+    /// First what brings a new fact, then each turn, the shortest questions first.
+    pub fn chosen(self) -> Vec<(Kind, Question)> {
+        let mut facts = BTreeSet::new();
+        let (mut first, mut rest) = (Vec::new(), Vec::new());
+        for (_, size, kind, question) in self.ranked() {
+            let known = facts.len();
+            facts.extend(kind.facts());
+            (if facts.len() > known { &mut first } else { &mut rest }).push((size, kind, question));
+        }
+        rest.retain(|(size, ..)| *size <= SHORT);
+        let mut turns: BTreeMap<_, usize> = BTreeMap::new();
+        rest.sort_by_cached_key(|(_, kind, _)| {
+            let turn = turns.entry(kind.turn()).or_default();
+            *turn += 1;
+            *turn / kind.share()
+        });
+        let mut bytes = 0;
+        let within = |(size, ..): &(usize, Kind, Question)| {
+            let fits = bytes + size <= BYTES;
+            bytes += if fits { *size } else { 0 };
+            fits
+        };
+        let mut chosen: Vec<_> = first.into_iter().chain(rest).filter(within).take(QUESTIONS).collect();
+        chosen.sort_by(|a, b| (&a.1, a.0, &a.2).cmp(&(&b.1, b.0, &b.2)));
+        chosen.into_iter().map(|(_, kind, question)| (kind, question)).collect()
+    }
+
+    /// The questions that were kept, one of each kind before the second of any, the shortest first.
+    fn ranked(self) -> Vec<(usize, usize, Kind, Question)> {
+        let ranked = |(kind, best): (Kind, BTreeSet<(usize, Question)>)| {
+            best.into_iter().enumerate().map(move |(rank, (size, question))| (rank, size, kind.clone(), question))
+        };
+        let mut all: Vec<_> = self.kinds.into_iter().flat_map(ranked).collect();
+        all.sort();
+        all
+    }
+}
+
+impl Kind {
+    /// The tag of the step that was asked for.
+    pub fn asked_for(&self) -> Option<u8> {
+        self.steps.first().copied().filter(|_| [10, 13].contains(&self.entry))
+    }
+
+    /// The entry, number and log, with the step that was asked for or the operations that are carried out.
+    fn turn(&self) -> (u8, u32, usize, BTreeSet<u8>) {
+        let done = if self.asked_for().is_some() { &self.steps } else { &self.operations };
+        (self.entry, self.number, self.log, done.clone())
+    }
+
+    /// How many go into a turn: few of the many refusals and of the many sets of operations.
+    fn share(&self) -> usize {
+        let hands_back = self.marks[HANDED_BACK] != 0;
+        if hands_back && self.operations.len() < 2 || self.asked_for().is_some() { 12 } else { 3 }
+    }
+
+    /// What the list must hold of each kind that came up, in at least one question: an entry with a number and a log, an operation,
+    /// a step, a kind of name.
+    fn facts(&self) -> Vec<(u8, u32, u8, usize)> {
+        let mut facts = vec![(self.entry, self.number, 0, self.log)];
+        facts.extend(self.operations.iter().map(|kind| (self.entry, self.number, 1, usize::from(*kind))));
+        facts.extend(self.steps.iter().map(|tag| (self.entry, 0, 2, usize::from(*tag))));
+        facts.extend(self.names.iter().enumerate().map(|(at, like)| (self.entry, self.number, 3, at * 16 + usize::from(*like))));
+        facts.extend(self.marks.iter().enumerate().map(|(at, mark)| (self.entry, self.number, 4, at * 16 + usize::from(*mark))));
+        facts
+    }
+}
+
+/// The number of an entry and the names that it is given.
+pub fn entry(call: &Call) -> (u8, Vec<&Name>) {
+    match call {
+        Call::Begin => (1, vec![]),
+        Call::Write { collection, key, staged, .. } => (2, vec![collection, key, staged]),
+        Call::Delete { collection, key } => (3, vec![collection, key]),
+        Call::DeleteAll { collection } => (4, vec![collection]),
+        Call::CreateCollection { name } => (5, vec![name]),
+        Call::DeleteCollection { name } => (6, vec![name]),
+        Call::CopyCollection { source, dest } => (7, vec![source, dest]),
+        Call::Rollback => (8, vec![]),
+        Call::Commit => (9, vec![]),
+        Call::CommitStep(_) => (10, vec![]),
+        Call::HasPendingWork => (11, vec![]),
+        Call::Recover => (12, vec![]),
+        Call::RecoverStep(_) => (13, vec![]),
+        Call::ListKeys { collection } => (14, vec![collection]),
+    }
+}
+
+fn kind(question: &Question, answer: &Answer) -> Kind {
+    let (entry, names) = entry(&question.call);
+    let image = Image::decode(&question.image);
+    let log = image.as_ref().and_then(|image| image.log.as_deref());
+    let carried = (8..=10).contains(&entry) || (12..=13).contains(&entry);
+    Kind {
+        entry,
+        number: answer.number,
+        log: image.as_ref().map_or(0, |_| log_kind(log)),
+        operations: log.filter(|_| carried).map(operation_kinds).unwrap_or_default(),
+        steps: steps(question, answer),
+        names: names.into_iter().map(|name| name_kind(name)).collect(),
+        marks: marks(question, answer, &image.unwrap_or_default()),
+    }
+}
+
+fn log_kind(log: Option<&[u8]>) -> usize {
+    let Some(log) = log else { return 1 };
+    let Some(status) = status(log) else { return if log.len() < 8 { 2 } else { 3 } };
+    let ending = match operations(log).1 {
+        Ending::Whole => 0,
+        Ending::Truncated => 1,
+        Ending::Undecodable => 2,
+        Ending::TooMany => 3,
+    };
+    4 + 4 * status as usize + ending
+}
+
+fn operation_kinds(log: &[u8]) -> BTreeSet<u8> {
+    let kind = |operation: &Operation| operation.encode()[3];
+    if status(log).is_some() { operations(log).0.iter().map(kind).collect() } else { BTreeSet::new() }
+}
+
+/// The tags of the steps, by the plain reading.
+fn steps(question: &Question, answer: &Answer) -> BTreeSet<u8> {
+    let plan = match question.call {
+        Call::Commit => Plan::Commit,
+        Call::Recover => Plan::Recover,
+        _ => return answer.step.iter().filter_map(|field| field.first()).copied().collect(),
+    };
+    let answers = Plain.plan(plan, &question.image).1;
+    answers.iter().filter_map(|answer| answer.step.as_ref()?.first()).copied().collect()
+}
+
+fn name_kind(name: &[u8]) -> u8 {
+    match name {
+        [] => 0,
+        b"." | b".." => 1,
+        b"..bak" | b"...bak" => 2,
+        _ if name.contains(&b'/') || name.contains(&b'\\') => 3,
+        _ if !name.iter().all(|byte| (0x21..=0x7E).contains(byte)) => 4,
+        _ if name.len() > NAME_LIMIT => 5,
+        _ if name.len() == NAME_LIMIT => 6,
+        _ if !is_valid(name) => 7,
+        _ if is_backup(name) => 8,
+        _ if name.iter().any(u8::is_ascii_uppercase) => 9,
+        _ => 10,
+    }
+}
+
+fn marks(question: &Question, answer: &Answer, image: &Image) -> [u8; 7] {
+    let lent = |length: usize, room: usize| match length.cmp(&room) {
+        std::cmp::Ordering::Less => 0,
+        std::cmp::Ordering::Equal => 1,
+        std::cmp::Ordering::Greater => 2,
+    };
+    let room = if matches!(question.call, Call::ListKeys { .. }) { KEYS_ROOM } else { IMAGE_ROOM };
+    [
+        u8::from(image.open),
+        u8::from(!image.staging.is_empty()),
+        u8::from(image.dirs.keys().any(|dir| is_backup(dir))),
+        u8::from(image.dirs.values().flat_map(|files| files.keys()).any(|file| is_backup(file))),
+        answer.out.as_ref().map_or(0, |out| if *out == question.image { 1 } else { 2 }),
+        lent(question.lent.out, room),
+        lent(question.lent.step, STEP_ROOM),
+    ]
+}

@@ -1,4 +1,5 @@
 // Runs each of the fourteen entries at a full store, on a thread with a stack of 128 KiB, and times it. Built and run by ./entries-run.
+#include "cda_storage.h"
 #include <pthread.h>
 #include <stdint.h>
 #include <stdio.h>
@@ -8,26 +9,6 @@
 
 typedef const uint8_t *Lent;
 
-uint32_t cda_storage_begin(Lent image, size_t len, uint8_t *out, size_t room, size_t *written);
-uint32_t cda_storage_write(Lent image, size_t len, Lent collection, size_t collection_len, Lent key, size_t key_len, Lent staged, size_t staged_len,
-                           uint32_t number, uint8_t *out, size_t room, size_t *written);
-uint32_t cda_storage_delete(Lent image, size_t len, Lent collection, size_t collection_len, Lent key, size_t key_len, uint8_t *out, size_t room,
-                            size_t *written);
-uint32_t cda_storage_delete_all(Lent image, size_t len, Lent collection, size_t collection_len, uint8_t *out, size_t room, size_t *written);
-uint32_t cda_storage_create_collection(Lent image, size_t len, Lent name, size_t name_len, uint8_t *out, size_t room, size_t *written);
-uint32_t cda_storage_delete_collection(Lent image, size_t len, Lent name, size_t name_len, uint8_t *out, size_t room, size_t *written);
-uint32_t cda_storage_copy_collection(Lent image, size_t len, Lent source, size_t source_len, Lent dest, size_t dest_len, uint8_t *out, size_t room,
-                                     size_t *written);
-uint32_t cda_storage_commit(Lent image, size_t len, uint8_t *out, size_t room, size_t *written);
-uint32_t cda_storage_commit_step(Lent image, size_t len, uint64_t n, uint8_t *out, size_t room, size_t *written, uint8_t *step, size_t step_room,
-                                 size_t *step_written);
-uint32_t cda_storage_rollback(Lent image, size_t len, uint8_t *out, size_t room, size_t *written);
-uint32_t cda_storage_has_pending_work(Lent image, size_t len, uint32_t *pending);
-uint32_t cda_storage_recover(Lent image, size_t len, uint8_t *out, size_t room, size_t *written);
-uint32_t cda_storage_recover_step(Lent image, size_t len, uint64_t n, uint8_t *out, size_t room, size_t *written, uint8_t *step, size_t step_room,
-                                  size_t *step_written);
-uint32_t cda_storage_list_keys(Lent image, size_t len, Lent collection, size_t collection_len, uint8_t *out, size_t room, size_t *written);
-
 // The best of so many turns is taken: a turn in which nothing else ran on the core. The slowest cut is sought in so many passes over all cuts, of
 // few turns each, so that a busy moment falls on no cut alone.
 static const int turns = 500, passes = 30, few = 4;
@@ -36,12 +17,12 @@ static const int turns = 500, passes = 30, few = 4;
 enum { directories = 16, writes = 32, longest = 128 };
 
 typedef struct {
-    uint8_t bytes[19262];
+    uint8_t bytes[CDA_STORAGE_IMAGE_ROOM];
     size_t len;
 } Image;
 
 static Image base, open, cut, out, done;
-static uint8_t step[197];
+static uint8_t step[CDA_STORAGE_STEP_ROOM];
 static size_t step_len;
 
 // Every name has this many bytes, all but the last two the same.

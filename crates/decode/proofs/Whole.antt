@@ -18,7 +18,7 @@ use Rattle.model.specs.Image.{nodeField, stagedField, logField, markField, imag
 use Rattle.laws.specs.Tests.{and-both, and-made, le-leb}
 use Rattle.laws.specs.ImageLaws.{Parts, parts, of-parts, regroup, encode-parts, tail, split-encode, decode-encode, decode-only}
 use Rattle.laws.specs.TreeLaws.{size, isFile, one, dir-size, file-size, length-size}
-use Rattle.laws.specs.StoreLaws.{LogFits, Good, good}
+use Rattle.laws.specs.StoreLaws.{LogFits, fits-log, Good, good}
 use Rattle.laws.specs.ValidNames.{Valid, validNaming}
 use Rattle.laws.specs.LengthLaws.{encode-length}
 use Rattle.store.specs.Tables.{Holds}
@@ -50,10 +50,6 @@ staging-behind [] l b = tail-behind (own false) refl refl l b
 staging-behind (n ∷ g) l b = refl
 
 -- Well-formedness, part by part.
-log-test : (l : Option Bytes) → LogFits l → caseOption l true (λ l. leb (length l) 6824) ≡ true
-log-test none h = refl
-log-test (some l) h = le-leb (length l) 6824 h
-
 well : (s : model.Store) → Formed false (s .tree) → Formed true (s .staging) → LogFits (s .log) → wellFormed s ≡ true
 well s t g l =
     let v = sym (valid-staging [] (s .staging)) ∙ g .valid in
@@ -65,7 +61,7 @@ well s t g l =
       stagingAscends = g .ascends;
       staged = v;
       stagingFits = le-leb (length (s .staging)) 32 (rw (← staged-files (s .staging) v) (g .files));
-      logFits = log-test (s .log) l;
+      logFits = fits-log (s .log) l;
     }
 
 tree-formed : (s : model.Store) → Parts s → Good Valid s → Formed false (s .tree)

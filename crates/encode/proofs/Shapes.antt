@@ -1,7 +1,7 @@
 -- The fields of an image: which one a node has, and how long they are.
 use mathlib.Core.Path.{_≡_, refl, sym, ap, _∙_}
 use mathlib.Core.Bool.{Bool, true, false}
-use mathlib.Core.List.{[], _∷_, _++_, append-nil}
+use mathlib.Core.List.{[], _∷_, _++_}
 use mathlib.Core.Option.{Option, none, some}
 use Prim.Native.Nat.{ℕ, _+_, _-_}
 use native.Mathlib.Omega.{arith}
@@ -12,6 +12,7 @@ use Rattle.model.specs.Base.{Bytes, if_then_else_, ifEmpty}
 use Rattle.model.specs.Field.{Field, littleEndian, encodeField, encodeFields}
 use Rattle.model.specs.Log.{header, markCommitting}
 use Rattle.model.specs.Image.{logField}
+use Rattle.laws.specs.FieldLaws.{encode-one}
 use Rattle.laws.specs.ImageLaws.{listed}
 use Rattle.field.specs.Writing.{field}
 use Rattle.field.proofs.Written.{encoded-length}
@@ -22,11 +23,6 @@ use Rattle.store.specs.declared.LogRef.{LogRef}
 use Rattle.store.specs.Tables.{nodeOf, SoundNode}
 use Rattle.store.specs.Stores.{logBytes}
 use Rattle.encode.specs.Logs.{logStart}
-
--- The bytes of one field.
-pub one-field : (f : Field) → encodeFields (f ∷ []) ≡ encodeField f
-unfolding encodeFields
-one-field f = append-nil (encodeField f)
 
 -- The field of a node of the tree.
 pub dir-listed : (n : model.Node) → length (n .0 .1) ≡ 0 → listed false n ≡ field 0x10 (n .0 .0)
@@ -79,10 +75,10 @@ unfolding logBytes
 log-stands src l e = rw e
 
 pub log-field : {o : Option Bytes} {v : Bytes} → o ≡ some v → encodeFields (logField o) ≡ encodeField (field 0x13 v)
-log-field {o} {v} e = rw e (one-field (field 0x13 v))
+log-field {o} {v} e = rw e (encode-one (field 0x13 v))
 
 pub log-length : (v : Bytes) → length (encodeFields (logField (some v))) ≡ 3 + length v
-log-length v = ap length (one-field (field 0x13 v)) ∙ encoded-length (field 0x13 v)
+log-length v = ap length (encode-one (field 0x13 v)) ∙ encoded-length (field 0x13 v)
 
 -- The log's field up to the end of the log, and what follows.
 pub start-length : (more : ℕ) (v : Bytes) → length (logStart more (some v)) ≡ 3 + length v
@@ -92,11 +88,11 @@ start-length more v = omega arith
 pub start-whole : (o : Option Bytes) → logStart 0 o ≡ encodeFields (logField o)
 unfolding logStart encodeFields encodeField
 start-whole none = refl
-start-whole (some v) = let e : length v + 0 ≡ length v = omega arith in rw e (sym (one-field (field 0x13 v)))
+start-whole (some v) = let e : length v + 0 ≡ length v = omega arith in rw e (sym (encode-one (field 0x13 v)))
 
 pub start-behind : (v e : Bytes) → logStart (length e) (some v) ++ e ≡ encodeFields (logField (some (v ++ e)))
 unfolding logStart encodeField littleEndian
-start-behind v e = rw (← (length-append v e)) (sym (one-field (field 0x13 (v ++ e))))
+start-behind v e = rw (← (length-append v e)) (sym (encode-one (field 0x13 (v ++ e))))
 
 -- Tag and length of that field.
 pub start-head : (k n more : ℕ) (v : Bytes) → littleEndian 2 k ≡ littleEndian 2 (n + more) → n ≡ length v → 0x13 ∷ littleEndian 2 k ++ v ≡ logStart more (some v)

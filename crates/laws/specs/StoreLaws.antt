@@ -63,7 +63,7 @@ log-fits : (l : Option Bytes) → caseOption l true (λ l. leb (length l) 6824) 
 log-fits none e = tt
 log-fits (some l) e = leb-le (length l) 6824 e
 
-fits-log : (l : Option Bytes) → LogFits l → caseOption l true (λ l. leb (length l) 6824) ≡ true
+pub fits-log : (l : Option Bytes) → LogFits l → caseOption l true (λ l. leb (length l) 6824) ≡ true
 fits-log none e = refl
 fits-log (some l) e = le-leb (length l) 6824 e
 

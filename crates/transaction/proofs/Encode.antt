@@ -1,15 +1,16 @@
 -- Fields of an operation, written one behind the other.
 use mathlib.Core.Path.{_≡_, refl, sym, ap, ap₂, _∙_}
-use mathlib.Core.List.{List, [], _∷_, _++_, map, append-nil, append-assoc}
+use mathlib.Core.List.{List, [], _∷_, _++_, map}
 use mathlib.Core.Bool.{Bool, true, false}
 use Prim.Native.Nat.{ℕ, zero, suc, _+_, _*_, _≤_, _<_}
 use native.Mathlib.Omega.{arith}
 use native.Mathlib.Numerals.{add-one}
 use lib.ListN.{length, take, drop, getD, length-append, length-map}
 use lib.Seq.{take-suc, take-all, length-take-le, getD-take, take-append-seam}
-use Rattle.model.specs.Base.{Bytes, flatMap}
+use Rattle.model.specs.Base.{Bytes}
 use Rattle.model.specs.Field.{Field, encodeField, encodeFields}
 use Rattle.model.specs.Operation.{Op, write, delete, deleteAll, createCollection, deleteCollection, copyCollection, fieldTable, fieldTags, kind, values, tagged, encodePayload}
+use Rattle.laws.specs.FieldLaws.{encode-append, encode-one}
 use Rattle.spans.specs.Spans.{nameOf, lengthOf, Sound, Decides}
 use Rattle.spans.specs.declared.NameRef.{NameRef}
 use Rattle.spans.proofs.Parts.{length-name}
@@ -53,15 +54,6 @@ length-tagged [] vs e = refl
 length-tagged (t ∷ ts) [] e = absurd (omega arith)
 length-tagged (t ∷ ts) (v ∷ vs) e = ap suc (length-tagged ts vs (omega arith))
 
-fields-behind : (fs gs : List Field) → encodeFields (fs ++ gs) ≡ encodeFields fs ++ encodeFields gs
-unfolding encodeFields
-fields-behind [] gs = refl
-fields-behind (f ∷ fs) gs = ap (encodeField f ++_) (fields-behind fs gs) ∙ sym (append-assoc (encodeField f) (flatMap encodeField fs) (flatMap encodeField gs))
-
-one-field : (f : Field) → encodeFields (f ∷ []) ≡ encodeField f
-unfolding encodeFields
-one-field f = append-nil (encodeField f)
-
 -- The first n columns under the first n tags.
 unfoldable pub rowFields : Bytes → List ℕ → List Column → ℕ → List Field
 rowFields src row cs n = tagged (take n row) (map (columnOf src) (take n cs))
@@ -91,7 +83,7 @@ module _ {src : Bytes} {row : List ℕ} {cs : List Column} {n : ℕ} {start byte
       let it : getD fs i f ≡ f = tagged-at _ _ i f (omega arith) (omega arith) ∙ ap₂ field (getD-take n row i 0 h) (map-at (columnOf src) (take n cs) i d [] (omega arith) ∙ ap (columnOf src) (getD-take n cs i d h)) in
       let lf : length fs ≡ n = length-tagged _ _ (omega arith) ∙ lr in
       let next : take (i + 1) fs ≡ take i fs ++ f ∷ [] = rw (add-one i) (take-suc fs i f (omega arith) ∙ ap (λ (g : Field). take i fs ++ g ∷ []) it) in
-      let all : encodeFields (take (i + 1) fs) ≡ encodeFields (take i fs) ++ encodeField f = ap encodeFields next ∙ fields-behind (take i fs) (f ∷ []) ∙ ap (encodeFields (take i fs) ++_) (one-field f) in
+      let all : encodeFields (take (i + 1) fs) ≡ encodeFields (take i fs) ++ encodeField f = ap encodeFields next ∙ encode-append (take i fs) (f ∷ []) ∙ ap (encodeFields (take i fs) ++_) (encode-one f) in
       let len : length (encodeFields (take (i + 1) fs)) ≡ at + m = ap length all ∙ length-append (encodeFields (take i fs)) (encodeField f) ∙ omega (arith, w .place, p .size) in
       record {
         within = omega arith;

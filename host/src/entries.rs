@@ -1,6 +1,6 @@
 //! The fourteen entries of the port as methods of [`Image`]. They are pure: an image goes in, an answer comes out, and no file
 //! is touched.
-use crate::{field, image::Image, refusal::Refusal, step::Step};
+use crate::{Refusal, field, image::Image, step::Step};
 use cda_storage_sys::{self as sys, IMAGE_ROOM, KEYS_ROOM, Output, STEP_ROOM};
 use std::{error::Error, fmt};
 

@@ -9,9 +9,9 @@ pub use error::StoreError;
 pub use transaction::Transaction;
 
 use crate::{
+    Refusal,
     entries::{Plan, Stepped},
     image::{Contents, Image},
-    refusal::Refusal,
     step::Step,
 };
 use layout::Layout;

@@ -1,5 +1,5 @@
 //! A store image: document 01, 'How a store is handed over'.
-use crate::{field, refusal::Refusal};
+use crate::{Refusal, field};
 use std::collections::BTreeMap;
 
 /// Files of a directory and their content numbers.

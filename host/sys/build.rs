@@ -1,6 +1,8 @@
 //! Writes the declarations and the header, and links the static library: the one that CDA_LIB names, else the one that `rt
 //! staticlib cda_storage` writes.
 mod list;
+#[path = "src/rooms.rs"]
+mod rooms;
 
 use std::{
     env, fs,
@@ -11,7 +13,7 @@ const ENTRIES: &str = include_str!("entries.txt");
 const REFUSALS: &str = include_str!("refusals.txt");
 
 fn main() {
-    for file in ["build.rs", "list.rs", "entries.txt", "refusals.txt"] {
+    for file in ["build.rs", "list.rs", "src/rooms.rs", "entries.txt", "refusals.txt"] {
         println!("cargo::rerun-if-changed={file}");
     }
     println!("cargo::rustc-check-cfg=cfg(linked)");

@@ -1,4 +1,5 @@
 //! The two lists, read, and what is made of them: the declarations in Rust and the header in C.
+use crate::rooms::{IMAGE_ROOM, KEYS_ROOM, STEP_ROOM};
 
 /// A parameter: how C and Rust declare it, and how the safe function takes it and hands it on. `#` stands for its name.
 struct Kind {
@@ -57,12 +58,19 @@ pub fn declarations(entries: &str) -> String {
     format!("unsafe extern \"C\" {{\n{raw}}}\n{safe}")
 }
 
-/// The refusals as a constant.
+/// The refusals as an enum, and a row for each: the refusal, its name, its sentence.
 pub fn refusals(list: &str) -> String {
-    let each = rows(list).map(|[number, name, what]| format!("    ({number}, {name:?}, {what:?}),\n"));
+    let (mut variants, mut table) = (String::new(), String::new());
+    for [number, name, what] in rows(list) {
+        variants += &format!("    /// {number}: {what}.\n    {name} = {number},\n");
+        table += &format!("    (Refusal::{name}, {name:?}, {what:?}),\n");
+    }
     format!(
-        "/// The sixteen refusals: number, name, sentence.\npub const REFUSALS: [(u32, &str, &str); 16] = [\n{}];\n",
-        each.collect::<String>()
+        "/// Why the port refused a call: document 01, 'Sixteen numbers, in checking order'. Each variant's number is the port's.
+#[derive(Clone, Copy, PartialEq, Eq, PartialOrd, Ord, Hash, Debug)]
+#[repr(u32)]
+pub enum Refusal {{\n{variants}}}\n
+const TABLE: [(Refusal, &str, &str); 16] = [\n{table}];\n"
     )
 }
 
@@ -78,10 +86,9 @@ extern \"C\" {
 #endif
 
 /* Least lengths of the lent outputs: an image, a key list, a step field. */
-#define CDA_STORAGE_IMAGE_ROOM 19262
-#define CDA_STORAGE_KEYS_ROOM 8576
-#define CDA_STORAGE_STEP_ROOM 197
+";
 
+const NUMBERS: &str = "
 /* What the functions return: 0, or a refusal, which leaves outputs and counters as they were (but for 14 and 15 of a commit). */
 enum cda_storage_number {
     CDA_STORAGE_DONE = 0,
@@ -90,6 +97,10 @@ enum cda_storage_number {
 /// The header for C and C++.
 pub fn header(entries: &str, refusals: &str) -> String {
     let mut text = TOP.to_string();
+    for (what, room) in [("IMAGE", IMAGE_ROOM), ("KEYS", KEYS_ROOM), ("STEP", STEP_ROOM)] {
+        text += &format!("#define CDA_STORAGE_{what}_ROOM {room}\n");
+    }
+    text += NUMBERS;
     for [number, name, what] in rows(refusals) {
         let comma = if number == "16" { "" } else { "," };
         text += &format!("    /* {what} */\n    CDA_STORAGE_{} = {number}{comma}\n", screaming(name));

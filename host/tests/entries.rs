@@ -105,7 +105,7 @@ fn every_step_in_words() {
 
 #[test]
 fn refusals_have_numbers_names_and_sentences() {
-    for (number, refusal) in (1..).zip(Refusal::ALL) {
+    for (number, refusal) in (1..).zip(Refusal::all()) {
         assert_eq!((refusal.number(), refusal.name()), (number, format!("{refusal:?}").as_str()));
         assert_eq!(Refusal::from_number(number), Some(refusal));
     }

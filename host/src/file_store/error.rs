@@ -1,5 +1,5 @@
 //! What can go wrong with a store on disk.
-use crate::{refusal::Refusal, step::Step};
+use crate::{Refusal, step::Step};
 use std::{
     error::Error,
     fmt, io,

@@ -1,8 +1,8 @@
 //! A store on disk, read as what an image holds. What no image can hold is an error that names its path.
 use super::{error::StoreError, layout::Layout};
 use crate::{
+    Refusal,
     image::{Contents, Files},
-    refusal::Refusal,
 };
 use std::{
     collections::BTreeMap,

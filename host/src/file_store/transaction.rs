@@ -1,9 +1,9 @@
 //! A transaction on a store on disk.
 use super::{FileStore, State, carry_out::carry_out, error::StoreError};
 use crate::{
+    Refusal,
     entries::Plan,
     image::{Contents, Image},
-    refusal::Refusal,
     step::Step,
 };
 use std::{

@@ -4,17 +4,14 @@
 
 #![warn(missing_docs)]
 
-/// Least length of the lent output for an image.
-pub const IMAGE_ROOM: usize = 19_262;
-/// Least length of the lent output for a key list.
-pub const KEYS_ROOM: usize = 8_576;
-/// Least length of the lent output for a step field.
-pub const STEP_ROOM: usize = 197;
+mod refusal;
+mod rooms;
+
+pub use refusal::Refusal;
+pub use rooms::{IMAGE_ROOM, KEYS_ROOM, STEP_ROOM};
 
 /// The header for C and C++, `include/cda_storage.h`.
 pub const HEADER: &str = include_str!(concat!(env!("OUT_DIR"), "/cda_storage.h"));
-
-include!(concat!(env!("OUT_DIR"), "/refusals.rs"));
 
 /// Lent room for an answer, and where the count of written bytes goes.
 pub struct Output<'a> {

@@ -1,0 +1,8 @@
+//! Least lengths of the lent outputs: document 01, refusal 2.
+
+/// Least length of the lent output for an image.
+pub const IMAGE_ROOM: usize = 19_262;
+/// Least length of the lent output for a key list.
+pub const KEYS_ROOM: usize = 8_576;
+/// Least length of the lent output for a step field.
+pub const STEP_ROOM: usize = 197;

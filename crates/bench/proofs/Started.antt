@@ -1,8 +1,8 @@
 -- A store that was decoded is one that steps can be done on.
 use mathlib.Core.Path.{_≡_, ap, subst}
-use Prim.Native.Nat.{ℕ, _≤_, _<_}
+use Prim.Native.Nat.{ℕ, _<_}
 use native.Mathlib.Omega.{arith}
-use mathlib.Core.List.{_∷_, _++_}
+use mathlib.Core.List.{_∷_}
 use mathlib.Core.Bool.{true}
 use lib.ListN.{length, length-append}
 use Rattle.model.specs.Name.{backupExtension, backupName}
@@ -13,8 +13,9 @@ use Rattle.spans.specs.declared.BackupName.the-variants.{Is}
 use Rattle.spans.proofs.Parts.{length-name}
 use Rattle.model.specs.Base.{Bytes}
 use Rattle.model.specs.Store.{dirs, fileCount}
-use Rattle.store.specs.Stores.{storeOf}
-use Rattle.store.specs.Tables.{mapOf}
+use Rattle.store.specs.Words.{Words}
+use Rattle.store.specs.Tables.{tableOf, mapOf}
+use Rattle.store.specs.Stores.{storeIn, storeOf}
 use Rattle.laws.specs.Tests.{leb-le}
 use Rattle.laws.specs.ImageLaws.{parts, decode-only}
 use Rattle.decode.specs.Decoding.{Decodes}
@@ -22,15 +23,15 @@ use Rattle.decode.specs.declared.Decoded.{Decoded}
 use Rattle.steps.specs.Steps.{SoundStep, Fits, FileName}
 use Rattle.steps.specs.declared.Step.the-variants.{CopyFile}
 
-pub started : (src : Bytes) (d : Decoded) → Decodes src d → d .ok ≡ true → Fits src (d .store)
-started src d h e =
-    let s = storeOf src (d .store) in
+pub started : (src : Bytes) (tree staging : Words) (d : Decoded) → Decodes src tree staging d → d .ok ≡ true → Fits src (storeIn tree staging (d .store))
+started src tree staging d h e =
+    let s = storeOf src (storeIn tree staging (d .store)) in
     let p = parts s (decode-only src s (h .accepted e) .1) in
     record {
       sound = h .sound;
       within = record {
-        dirs = leb-le (length (dirs (mapOf src (d .store .tree)))) 16 (p .dirsFit);
-        files = leb-le (fileCount (mapOf src (d .store .tree))) 128 (p .filesFit);
+        dirs = leb-le (length (dirs (mapOf src (tableOf tree (d .store .tree))))) 16 (p .dirsFit);
+        files = leb-le (fileCount (mapOf src (tableOf tree (d .store .tree)))) 128 (p .filesFit);
       };
     }
 

@@ -1,48 +1,57 @@
 -- The bytes that a recording entry lends to the store's methods: the image stands in front, the given names behind it.
 use mathlib.Core.Path.{_≡_, refl, sym, ap, subst, _∙_}
-use mathlib.Core.Bool.{Bool, true, false, _&&_}
+use mathlib.Core.Bool.{Bool, true, _&&_}
 use mathlib.Core.List.{_++_}
 use Prim.Native.Nat.{ℕ, _+_, _≤_}
 use native.Mathlib.Omega.{arith}
-use lib.ListN.{length, take, drop, take-append-drop, length-take}
-use lib.Seq.{take-at, take-take, length-take-le}
-use Rattle.model.specs.Limits.{imageRoom, nameLimit}
+use lib.ListN.{length, take, drop, take-append-drop}
+use lib.Seq.{take-at, take-take}
+use Rattle.model.specs.Limits.{nameLimit}
 use Rattle.model.specs.Order.{Name}
 use Rattle.model.specs.Base.{Bytes}
 use Rattle.model.specs.Name.{validName, lower}
 use Rattle.model.specs.Store as model
+use Rattle.model.specs.Record.{Outcome}
 use Rattle.laws.specs.ValidNames.{Valid}
 use Rattle.laws.specs.StoreLaws.{Good}
 use Rattle.laws.specs.Tests.{and-both}
 use Rattle.field.specs.Writing.{written}
 use Rattle.field.proofs.Written.{written-front, length-written}
-use Rattle.spans.specs.Spans.{nameOf, Sound, Names}
+use Rattle.spans.specs.Spans.{Names}
 use Rattle.spans.specs.declared.NameRef.{NameRef}
 use Rattle.spans.proofs.Prefix.{prefix-sound, prefix-name}
-use Rattle.store.specs.Stores.{storeOf, SoundStore}
-use Rattle.store.specs.declared.Store.{Store}
+use Rattle.store.specs.Words.{Words}
+use Rattle.store.specs.Stores.{LentStore, storeOf, SoundStore}
 use Rattle.store.proofs.Prefix.{same-store, prefix-store}
 use Rattle.steps.specs.Steps.{Within}
 use Rattle.steps.proofs.Room.{of-good}
-use Rattle.local_storage.specs.Recording.{Ready, Given, GivenKey, GivenWrite}
+use Rattle.local_storage.specs.Recording.{Readable, Ready, Answers, Given, GivenKey, GivenWrite}
+use Rattle.local_storage.specs.declared.LocalStorage.{LocalStorage}
+use Rattle.local_storage.specs.declared.Recorded.{Recorded}
 use Rattle.lend.specs.Lending.{Lends}
 use Rattle.lend.specs.declared.Named.{Named}
 use Rattle.handover.specs.Opening.{Held}
+use Rattle.cda_storage.specs.Buffers.{Roomy}
 
 -- The bytes begin with the image, and end at `end` with the names that were lent so far.
 pub record Lent (image src : Bytes) (end : ℕ) : Type 0 where
   pub front : take (length image) src ≡ image
-  pub size : length src ≡ 19_454
-  pub short : length image ≤ imageRoom
+  pub roomy : Roomy image src
   pub behind : length image ≤ end
 
+-- A buffer of n bytes.
+pub has-room : {image src : Bytes} {n : ℕ} → n ≡ length src → length image + 192 ≤ n → n ≤ 0xFFFF → Roomy image src
+has-room e h k = record { room = omega arith; short = omega arith }
+
 module _ {image : Bytes} where
+  as-roomy : {src out : Bytes} → length src ≡ length out → Roomy image out → Roomy image src
+  as-roomy e h = record { room = let r = h .room in omega arith; short = let r = h .short in omega arith }
+
   -- The image copied to the front.
-  pub copied : {src : Bytes} (out : Bytes) → length image ≤ imageRoom → length out ≡ 19_454 → src ≡ written 0 image out → Lent image src (length image)
-  copied {src} out h l w = record {
-    front = ap (take (length image)) (w ∙ written-front image out (omega (arith, l))) ∙ take-at image (drop (length image) out) (length image) refl;
-    size = ap length w ∙ length-written 0 image out ∙ l;
-    short = h;
+  pub copied : {src out : Bytes} → Roomy image out → src ≡ written 0 image out → Lent image src (length image)
+  copied {src} {out} h w = record {
+    front = ap (take (length image)) (w ∙ written-front image out (omega (arith, h .room))) ∙ take-at image (drop (length image) out) (length image) refl;
+    roomy = as-roomy (ap length w ∙ length-written 0 image out) h;
     behind = omega arith;
   }
 
@@ -50,8 +59,7 @@ module _ {image : Bytes} where
   pub lent-next : {src next : Bytes} {end : ℕ} {n : Name} {r : Named} → Lent image src end → Lends end n src next r → Lent image next (r .end)
   lent-next {src} {next} {end} {r = r} l w = record {
     front = sym (take-take (length image) end next (l .behind)) ∙ ap (take (length image)) (w .front) ∙ take-take (length image) end src (l .behind) ∙ l .front;
-    size = w .size ∙ l .size;
-    short = l .short;
+    roomy = as-roomy (w .size) (l .roomy);
     behind = let b = l .behind in let s = w .starts in omega arith;
   }
 
@@ -60,15 +68,22 @@ module _ {image : Bytes} where
     joined = ap (λ (b : Bytes). b ++ drop (length image) src) (sym (l .front)) ∙ take-append-drop (length image) src
 
     -- The store that the image holds, seen in the lent bytes.
-    module _ {s : Store} (h : Held image s) where
+    module _ {s : LentStore} (h : Held image s) where
       pub lent-sound : SoundStore src s
       lent-sound = subst (λ (b : Bytes). SoundStore b s) joined (prefix-store (drop (length image) src) (h .sound))
 
       pub lent-same : storeOf src s ≡ storeOf image s
       lent-same = ap (λ (b : Bytes). storeOf b s) (sym joined) ∙ same-store (drop (length image) src) (h .sound)
 
+      pub lent-readable : Readable src (s .log)
+      lent-readable = record { log = lent-sound .log; plain = h .plain; short = l .roomy .short }
+
       pub lent-ready : Ready src s
-      lent-ready = record { sound = lent-sound; plain = h .plain; short = let z = l .size in omega arith }
+      lent-ready = record { sound = lent-sound; readable = lent-readable }
+
+      -- What a method answered, of the store that the image holds.
+      pub lent-answers : (f : model.Store → Outcome) {tree staging tree' staging' : Words} {before : LocalStorage} {r : Recorded} → Answers src (f (storeOf src s)) tree staging before tree' staging' r → Answers src (f (storeOf image s)) tree staging before tree' staging' r
+      lent-answers f {tree} {staging} {tree'} {staging'} {before} {r} a = subst (λ (m : model.Store). Answers src (f m) tree staging before tree' staging' r) lent-same a
 
       pub lent-within : Within (storeOf src s .tree)
       lent-within = of-good (subst (λ (m : model.Store). Good Valid m) (sym lent-same) (h .well))
@@ -86,8 +101,8 @@ still {src} {next} {end} {at} {n} {r = r} h w l =
     subst (λ (b : Bytes). Names b r n) (sym (take-take end at src h) ∙ ap (take end) (sym (l .front)) ∙ take-take end at next h) w
 
 -- There is room for one name more.
-pub lend-room : {image src : Bytes} {end : ℕ} → Lent image src end → end ≤ imageRoom + 128 → (end + nameLimit ≤ length src) × (length src ≤ 0xFFFF)
-lend-room l h = let z = l .size in (omega arith, omega arith)
+pub lend-room : {image src : Bytes} {end : ℕ} → Lent image src end → end ≤ length image + 128 → (end + nameLimit ≤ length src) × (length src ≤ 0xFFFF)
+lend-room l h = (let z = l .roomy .room in omega arith, l .roomy .short)
 
 -- What the methods ask of a name, of a collection with a key, and of a Write.
 pub given-name : {src next : Bytes} {at : ℕ} {n : Name} {r : Named} → Lends at n src next r → Given next (r .valid) (r .name) n

@@ -7,6 +7,9 @@ ghost use Rattle.model.specs.Base.{if_then_else_};
 ghost use Rattle.model.specs.Answers as answers;
 ghost use Rattle.model.specs.Answers.{begin, write, delete, deleteAll, createCollection, deleteCollection, copyCollection, rollback, commit, commitStep, recover, recoverStep, listKeys};
 ghost use Rattle.handover.specs.Contract.{Gives, StepGives, PendingGives};
+
+mod recording;
+
 use local_storage::LocalStorage;
 use wal::Tail;
 
@@ -17,8 +20,13 @@ const KEYS_ROOM: usize = 8_576;
 
 const STEP_ROOM: usize = 197;
 
-// Room for an image and the three names of a Write.
+// Room for an image and the three names of a Write. A small image takes a small buffer: the large one takes longer to clear than such an image
+// takes to read.
 const SOURCE_ROOM: usize = 19_454;
+
+const SMALL_IMAGE: usize = 2_048;
+
+const SMALL_ROOM: usize = 2_240;
 
 // Both of two tests.
 fn both(a: bool, b: bool) -> bool
@@ -39,14 +47,16 @@ fn yes_or_no(b: bool) -> u32
 pub extern "C" fn cda_storage_begin(image: &[u8], out: &mut [u8], written: &mut usize) -> u32
     ensures { λ r. ⌜ Gives (begin (now (image .entry)) (length (now (out .entry)))) r (now (out .entry)) (now (out .exit)) (now (written .entry)) (now (written .exit)) ⌝ }
 {
-    let o = handover::open_image(image, IMAGE_ROOM <= out.len());
+    let mut tree = [[0u32; 3]; store::ROOM];
+    let mut staging = [[0u32; 3]; store::ROOM];
+    let o = handover::open_image(image, &mut tree, &mut staging, IMAGE_ROOM <= out.len());
     if o.number != 0 {
         return o.number;
     }
     let s = o.store;
     let storage = LocalStorage { store: s };
     let r = storage.begin_transaction();
-    handover::hand_on(image, r, out, written)
+    handover::hand_on(image, &tree, &staging, r, out, written)
 }
 
 // Records a Write of the caller's staging file and number. Refusals: 1, 2, 4, 5, 6, 10.
@@ -62,20 +72,42 @@ pub extern "C" fn cda_storage_write(
 ) -> u32
     ensures { λ r. ⌜ Gives (write (now (collection .entry)) (now (key .entry)) (now (staged .entry)) number (now (image .entry)) (length (now (out .entry)))) r (now (out .entry)) (now (out .exit)) (now (written .entry)) (now (written .exit)) ⌝ }
 {
-    let o = handover::open_image(image, IMAGE_ROOM <= out.len());
+    let mut tree = [[0u32; 3]; store::ROOM];
+    let mut staging = [[0u32; 3]; store::ROOM];
+    let o = handover::open_image(image, &mut tree, &mut staging, IMAGE_ROOM <= out.len());
     if o.number != 0 {
         return o.number;
     }
+    if image.len() <= SMALL_IMAGE {
+        let mut src = [0u8; SMALL_ROOM];
+        return recording::write(
+            &mut src,
+            image,
+            &tree,
+            &mut staging,
+            o,
+            collection,
+            key,
+            staged,
+            number,
+            out,
+            written,
+        );
+    }
     let mut src = [0u8; SOURCE_ROOM];
-    field::put_bytes(&mut src, 0, image);
-    let c = lend::lend_name(&mut src, image.len(), collection);
-    let k = lend::lend_key(&mut src, c.end, key);
-    let f = lend::lend_name(&mut src, k.end, staged);
-    let valid = both(both(c.valid, k.valid), f.valid);
-    let s = o.store;
-    let storage = LocalStorage { store: s };
-    let r = storage.write(&src, valid, c.name, k.name, f.name, number);
-    handover::hand_on(&src, r, out, written)
+    recording::write(
+        &mut src,
+        image,
+        &tree,
+        &mut staging,
+        o,
+        collection,
+        key,
+        staged,
+        number,
+        out,
+        written,
+    )
 }
 
 // Records a Delete, after the case rename. Refusals: 1, 2, 4, 5, 6, 8.
@@ -89,19 +121,38 @@ pub extern "C" fn cda_storage_delete(
 ) -> u32
     ensures { λ r. ⌜ Gives (delete (now (collection .entry)) (now (key .entry)) (now (image .entry)) (length (now (out .entry)))) r (now (out .entry)) (now (out .exit)) (now (written .entry)) (now (written .exit)) ⌝ }
 {
-    let o = handover::open_image(image, IMAGE_ROOM <= out.len());
+    let mut tree = [[0u32; 3]; store::ROOM];
+    let mut staging = [[0u32; 3]; store::ROOM];
+    let o = handover::open_image(image, &mut tree, &mut staging, IMAGE_ROOM <= out.len());
     if o.number != 0 {
         return o.number;
     }
+    if image.len() <= SMALL_IMAGE {
+        let mut src = [0u8; SMALL_ROOM];
+        return recording::delete(
+            &mut src,
+            image,
+            &mut tree,
+            &mut staging,
+            o,
+            collection,
+            key,
+            out,
+            written,
+        );
+    }
     let mut src = [0u8; SOURCE_ROOM];
-    field::put_bytes(&mut src, 0, image);
-    let c = lend::lend_name(&mut src, image.len(), collection);
-    let k = lend::lend_key(&mut src, c.end, key);
-    let valid = both(c.valid, k.valid);
-    let s = o.store;
-    let storage = LocalStorage { store: s };
-    let r = storage.delete(&src, valid, c.name, k.name);
-    handover::hand_on(&src, r, out, written)
+    recording::delete(
+        &mut src,
+        image,
+        &mut tree,
+        &mut staging,
+        o,
+        collection,
+        key,
+        out,
+        written,
+    )
 }
 
 // Records a DeleteAll. Refusals: 1, 2, 4, 5, 6.
@@ -114,17 +165,36 @@ pub extern "C" fn cda_storage_delete_all(
 ) -> u32
     ensures { λ r. ⌜ Gives (deleteAll (now (collection .entry)) (now (image .entry)) (length (now (out .entry)))) r (now (out .entry)) (now (out .exit)) (now (written .entry)) (now (written .exit)) ⌝ }
 {
-    let o = handover::open_image(image, IMAGE_ROOM <= out.len());
+    let mut tree = [[0u32; 3]; store::ROOM];
+    let mut staging = [[0u32; 3]; store::ROOM];
+    let o = handover::open_image(image, &mut tree, &mut staging, IMAGE_ROOM <= out.len());
     if o.number != 0 {
         return o.number;
     }
+    if image.len() <= SMALL_IMAGE {
+        let mut src = [0u8; SMALL_ROOM];
+        return recording::delete_all(
+            &mut src,
+            image,
+            &tree,
+            &staging,
+            o,
+            collection,
+            out,
+            written,
+        );
+    }
     let mut src = [0u8; SOURCE_ROOM];
-    field::put_bytes(&mut src, 0, image);
-    let c = lend::lend_name(&mut src, image.len(), collection);
-    let s = o.store;
-    let storage = LocalStorage { store: s };
-    let r = storage.delete_all(&src, c.valid, c.name);
-    handover::hand_on(&src, r, out, written)
+    recording::delete_all(
+        &mut src,
+        image,
+        &tree,
+        &staging,
+        o,
+        collection,
+        out,
+        written,
+    )
 }
 
 // Records a CreateCollection. Refusals: 1, 2, 4, 5, 6, 9.
@@ -137,17 +207,27 @@ pub extern "C" fn cda_storage_create_collection(
 ) -> u32
     ensures { λ r. ⌜ Gives (createCollection (now (name .entry)) (now (image .entry)) (length (now (out .entry)))) r (now (out .entry)) (now (out .exit)) (now (written .entry)) (now (written .exit)) ⌝ }
 {
-    let o = handover::open_image(image, IMAGE_ROOM <= out.len());
+    let mut tree = [[0u32; 3]; store::ROOM];
+    let mut staging = [[0u32; 3]; store::ROOM];
+    let o = handover::open_image(image, &mut tree, &mut staging, IMAGE_ROOM <= out.len());
     if o.number != 0 {
         return o.number;
     }
+    if image.len() <= SMALL_IMAGE {
+        let mut src = [0u8; SMALL_ROOM];
+        return recording::create_collection(
+            &mut src,
+            image,
+            &tree,
+            &staging,
+            o,
+            name,
+            out,
+            written,
+        );
+    }
     let mut src = [0u8; SOURCE_ROOM];
-    field::put_bytes(&mut src, 0, image);
-    let c = lend::lend_name(&mut src, image.len(), name);
-    let s = o.store;
-    let storage = LocalStorage { store: s };
-    let r = storage.create_collection(&src, c.valid, c.name);
-    handover::hand_on(&src, r, out, written)
+    recording::create_collection(&mut src, image, &tree, &staging, o, name, out, written)
 }
 
 // Records a DeleteCollection. Refusals: 1, 2, 4, 5, 6, 7.
@@ -160,17 +240,27 @@ pub extern "C" fn cda_storage_delete_collection(
 ) -> u32
     ensures { λ r. ⌜ Gives (deleteCollection (now (name .entry)) (now (image .entry)) (length (now (out .entry)))) r (now (out .entry)) (now (out .exit)) (now (written .entry)) (now (written .exit)) ⌝ }
 {
-    let o = handover::open_image(image, IMAGE_ROOM <= out.len());
+    let mut tree = [[0u32; 3]; store::ROOM];
+    let mut staging = [[0u32; 3]; store::ROOM];
+    let o = handover::open_image(image, &mut tree, &mut staging, IMAGE_ROOM <= out.len());
     if o.number != 0 {
         return o.number;
     }
+    if image.len() <= SMALL_IMAGE {
+        let mut src = [0u8; SMALL_ROOM];
+        return recording::delete_collection(
+            &mut src,
+            image,
+            &tree,
+            &staging,
+            o,
+            name,
+            out,
+            written,
+        );
+    }
     let mut src = [0u8; SOURCE_ROOM];
-    field::put_bytes(&mut src, 0, image);
-    let c = lend::lend_name(&mut src, image.len(), name);
-    let s = o.store;
-    let storage = LocalStorage { store: s };
-    let r = storage.delete_collection(&src, c.valid, c.name);
-    handover::hand_on(&src, r, out, written)
+    recording::delete_collection(&mut src, image, &tree, &staging, o, name, out, written)
 }
 
 // Records a CopyCollection. Refusals: 1, 2, 4, 5, 6, 7, and 6 again for the destination.
@@ -184,18 +274,38 @@ pub extern "C" fn cda_storage_copy_collection(
 ) -> u32
     ensures { λ r. ⌜ Gives (copyCollection (now (source .entry)) (now (dest .entry)) (now (image .entry)) (length (now (out .entry)))) r (now (out .entry)) (now (out .exit)) (now (written .entry)) (now (written .exit)) ⌝ }
 {
-    let o = handover::open_image(image, IMAGE_ROOM <= out.len());
+    let mut tree = [[0u32; 3]; store::ROOM];
+    let mut staging = [[0u32; 3]; store::ROOM];
+    let o = handover::open_image(image, &mut tree, &mut staging, IMAGE_ROOM <= out.len());
     if o.number != 0 {
         return o.number;
     }
+    if image.len() <= SMALL_IMAGE {
+        let mut src = [0u8; SMALL_ROOM];
+        return recording::copy_collection(
+            &mut src,
+            image,
+            &tree,
+            &staging,
+            o,
+            source,
+            dest,
+            out,
+            written,
+        );
+    }
     let mut src = [0u8; SOURCE_ROOM];
-    field::put_bytes(&mut src, 0, image);
-    let a = lend::lend_name(&mut src, image.len(), source);
-    let b = lend::lend_name(&mut src, a.end, dest);
-    let s = o.store;
-    let storage = LocalStorage { store: s };
-    let r = storage.copy_collection(&src, a.valid, a.name, b.valid, b.name);
-    handover::hand_on(&src, r, out, written)
+    recording::copy_collection(
+        &mut src,
+        image,
+        &tree,
+        &staging,
+        o,
+        source,
+        dest,
+        out,
+        written,
+    )
 }
 
 // Discards the transaction. Refusals: 1, 2, 4.
@@ -203,14 +313,16 @@ pub extern "C" fn cda_storage_copy_collection(
 pub extern "C" fn cda_storage_rollback(image: &[u8], out: &mut [u8], written: &mut usize) -> u32
     ensures { λ r. ⌜ Gives (rollback (now (image .entry)) (length (now (out .entry)))) r (now (out .entry)) (now (out .exit)) (now (written .entry)) (now (written .exit)) ⌝ }
 {
-    let o = handover::open_image(image, IMAGE_ROOM <= out.len());
+    let mut tree = [[0u32; 3]; store::ROOM];
+    let mut staging = [[0u32; 3]; store::ROOM];
+    let o = handover::open_image(image, &mut tree, &mut staging, IMAGE_ROOM <= out.len());
     if o.number != 0 {
         return o.number;
     }
     let s = o.store;
     let storage = LocalStorage { store: s };
     let r = storage.rollback(image);
-    handover::hand_on(image, r, out, written)
+    handover::hand_on(image, &tree, &staging, r, out, written)
 }
 
 // Commits the transaction. Refusals: 1, 2, 4; 14 and 15 hand back the rolled-back image.
@@ -218,18 +330,20 @@ pub extern "C" fn cda_storage_rollback(image: &[u8], out: &mut [u8], written: &m
 pub extern "C" fn cda_storage_commit(image: &[u8], out: &mut [u8], written: &mut usize) -> u32
     ensures { λ r. ⌜ Gives (commit (now (image .entry)) (length (now (out .entry)))) r (now (out .entry)) (now (out .exit)) (now (written .entry)) (now (written .exit)) ⌝ }
 {
-    let o = handover::open_image(image, IMAGE_ROOM <= out.len());
+    let mut tree = [[0u32; 3]; store::ROOM];
+    let mut staging = [[0u32; 3]; store::ROOM];
+    let o = handover::open_image(image, &mut tree, &mut staging, IMAGE_ROOM <= out.len());
     if o.number != 0 {
         return o.number;
     }
     let s = o.store;
     let storage = LocalStorage { store: s };
-    let r = storage.commit(image, false, 0);
+    let r = storage.commit(image, &mut tree, &mut staging, false, 0);
     let found = r.found;
     if found {
         let kept = r.storage;
         let t = kept.store;
-        handover::hand_image(image, t, Tail::Nothing, out, written);
+        handover::hand_image(image, &tree, &staging, t, Tail::Nothing, out, written);
         return r.number;
     }
     4
@@ -248,19 +362,33 @@ pub extern "C" fn cda_storage_commit_step(
     ensures { λ r. ⌜ StepGives (commitStep n (now (image .entry)) (length (now (out .entry))) (length (now (step .entry)))) r (now (out .entry)) (now (out .exit)) (now (written .entry)) (now (written .exit)) (now (step .entry)) (now (step .exit)) (now («step_written» .entry)) (now («step_written» .exit)) ⌝ }
 {
     let room = both(IMAGE_ROOM <= out.len(), STEP_ROOM <= step.len());
-    let o = handover::open_image(image, room);
+    let mut tree = [[0u32; 3]; store::ROOM];
+    let mut staging = [[0u32; 3]; store::ROOM];
+    let o = handover::open_image(image, &mut tree, &mut staging, room);
     if o.number != 0 {
         return o.number;
     }
     let s = o.store;
     let storage = LocalStorage { store: s };
-    let r = storage.commit(image, true, n);
+    let r = storage.commit(image, &mut tree, &mut staging, true, n);
     let found = r.found;
     if found {
         let kept = r.storage;
         let t = kept.store;
         let last = r.last;
-        return handover::hand_step(image, t, r.left, last, n, out, written, step, step_written);
+        return handover::hand_step(
+            image,
+            &tree,
+            &staging,
+            t,
+            r.left,
+            last,
+            n,
+            out,
+            written,
+            step,
+            step_written,
+        );
     }
     4
 }
@@ -270,12 +398,14 @@ pub extern "C" fn cda_storage_commit_step(
 pub extern "C" fn cda_storage_has_pending_work(image: &[u8], pending: &mut u32) -> u32
     ensures { λ r. ⌜ PendingGives (answers.pending (now (image .entry))) r (now (pending .entry)) (now (pending .exit)) ⌝ }
 {
-    let o = handover::open_image(image, true);
+    let mut tree = [[0u32; 3]; store::ROOM];
+    let mut staging = [[0u32; 3]; store::ROOM];
+    let o = handover::open_image(image, &mut tree, &mut staging, true);
     if o.number != 0 {
         return o.number;
     }
     let s = o.store;
-    *pending = yes_or_no(recovery::has_pending_work(image, s));
+    *pending = yes_or_no(recovery::has_pending_work(image, &tree, &staging, s));
     0
 }
 
@@ -284,18 +414,20 @@ pub extern "C" fn cda_storage_has_pending_work(image: &[u8], pending: &mut u32) 
 pub extern "C" fn cda_storage_recover(image: &[u8], out: &mut [u8], written: &mut usize) -> u32
     ensures { λ r. ⌜ Gives (recover (now (image .entry)) (length (now (out .entry)))) r (now (out .entry)) (now (out .exit)) (now (written .entry)) (now (written .exit)) ⌝ }
 {
-    let o = handover::open_image(image, IMAGE_ROOM <= out.len());
+    let mut tree = [[0u32; 3]; store::ROOM];
+    let mut staging = [[0u32; 3]; store::ROOM];
+    let o = handover::open_image(image, &mut tree, &mut staging, IMAGE_ROOM <= out.len());
     if o.number != 0 {
         return o.number;
     }
     let s = o.store;
-    let r = recovery::recover(image, s, false, 0);
+    let r = recovery::recover(image, &mut tree, &mut staging, s, false, 0);
     if r.number != 0 {
         return r.number;
     }
     let run = r.run;
     let t = run.store;
-    handover::hand_image(image, t, Tail::Nothing, out, written);
+    handover::hand_image(image, &tree, &staging, t, Tail::Nothing, out, written);
     0
 }
 
@@ -312,12 +444,14 @@ pub extern "C" fn cda_storage_recover_step(
     ensures { λ r. ⌜ StepGives (recoverStep n (now (image .entry)) (length (now (out .entry))) (length (now (step .entry)))) r (now (out .entry)) (now (out .exit)) (now (written .entry)) (now (written .exit)) (now (step .entry)) (now (step .exit)) (now («step_written» .entry)) (now («step_written» .exit)) ⌝ }
 {
     let room = both(IMAGE_ROOM <= out.len(), STEP_ROOM <= step.len());
-    let o = handover::open_image(image, room);
+    let mut tree = [[0u32; 3]; store::ROOM];
+    let mut staging = [[0u32; 3]; store::ROOM];
+    let o = handover::open_image(image, &mut tree, &mut staging, room);
     if o.number != 0 {
         return o.number;
     }
     let s = o.store;
-    let r = recovery::recover(image, s, true, n);
+    let r = recovery::recover(image, &mut tree, &mut staging, s, true, n);
     if r.number != 0 {
         return r.number;
     }
@@ -326,6 +460,8 @@ pub extern "C" fn cda_storage_recover_step(
     let last = run.last;
     handover::hand_step(
         image,
+        &tree,
+        &staging,
         t,
         run.left,
         last,
@@ -347,18 +483,34 @@ pub extern "C" fn cda_storage_list_keys(
 ) -> u32
     ensures { λ r. ⌜ Gives (listKeys (now (collection .entry)) (now (image .entry)) (length (now (out .entry)))) r (now (out .entry)) (now (out .exit)) (now (written .entry)) (now (written .exit)) ⌝ }
 {
-    let o = handover::open_image(image, KEYS_ROOM <= out.len());
+    let mut tree = [[0u32; 3]; store::ROOM];
+    let mut staging = [[0u32; 3]; store::ROOM];
+    let o = handover::open_image(image, &mut tree, &mut staging, KEYS_ROOM <= out.len());
     if o.number != 0 {
         return o.number;
     }
-    let mut src = [0u8; SOURCE_ROOM];
-    field::put_bytes(&mut src, 0, image);
-    let c = lend::lend_name(&mut src, image.len(), collection);
-    let valid = c.valid;
-    if valid {
-        let s = o.store;
-        *written = local_collection::list_keys(&src, s, c.name, out);
-        return 0;
+    if image.len() <= SMALL_IMAGE {
+        let mut src = [0u8; SMALL_ROOM];
+        return recording::list_keys(
+            &mut src,
+            image,
+            &tree,
+            &staging,
+            o,
+            collection,
+            out,
+            written,
+        );
     }
-    6
+    let mut src = [0u8; SOURCE_ROOM];
+    recording::list_keys(
+        &mut src,
+        image,
+        &tree,
+        &staging,
+        o,
+        collection,
+        out,
+        written,
+    )
 }

@@ -12,42 +12,40 @@ use Rattle.model.specs.Plan.{operationSteps, commitFault, commitPlan}
 use Rattle.model.specs.Answers.{commitNumber}
 use Rattle.laws.specs.Tests.{All}
 use Rattle.laws.specs.OperationLaws.{ValidOp, journal-valid}
-use Rattle.store.specs.declared.Store.{Store}
-use Rattle.store.specs.Stores.{logBytes, storeOf}
+use Rattle.store.specs.Stores.{LentStore, logBytes, storeOf}
 use Rattle.plans.specs.RunLaws.{refusal-kept}
 use Rattle.plans.specs.Endings.{Ends}
 use Rattle.plans.specs.Budget.{Cut, Whole, limited-prefix, unlimited-whole}
 use Rattle.plans.specs.ModelPlans.{plain, careful}
 use Rattle.plans.specs.ModelAnswers.{commitStart, commitEnd, commitUndo, commits}
-use Rattle.steps.specs.declared.Run.{Run}
-use Rattle.steps.specs.CodeRuns.{ModelRun, runOf, SoundRun, Fresh, Follows}
+use Rattle.steps.specs.CodeRuns.{LentRun, ModelRun, runOf, SoundRun, Fresh, Follows}
 use Rattle.wal.specs.declared.WalRead.{WalRead}
 use Rattle.wal.specs.Logs.{opsRead}
 use Rattle.commit.specs.Commits.{Commits}
 
-module _ (src : Bytes) (s : Store) (w : WalRead) (o : opsRead src w ≡ opsOf (journal (logBytes src (s .log)))) where
+module _ (src : Bytes) (s : LentStore) (w : WalRead) (o : opsRead src w ≡ opsOf (journal (logBytes src (s .log)))) where
   -- Every operation of a log has valid names.
   pub read-valid : All ValidOp (opsRead src w)
   read-valid = subst (All ValidOp) (sym o) (journal-valid (logBytes src (s .log)))
 
-  module _ {limited : Bool} {n : ℕ} {start begun tried : Run} (f : Fresh s limited n start) (p : Follows plain src commitStart start begun) (q : Follows careful src (operationSteps (opsRead src w)) begun tried) where
+  module _ {limited : Bool} {n : ℕ} {start begun tried : LentRun} (f : Fresh s limited n start) (p : Follows plain src commitStart start begun) (q : Follows careful src (operationSteps (opsRead src w)) begun tried) where
     started : storeOf src (start .store) ≡ storeOf src s
     started = ap (storeOf src) (f .store)
 
     ops-read : opsRead src w ≡ opsOf (journal (logBytes src (start .store .log)))
-    ops-read = o ∙ ap (λ (t : Store). opsOf (journal (logBytes src (t .log)))) (sym (f .store))
+    ops-read = o ∙ ap (λ (t : LentStore). opsOf (journal (logBytes src (t .log)))) (sym (f .store))
 
     no-refusal : begun .refusal ≡ 0
     no-refusal = ap (λ (r : ModelRun). r .refusal) (p .does .ran) ∙ refusal-kept apply (commitStart (storeOf src (start .store))) (runOf src start) ∙ f .refusal
 
-    ended : (r : Run) → (tried .refusal ≡ 0 → Follows plain src (commitEnd (opsRead src w)) tried r) → ((tried .refusal ≡ 0 → ⊥) → Follows plain src (commitUndo (opsRead src w)) tried r)
+    ended : (r : LentRun) → (tried .refusal ≡ 0 → Follows plain src (commitEnd (opsRead src w)) tried r) → ((tried .refusal ≡ 0 → ⊥) → Follows plain src (commitUndo (opsRead src w)) tried r)
         → Ends apply commitPlan (λ u. commitNumber (commitFault u)) (runOf src start) (runOf src r)
     ended r g h =
         commits (p .does) no-refusal (subst (λ (ops : List Op). Follows careful src (operationSteps ops) begun tried) ops-read q .does)
         (λ z. subst (λ (ops : List Op). Follows plain src (commitEnd ops) tried r) ops-read (g z) .does)
         (λ z. subst (λ (ops : List Op). Follows plain src (commitUndo ops) tried r) ops-read (h z) .does)
 
-    comes-to : (r : Run) → SoundRun src r → Ends apply commitPlan (λ u. commitNumber (commitFault u)) (runOf src start) (runOf src r) → Commits src s limited n r
+    comes-to : (r : LentRun) → SoundRun src r → Ends apply commitPlan (λ u. commitNumber (commitFault u)) (runOf src start) (runOf src r) → Commits src s limited n r
     comes-to r g e = record {
       sound = g;
       cut = λ l. subst (λ (v : model.Store). Cut apply (commitPlan v) n v (runOf src r)) started (limited-prefix apply e (f .stopped) n (f .limited ∙ l) (f .left));
@@ -59,8 +57,8 @@ module _ (src : Bytes) (s : Store) (w : WalRead) (o : opsRead src w ≡ opsOf (j
         all-done l = subst (λ (v : model.Store). Whole apply (commitPlan v) v (runOf src r)) started (unlimited-whole apply e (f .stopped) (f .limited ∙ l))
 
     -- Where no step failed, and where one did.
-    pub finished : {r : Run} → tried .refusal ≡ 0 → Follows plain src (commitEnd (opsRead src w)) tried r → Commits src s limited n r
+    pub finished : {r : LentRun} → tried .refusal ≡ 0 → Follows plain src (commitEnd (opsRead src w)) tried r → Commits src s limited n r
     finished {r} z d = comes-to r (d .sound) (ended r (λ h. d) (λ h. absurd (h z)))
 
-    pub rolled-back : {r : Run} → (tried .refusal ≡ 0 → ⊥) → Follows plain src (commitUndo (opsRead src w)) tried r → Commits src s limited n r
+    pub rolled-back : {r : LentRun} → (tried .refusal ≡ 0 → ⊥) → Follows plain src (commitUndo (opsRead src w)) tried r → Commits src s limited n r
     rolled-back {r} z d = comes-to r (d .sound) (ended r (λ h. absurd (z h)) (λ h. d))

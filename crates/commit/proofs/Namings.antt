@@ -16,8 +16,7 @@ use Rattle.plans.specs.MachineLaws.{begin, turn, goes-as, finish}
 use Rattle.plans.specs.ModelPlans.{plain, in-turn}
 use Rattle.spans.specs.declared.NameRef.{NameRef}
 use Rattle.spans.specs.Spans.{nameOf, Sound, Names}
-use Rattle.steps.specs.declared.Run.{Run}
-use Rattle.steps.specs.CodeRuns.{runOf, SoundRun, Follows}
+use Rattle.steps.specs.CodeRuns.{LentRun, runOf, SoundRun, Follows}
 use Rattle.transaction.specs.Operations.{opOf, SoundOp}
 use Rattle.wal.specs.declared.Logged.{Logged}
 use Rattle.wal.specs.declared.WalRead.{WalRead}
@@ -92,13 +91,13 @@ module _ {src : Bytes} {w : WalRead} {n : ℕ} {dir : NameRef} {i : ℕ} (e : Ea
 abbrev left : Bytes → WalRead → ℕ → List Name
 left src w i = firstNamings (seen src w i) (drop i (named src w))
 
-pub record Syncing (src : Bytes) (w : WalRead) (start now : Run) (i : ℕ) : Type 0 where
+pub record Syncing (src : Bytes) (w : WalRead) (start now : LentRun) (i : ℕ) : Type 0 where
   pub read : SoundRead src w
   pub sound : SoundRun src now
   pub within : i ≤ w .len
   pub going : Going plain (seqOver apply syncExisting (firstNamings [] (named src w))) (seqOver apply syncExisting (left src w i)) (runOf src start) (runOf src now)
 
-pub syncing-start : {src : Bytes} {w : WalRead} {run : Run} → SoundRead src w → SoundRun src run → Syncing src w run run 0
+pub syncing-start : {src : Bytes} {w : WalRead} {run : LentRun} → SoundRead src w → SoundRun src run → Syncing src w run run 0
 syncing-start s r = record { read = s; sound = r; within = omega arith; going = begin lawful }
 
 -- The next collection, by whether it was named before.
@@ -111,7 +110,7 @@ module _ (x : Name) (xs : List Name) (l : List Name) where
   unfolding firstNamings
   named-first h = rw h
 
-module _ {src : Bytes} {w : WalRead} {start now : Run} {i : ℕ} (g : Syncing src w start now i) where
+module _ {src : Bytes} {w : WalRead} {start now : LentRun} {i : ℕ} (g : Syncing src w start now i) where
   pub syncing-end : w .len ≤ i → Follows plain src (inTurn syncExisting (firstNamings [] (named src w))) start now
   unfolding firstNamings
   syncing-end h =
@@ -146,13 +145,13 @@ module _ {src : Bytes} {w : WalRead} {start now : Run} {i : ℕ} (g : Syncing sr
       told-seen : {b : Bool} → isIn (nameOf src r) (seen src w i) ≡ b → isIn x (seen src w i) ≡ b
       told-seen t = sym (ap (λ (n : Name). isIn n (seen src w i)) (q .same)) ∙ t
 
-      pub syncing-skip : {next : Run} → next ≡ now → isIn (nameOf src r) (seen src w i) ≡ true → Syncing src w start next (i + 1)
+      pub syncing-skip : {next : LentRun} → next ≡ now → isIn (nameOf src r) (seen src w i) ≡ true → Syncing src w start next (i + 1)
       syncing-skip e t =
-          subst (λ (n : Run). Syncing src w start n (i + 1)) (sym e)
+          subst (λ (n : LentRun). Syncing src w start n (i + 1)) (sym e)
           record { read = g .read; sound = g .sound; within = omega arith; going = goes (at-next ∙ named-again x _ _ (told-seen t) ∙ left-after) }
 
-      pub syncing-next : {next : Run} (res : Run) → next ≡ res → isIn (nameOf src r) (seen src w i) ≡ false → Follows plain src (syncExisting (nameOf src r)) now res → Syncing src w start next (i + 1)
+      pub syncing-next : {next : LentRun} (res : LentRun) → next ≡ res → isIn (nameOf src r) (seen src w i) ≡ false → Follows plain src (syncExisting (nameOf src r)) now res → Syncing src w start next (i + 1)
       syncing-next res e t p =
           let z : Follows plain src (syncExisting x) now res = subst (λ (n : Name). Follows plain src (syncExisting n) now res) (q .same) p in
-          subst (λ (n : Run). Syncing src w start n (i + 1)) (sym e)
+          subst (λ (n : LentRun). Syncing src w start n (i + 1)) (sym e)
           record { read = g .read; sound = p .sound; within = omega arith; going = turn lawful (goes (at-next ∙ named-first x _ _ (told-seen t) ∙ ap (λ (l : List Name). x ∷ l) left-after)) (z .does) }

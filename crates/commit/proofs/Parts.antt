@@ -10,8 +10,7 @@ use Rattle.model.specs.Step.{Step, syncDirectory}
 use Rattle.model.specs.Plan.{syncExisting}
 use Rattle.plans.specs.Machine.{single, seq}
 use Rattle.plans.specs.ModelPlans.{plain}
-use Rattle.steps.specs.declared.Run.{Run}
-use Rattle.steps.specs.CodeRuns.{Follows}
+use Rattle.steps.specs.CodeRuns.{LentRun, Follows}
 use Rattle.recovery.proofs.Follow.{lawful, follows-as, follows-then}
 use Rattle.recovery.proofs.Picks.{present, absent}
 
@@ -26,6 +25,6 @@ module _ (d : Name) (s : Store) where
   not-synced h = absent (look (d, []) (s .tree)) _ h
 
 -- One step, and then others that do not depend on the store.
-pub step-then : {src : Bytes} {x : Step} {a b c : Run} → Follows plain src (single x) a b → (xs : List Step) → Follows plain src (λ s. xs) b c → Follows plain src (λ s. x ∷ xs) a c
+pub step-then : {src : Bytes} {x : Step} {a b c : LentRun} → Follows plain src (single x) a b → (xs : List Step) → Follows plain src (λ s. xs) b c → Follows plain src (λ s. x ∷ xs) a c
 unfolding seq
 step-then p xs q = follows-as lawful (follows-then lawful p q) refl

@@ -10,17 +10,18 @@ ghost use Rattle.model.specs.Log.{journal, opsOf};
 ghost use Rattle.model.specs.Step.{removeLog, syncJournal};
 ghost use Rattle.model.specs.Plan.{inTurn, collectionOf, firstNamings, syncExisting};
 ghost use Rattle.spans.specs.Spans.{nameOf, Sound, Names};
-ghost use Rattle.store.specs.Stores.{logBytes};
+ghost use Rattle.store.specs.Stores.{storeIn, logBytes};
 ghost use Rattle.plans.specs.ModelPlans.{plain};
 ghost use Rattle.plans.specs.ModelAnswers.{commitStart, commitEnd, commitUndo};
 ghost use Rattle.steps.specs.Steps.{Fits};
-ghost use Rattle.steps.specs.CodeRuns.{SoundRun, Follows};
+ghost use Rattle.steps.specs.CodeRuns.{runIn, SoundRun, Follows};
 ghost use Rattle.transaction.specs.Operations.{opOf, SoundOp};
 ghost use Rattle.wal.specs.Logs.{opsRead, SoundRead};
 ghost use Rattle.commit.specs.Commits.{Commits};
 use spans::NameRef;
 use steps::Run;
 use steps::Step;
+use store::Nodes;
 use store::Store;
 use transaction::Operation;
 use wal::WalRead;
@@ -58,23 +59,31 @@ fn named_before(src: &[u8], w: WalRead, n: usize, dir: NameRef) -> bool
 }
 
 // Syncs a directory, if it stands.
-fn sync_existing(src: &[u8], run: Run, dir: NameRef) -> Run
-    requires { ⌜ SoundRun (now src) run × Sound (now src) dir ⌝ }
-    ensures { λ r. ⌜ Follows plain (now (src .entry)) (syncExisting (nameOf (now (src .entry)) dir)) run r ⌝ }
+fn sync_existing(src: &[u8], tree: &mut Nodes, staging: &mut Nodes, run: Run, dir: NameRef) -> Run
+    requires { ⌜ SoundRun (now src) (runIn (now tree) (now staging) run) × Sound (now src) dir ⌝ }
+    ensures { λ r. ⌜ Follows plain (now (src .entry)) (syncExisting (nameOf (now (src .entry)) dir)) (runIn (now (tree .entry)) (now (staging .entry)) run) (runIn (now (tree .exit)) (now (staging .exit)) r) ⌝ }
 {
     let s = run.store;
-    let t = s.tree;
-    if store::dir_exists(src, t, dir) {
-        return steps::advance(src, run, Step::SyncDirectory(dir));
+    if store::dir_exists(src, tree, s.tree, dir) {
+        return steps::advance(src, tree, staging, run, Step::SyncDirectory(dir));
     }
     run
 }
 
 // Syncs the collections that the operations change. 01, Listings and file steps: "directory syncs in order of first naming".
-fn sync_collection_dirs(src: &[u8], run: Run, w: WalRead) -> Run
-    requires { ⌜ SoundRun (now src) run × SoundRead (now src) w ⌝ }
-    ensures { λ r. ⌜ Follows plain (now (src .entry)) (inTurn syncExisting (firstNamings [] (map collectionOf (opsRead (now (src .entry)) w)))) run r ⌝ }
+fn sync_collection_dirs(
+    src: &[u8],
+    tree: &mut Nodes,
+    staging: &mut Nodes,
+    run: Run,
+    w: WalRead,
+) -> Run
+    requires { ⌜ SoundRun (now src) (runIn (now tree) (now staging) run) × SoundRead (now src) w ⌝ }
+    ensures { λ r. ⌜ Follows plain (now (src .entry)) (inTurn syncExisting (firstNamings [] (map collectionOf (opsRead (now (src .entry)) w)))) (runIn (now (tree .entry)) (now (staging .entry)) run) (runIn (now (tree .exit)) (now (staging .exit)) r) ⌝ }
 {
+    if run.stopped {
+        return run;
+    }
     let n = w.len;
     let mut work = run;
     let mut i: usize = 0;
@@ -83,7 +92,7 @@ fn sync_collection_dirs(src: &[u8], run: Run, w: WalRead) -> Run
         let op = x.op;
         let dir = collection_of(op);
         if !named_before(src, w, i, dir) {
-            work = sync_existing(src, work, dir);
+            work = sync_existing(src, tree, staging, work, dir);
         }
         i += 1;
     }
@@ -91,58 +100,66 @@ fn sync_collection_dirs(src: &[u8], run: Run, w: WalRead) -> Run
 }
 
 // The mark, and what makes it and the staging files durable.
-fn mark_and_sync(src: &[u8], run: Run) -> Run
-    requires { ⌜ SoundRun (now src) run ⌝ }
-    ensures { λ r. ⌜ Follows plain (now (src .entry)) commitStart run r ⌝ }
+fn mark_and_sync(src: &[u8], tree: &mut Nodes, staging: &mut Nodes, run: Run) -> Run
+    requires { ⌜ SoundRun (now src) (runIn (now tree) (now staging) run) ⌝ }
+    ensures { λ r. ⌜ Follows plain (now (src .entry)) commitStart (runIn (now (tree .entry)) (now (staging .entry)) run) (runIn (now (tree .exit)) (now (staging .exit)) r) ⌝ }
 {
-    let marked = steps::advance(src, run, Step::RewriteHeader);
-    let staged = steps::advance(src, marked, Step::SyncStaging);
-    steps::advance(src, staged, Step::SyncLog)
+    let marked = steps::advance(src, tree, staging, run, Step::RewriteHeader);
+    let staged = steps::advance(src, tree, staging, marked, Step::SyncStaging);
+    steps::advance(src, tree, staging, staged, Step::SyncLog)
 }
 
 // The log goes: "the point of no return".
-fn remove_log(src: &[u8], run: Run) -> Run
-    requires { ⌜ SoundRun (now src) run ⌝ }
-    ensures { λ r. ⌜ Follows plain (now (src .entry)) (λ s. removeLog ∷ syncJournal ∷ []) run r ⌝ }
+fn remove_log(src: &[u8], tree: &mut Nodes, staging: &mut Nodes, run: Run) -> Run
+    requires { ⌜ SoundRun (now src) (runIn (now tree) (now staging) run) ⌝ }
+    ensures { λ r. ⌜ Follows plain (now (src .entry)) (λ s. removeLog ∷ syncJournal ∷ []) (runIn (now (tree .entry)) (now (staging .entry)) run) (runIn (now (tree .exit)) (now (staging .exit)) r) ⌝ }
 {
-    let removed = steps::advance(src, run, Step::RemoveLog);
-    steps::advance(src, removed, Step::SyncJournal)
+    let removed = steps::advance(src, tree, staging, run, Step::RemoveLog);
+    steps::advance(src, tree, staging, removed, Step::SyncJournal)
 }
 
 // What follows the operations where no step failed.
-fn finish(src: &[u8], run: Run, w: WalRead) -> Run
-    requires { ⌜ SoundRun (now src) run × SoundRead (now src) w ⌝ }
-    ensures { λ r. ⌜ Follows plain (now (src .entry)) (commitEnd (opsRead (now (src .entry)) w)) run r ⌝ }
+fn finish(src: &[u8], tree: &mut Nodes, staging: &mut Nodes, run: Run, w: WalRead) -> Run
+    requires { ⌜ SoundRun (now src) (runIn (now tree) (now staging) run) × SoundRead (now src) w ⌝ }
+    ensures { λ r. ⌜ Follows plain (now (src .entry)) (commitEnd (opsRead (now (src .entry)) w)) (runIn (now (tree .entry)) (now (staging .entry)) run) (runIn (now (tree .exit)) (now (staging .exit)) r) ⌝ }
 {
-    let named = sync_collection_dirs(src, run, w);
-    let synced = steps::advance(src, named, Step::SyncCollections);
-    let removed = remove_log(src, synced);
-    let cleaned = recovery::delete_all_backup_files(src, removed);
-    recovery::cleanup_staging_dir(src, cleaned)
+    let named = sync_collection_dirs(src, tree, staging, run, w);
+    let synced = steps::advance(src, tree, staging, named, Step::SyncCollections);
+    let removed = remove_log(src, tree, staging, synced);
+    let cleaned = recovery::delete_all_backup_files(src, tree, staging, removed);
+    recovery::cleanup_staging_dir(src, tree, staging, cleaned)
 }
 
 // What follows them where one did (`rollback_applied_operations`, and the log and the staging files go).
-fn roll_back(src: &[u8], run: Run, w: WalRead) -> Run
-    requires { ⌜ SoundRun (now src) run × SoundRead (now src) w ⌝ }
-    ensures { λ r. ⌜ Follows plain (now (src .entry)) (commitUndo (opsRead (now (src .entry)) w)) run r ⌝ }
+fn roll_back(src: &[u8], tree: &mut Nodes, staging: &mut Nodes, run: Run, w: WalRead) -> Run
+    requires { ⌜ SoundRun (now src) (runIn (now tree) (now staging) run) × SoundRead (now src) w ⌝ }
+    ensures { λ r. ⌜ Follows plain (now (src .entry)) (commitUndo (opsRead (now (src .entry)) w)) (runIn (now (tree .entry)) (now (staging .entry)) run) (runIn (now (tree .exit)) (now (staging .exit)) r) ⌝ }
 {
-    let undone = recovery::undo_all(src, run, w);
-    let removed = remove_log(src, undone);
-    recovery::cleanup_staging_dir(src, removed)
+    let undone = recovery::undo_all(src, tree, staging, run, w);
+    let removed = remove_log(src, tree, staging, undone);
+    recovery::cleanup_staging_dir(src, tree, staging, removed)
 }
 
 // The steps of a commit, or where `limited` the first n of them. `w` is what was read of the store's log.
-pub fn apply_inner(src: &[u8], s: Store, w: WalRead, limited: bool, n: u64) -> Run
-    requires { ⌜ Fits (now src) s × (SoundRead (now src) w × (opsRead (now src) w ≡ opsOf (journal (logBytes (now src) (s .log))))) ⌝ }
-    ensures { λ r. ⌜ Commits (now (src .entry)) s limited n r ⌝ }
+pub fn apply_inner(
+    src: &[u8],
+    tree: &mut Nodes,
+    staging: &mut Nodes,
+    s: Store,
+    w: WalRead,
+    limited: bool,
+    n: u64,
+) -> Run
+    requires { ⌜ Fits (now src) (storeIn (now tree) (now staging) s) × (SoundRead (now src) w × (opsRead (now src) w ≡ opsOf (journal (logBytes (now src) (s .log))))) ⌝ }
+    ensures { λ r. ⌜ Commits (now (src .entry)) (storeIn (now (tree .entry)) (now (staging .entry)) s) limited n (runIn (now (tree .exit)) (now (staging .exit)) r) ⌝ }
 {
     let run = steps::start(s, limited, n);
-    let begun = mark_and_sync(src, run);
-    let tried = operations::apply_operations(src, begun, w);
+    let begun = mark_and_sync(src, tree, staging, run);
+    let tried = operations::apply_operations(src, tree, staging, begun, w);
     let refusal = tried.refusal;
     if refusal == 0 {
-        finish(src, tried, w)
+        finish(src, tree, staging, tried, w)
     } else {
-        roll_back(src, tried, w)
+        roll_back(src, tree, staging, tried, w)
     }
 }

@@ -4,6 +4,7 @@ pub mod Nodes
 pub mod Tests
 pub mod Steps
 pub mod Choices
+pub mod Filling
 pub mod Progress
 pub mod Single
 pub mod Whole

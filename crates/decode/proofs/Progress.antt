@@ -15,17 +15,15 @@ use Rattle.model.specs.Base.{Bytes}
 use Rattle.model.specs.Name.{validName}
 use Rattle.model.specs.Field.{Field, encodeField, encodeFields, fieldsFrom}
 use Rattle.model.specs.Store.{ascending}
-use Rattle.laws.specs.MapLaws.{Sorted}
 use Rattle.laws.specs.FieldLaws.{encode-append}
 use Rattle.laws.specs.ImageLaws.{listed, node-parts, staged-parts}
-use Rattle.laws.specs.TreeLaws.{size, isDir, isFile, sorted-ascending}
+use Rattle.laws.specs.TreeLaws.{size, isDir, isFile, ascending-sorted}
 use Rattle.spans.specs.declared.NameRef.{NameRef}
 use Rattle.spans.specs.Spans.{Names}
-use Rattle.store.specs.declared.Table.{Table}
 use Rattle.store.specs.Places.{tableRoom}
-use Rattle.store.specs.Tables.{keyOf, nodeOf, mapOf, Holds}
+use Rattle.store.specs.Words.{Words, nodesOf}
+use Rattle.store.specs.Tables.{keyOf, nodeOf, tableOf, mapOf, Holds}
 use Rattle.store.proofs.Live.{length-table}
-use Rattle.store.proofs.End.{ascending-above, appended}
 use Rattle.decode.specs.declared.Spot.{Spot}
 use Rattle.decode.specs.declared.Next.{Next}
 use Rattle.decode.specs.declared.Next.the-variants.{Is, Other, Broken}
@@ -34,7 +32,8 @@ use Rattle.decode.specs.Listing.{own, filesOf, validAt, Formed, lastKey,
 use Rattle.decode.specs.Spots.{LastDir, SoundSpot, Follows, Stops, Breaks, Comes}
 use Rattle.decode.specs.Decoding.{ReadsNodes}
 use Rattle.decode.proofs.Ahead.{one-more}
-use Rattle.decode.proofs.Rows.{invalid-nil, last-more, above-last, last-below, valid-at, valid-more, size-append, count}
+use Rattle.decode.proofs.Filling.{unused, stored}
+use Rattle.decode.proofs.Rows.{invalid-nil, last-more, last-below, ascending-more, valid-at, valid-more, size-append, count}
 use Rattle.decode.proofs.Nodes.{own-listed, same-node}
 
 -- Before the first node.
@@ -63,14 +62,14 @@ fits-behind {staged} m n r f =
     let v : validAt staged (lastKey none-yet m .0) n ≡ true = valid-at staged none-yet m n r (f .valid) in
     record {
       valid = v;
-      above = last-below (n .0) none-yet m (ascending-above m n r (f .ascends)) (λ e. above-none staged n (rw e at v));
+      above = last-below none-yet m n r (f .ascends) (λ e. above-none staged n (rw e at v));
       dirsFit = omega (arith, size-append isDir m (n ∷ r), f .dirs);
       filesFit = omega (arith, size-append isFile m (n ∷ r), f .files);
     }
 
-formed-more : {staged : Bool} (m : Map) (n : model.Node) → Formed staged m → FitsBehind staged m n → Sorted (m ++ n ∷ []) → Formed staged (m ++ n ∷ [])
-formed-more {staged} m n f h s = record {
-  ascends = sorted-ascending (m ++ n ∷ []) s;
+formed-more : {staged : Bool} (m : Map) (n : model.Node) → Formed staged m → FitsBehind staged m n → Formed staged (m ++ n ∷ [])
+formed-more {staged} m n f h = record {
+  ascends = ascending-more none-yet m n (f .ascends) (h .above);
   valid = valid-more staged none-yet m n (f .valid) (h .valid);
   dirs = omega (arith, size-append isDir m (n ∷ []), h .dirsFit);
   files = omega (arith, size-append isFile m (n ∷ []), h .filesFit);
@@ -81,9 +80,9 @@ encode-more : (g : model.Node → Field) (m : Map) (n : model.Node) → encodeFi
 unfolding encodeFields
 encode-more g m n = ap encodeFields (map-append g m (n ∷ [])) ∙ encode-append (map g m) (g n ∷ []) ∙ ap (λ (l : Bytes). encodeFields (map g m) ++ l) (append-nil (encodeField (g n)))
 
-pub record Progress (staged : Bool) (src : Bytes) (at : ℕ) (t : Table) (p : Spot) : Type 0 where
+pub record Progress (staged : Bool) (src : Bytes) (at : ℕ) (t : Words) (len : ℕ) (p : Spot) : Type 0 where
   pub m : Map
-  pub holds : Holds src t m
+  pub holds : Holds src (tableOf t len) m
   pub spot : SoundSpot staged src p
   pub key : lastKey none-yet m ≡ keyOf src (p .node .dir) (p .node .file)
   pub dirs : p .dirs ≡ size isDir m
@@ -97,12 +96,12 @@ no-dir false = λ h. absurd (h refl)
 no-dir true = refl
 
 -- The listing is empty.
-pub begin : {staged : Bool} {src : Bytes} {at : ℕ} {t : Table} {none : NameRef} → Holds src t [] → Names src none [] → at ≤ length src →
-    Progress staged src at t (record { node = record { dir = none; file = none; number = 0 }; next = at; dirs = 0; files = 0 })
+pub begin : {staged : Bool} {src : Bytes} {at : ℕ} {t : Words} {none : NameRef} → length (nodesOf t) ≡ tableRoom → Names src none [] → at ≤ length src →
+    Progress staged src at t 0 (record { node = record { dir = none; file = none; number = 0 }; next = at; dirs = 0; files = 0 })
 unfolding encodeFields ascending
 begin {staged} {src} {at} {t} {none} h n w = record {
   m = [];
-  holds = h;
+  holds = unused h;
   spot = record { node = record { dir = n .sound; file = n .sound }; within = w; dir = rw (n .same) (no-dir staged); dirsFit = omega arith; filesFit = omega arith };
   key = λ i. (sym (n .same) i, sym (n .same) i);
   dirs = refl;
@@ -112,7 +111,7 @@ begin {staged} {src} {at} {t} {none} h n w = record {
   only = λ y fs f s a. (y, (refl, a));
 }
 
-module _ {staged : Bool} {src : Bytes} {at : ℕ} {t : Table} {p : Spot} (w : Progress staged src at t p) where
+module _ {staged : Bool} {src : Bytes} {at : ℕ} {t : Words} {len : ℕ} {p : Spot} (w : Progress staged src at t len p) where
   -- What a node that fits behind the last one fits.
   behind : (n : model.Node) → Fits staged (keyOf src (p .node .dir) (p .node .file)) (p .dirs) (p .files) n → FitsBehind staged (w .m) n
   behind n f = rw (w .key, ← w .dirs, ← w .files) f
@@ -121,9 +120,9 @@ module _ {staged : Bool} {src : Bytes} {at : ℕ} {t : Table} {p : Spot} (w : Pr
   front n f = rw (← w .key, w .dirs, w .files) f
 
   -- The table has room for one node more.
-  pub room : t .len < tableRoom
+  pub room : len < tableRoom
   room =
-      let l : length (w .m) ≡ t .len = ap length (sym (w .holds .same)) ∙ length-table src (w .holds .sound .sized) in
+      let l : length (w .m) ≡ len = ap length (sym (w .holds .same)) ∙ length-table src (w .holds .sound .sized) in
       omega (arith, count (w .m), w .formed .dirs, limit staged (w .formed .files))
     where
       limit : (s : Bool) → size isFile (w .m) ≤ filesOf s → size isFile (w .m) ≤ fileLimit
@@ -131,16 +130,16 @@ module _ {staged : Bool} {src : Bytes} {at : ℕ} {t : Table} {p : Spot} (w : Pr
       limit true h = omega arith
 
   -- One node more.
-  module _ {q : Spot} (f : Follows staged src p q) where
-    pub goes-on : Progress staged src at (record { nodes = set (t .nodes) (t .len) (q .node); len = t .len + 1 }) q
+  module _ {q : Spot} {u : Words} (f : Follows staged src p q) (e : nodesOf u ≡ set (nodesOf t) len (q .node)) where
+    pub goes-on : Progress staged src at u (len + 1) q
     goes-on = record {
       m = w .m ++ n ∷ [];
-      holds = record { sound = h .sound; same = more };
+      holds = stored (w .holds) (f .spot .node) room e (ascending-sorted (w .m ++ n ∷ []) (more .ascends));
       spot = f .spot;
       key = last-more none-yet (w .m) n;
       dirs = f .dirs ∙ omega (arith, w .dirs, size-append isDir (w .m) (n ∷ []));
       files = f .files ∙ omega (arith, w .files, size-append isFile (w .m) (n ∷ []));
-      formed = formed-more (w .m) n (w .formed) (behind n (f .fits)) (rw more at (h .sound .sorted));
+      formed = more;
       bytes = w .bytes ∙ ap (λ (l : Bytes). encodeFields (map (listed staged) (w .m)) ++ l) (f .bytes) ∙ rw (encode-more (listed staged) (w .m) n) (sym (append-assoc (encodeFields (map (listed staged) (w .m))) (encodeField (listed staged n)) (drop (q .next) src)));
       only = λ y fs g s a. let r = w .only y fs g s a in first-is y fs g s (r .0) (r .1 .0) (r .1 .1);
     }
@@ -148,14 +147,8 @@ module _ {staged : Bool} {src : Bytes} {at : ℕ} {t : Table} {p : Spot} (w : Pr
         n : model.Node
         n = nodeOf src (q .node)
 
-        u : Table
-        u = record { nodes = set (t .nodes) (t .len) (q .node); len = t .len + 1 }
-
-        h : Holds src u (mapOf src t ++ n ∷ [])
-        h = appended (w .holds .sound) (f .spot .node) room (rw (w .holds .same) (above-last _ none-yet (w .m) (rw (w .key) (f .fits .above))))
-
-        more : mapOf src u ≡ w .m ++ n ∷ []
-        more = h .same ∙ ap (λ (m : Map). m ++ n ∷ []) (w .holds .same)
+        more : Formed staged (w .m ++ n ∷ [])
+        more = formed-more (w .m) n (w .formed) (behind n (f .fits))
 
         first-is : (y : Map) (fs : List Field) → Formed staged y → starts (own staged) fs ≡ false → (r : Map) → y ≡ w .m ++ r → Ahead src (p .next) (map (listed staged) r ++ fs) → (r : Map) × ((y ≡ w .m ++ n ∷ [] ++ r) × Ahead src (q .next) (map (listed staged) r ++ fs))
         first-is y fs g s [] e a =
@@ -170,7 +163,7 @@ module _ {staged : Bool} {src : Bytes} {at : ℕ} {t : Table} {p : Spot} (w : Pr
             (r, (e ∙ rw b (sym (append-snoc (w .m) n r)), rw (← l) (o .1 .1)))
 
   -- No field of the listing stands there: all of it was read.
-  pub stops : Stops staged src p → ReadsNodes staged src at (record { ok = true; table = t; next = p .next })
+  pub stops : Stops staged src p → ReadsNodes staged src at t (record { ok = true; len = len; next = p .next })
   stops h = record {
     sound = w .holds .sound;
     reads = record {
@@ -181,12 +174,12 @@ module _ {staged : Bool} {src : Bytes} {at : ℕ} {t : Table} {p : Spot} (w : Pr
     };
   }
     where
-      all : (y : Map) (fs : List Field) (r : Map) → y ≡ w .m ++ r → Ahead src (p .next) (map (listed staged) r ++ fs) → (true ≡ true) × ((y ≡ mapOf src t) × Ahead src (p .next) fs)
+      all : (y : Map) (fs : List Field) (r : Map) → y ≡ w .m ++ r → Ahead src (p .next) (map (listed staged) r ++ fs) → (true ≡ true) × ((y ≡ mapOf src (tableOf t len)) × Ahead src (p .next) fs)
       all y fs [] e a = (refl, (e ∙ append-nil (w .m) ∙ sym (w .holds .same), a))
       all y fs (k ∷ r) e a = absurd (false≢true (sym (h .here _ a) ∙ own-listed staged k))
 
   -- A field that no node has which fits: there is no such listing.
-  pub breaks : Breaks staged src p → ReadsNodes staged src at (record { ok = false; table = t; next = p .next })
+  pub breaks : Breaks staged src p → ReadsNodes staged src at t (record { ok = false; len = len; next = p .next })
   breaks h = record {
     sound = w .holds .sound;
     reads = record {

@@ -9,12 +9,11 @@ use Rattle.model.specs.Order.{lt, Name, Key, cmpKey}
 use Rattle.model.specs.Map.{Map, Node}
 use Rattle.model.specs.Base.{allOf}
 use Rattle.model.specs.Name.{validName}
-use Rattle.model.specs.Store.{validNodes, validStaged}
+use Rattle.model.specs.Store.{validNodes, validStaged, belowFirst, ascending}
 use Rattle.laws.specs.Tests.{nil≢cons, and-both, and-made}
 use Rattle.laws.specs.ImageLaws.{staged-parts}
 use Rattle.laws.specs.ValidNames.{valid-named}
 use Rattle.laws.specs.TreeLaws.{below-lt, size, isDir, isFile, dir-size, file-size}
-use Rattle.store.specs.Places.{aboveLast}
 use Rattle.store.proofs.Tally.{dirs-files}
 use Rattle.decode.specs.Listing.{validAt, validFrom, lastKey}
 
@@ -27,17 +26,20 @@ pub last-more : (k : Key) (m : Map) (n : Node) → lastKey k (m ++ n ∷ []) ≡
 last-more k [] n = refl
 last-more k (x ∷ m) n = last-more (x .0) m n
 
-pub above-last : (k j : Key) (m : Map) → cmpKey (lastKey j m) k ≡ lt → aboveLast k m ≡ true
-unfolding aboveLast
-above-last k j [] h = refl
-above-last k j (n ∷ []) h = rw h
-above-last k j (n ∷ x ∷ m) h = above-last k (n .0) (x ∷ m) h
+-- In an ascending list each key is above the last one before it; a node with a key above the last one goes behind.
+pub last-below : (j : Key) (m : Map) (n : Node) (r : Map) → ascending (m ++ n ∷ r) ≡ true → (m ≡ [] → cmpKey j (n .0) ≡ lt) → cmpKey (lastKey j m) (n .0) ≡ lt
+unfolding ascending
+last-below j [] n r a h = h refl
+last-below j (x ∷ []) n r a h = below-lt (cmpKey (x .0) (n .0)) (and-both (belowFirst (x .0) (n ∷ r)) (ascending (n ∷ r)) a .0)
+last-below j (x ∷ y ∷ m) n r a h = last-below (x .0) (y ∷ m) n r (and-both (belowFirst (x .0) (y ∷ m ++ n ∷ r)) (ascending (y ∷ m ++ n ∷ r)) a .1) (λ e. nil≢cons (sym e))
 
-pub last-below : (k j : Key) (m : Map) → aboveLast k m ≡ true → (m ≡ [] → cmpKey j k ≡ lt) → cmpKey (lastKey j m) k ≡ lt
-unfolding aboveLast
-last-below k j [] a h = h refl
-last-below k j (n ∷ []) a h = below-lt (cmpKey (n .0) k) a
-last-below k j (n ∷ x ∷ m) a h = last-below k (n .0) (x ∷ m) a (λ e. nil≢cons (sym e))
+pub ascending-more : (j : Key) (m : Map) (n : Node) → ascending m ≡ true → cmpKey (lastKey j m) (n .0) ≡ lt → ascending (m ++ n ∷ []) ≡ true
+unfolding ascending
+ascending-more j [] n a h = refl
+ascending-more j (x ∷ []) n a h = rw h
+ascending-more j (x ∷ y ∷ m) n a h =
+    let p = and-both (belowFirst (x .0) (y ∷ m)) (ascending (y ∷ m)) a in
+    and-made (belowFirst (x .0) (y ∷ m ++ n ∷ [])) (ascending (y ∷ m ++ n ∷ [])) (p .0) (ascending-more (x .0) (y ∷ m) n (p .1) h)
 
 -- Valid nodes.
 module _ (staged : Bool) where

@@ -3,14 +3,14 @@ use mathlib.Core.Path.{_≡_, refl, sym, ap, subst, _∙_}
 use mathlib.Core.Bool.{Bool, true, false, _&&_, false≢true}
 use mathlib.Core.List.{[], _∷_, _++_, map, append-nil}
 use mathlib.Core.Option.{Option, none, some}
-use Prim.Native.Nat.{ℕ, _+_, _≤_, _<_}
+use Prim.Native.Nat.{ℕ, _≤_, _<_}
 use native.Mathlib.Omega.{arith}
-use lib.Dec.{leb, eqb}
+use lib.Dec.{eqb}
 use lib.ListN.{length, drop-of-length-le}
 use borrow.Author.Tests.{eq-eqb, eqb-true}
 use Rattle.model.specs.Limits.{imageRoom}
 use Rattle.model.specs.Map.{Map}
-use Rattle.model.specs.Base.{Bytes, caseOption}
+use Rattle.model.specs.Base.{Bytes}
 use Rattle.model.specs.Field.{encodeFields, decodeFields}
 use Rattle.model.specs.Store as model
 use Rattle.model.specs.Store.{dirs, fileCount, wellFormed}
@@ -21,10 +21,10 @@ use Rattle.laws.specs.TreeLaws.{size, isFile, one, dir-size, file-size, length-
 use Rattle.laws.specs.StoreLaws.{LogFits, fits-log, Good, good}
 use Rattle.laws.specs.ValidNames.{Valid, validNaming}
 use Rattle.laws.specs.LengthLaws.{encode-length}
-use Rattle.store.specs.Tables.{Holds}
-use Rattle.store.specs.Stores.{storeOf}
-use Rattle.store.specs.declared.Table.{Table}
 use Rattle.store.specs.declared.Store.{Store}
+use Rattle.store.specs.Words.{Words, nodesOf}
+use Rattle.store.specs.Places.{tableRoom}
+use Rattle.store.specs.Stores.{storeIn, storeOf}
 use Rattle.store.proofs.Lists.{drop-zero}
 use Rattle.decode.specs.declared.NodesPart.{NodesPart}
 use Rattle.decode.specs.declared.LogPart.{LogPart}
@@ -33,6 +33,7 @@ use Rattle.decode.specs.Reading.{Ahead, starts}
 use Rattle.decode.specs.Listing.{own, Formed}
 use Rattle.decode.specs.Decoding.{ReadsNodes, ReadsLog, ReadsMark, Decodes}
 use Rattle.decode.proofs.Ahead.{ended}
+use Rattle.decode.proofs.Filling.{unused}
 use Rattle.decode.proofs.Rows.{valid-tree, valid-staging, count, staged-files}
 
 -- What stands behind a part has no tag of it.
@@ -83,9 +84,9 @@ ahead src s e =
     rw (drop-zero src) (f ∙ ap some (regroup s))
 
 abbrev joined : NodesPart → NodesPart → LogPart → MarkPart → Store
-joined t g l m = record { tree = t .table; staging = g .table; log = l .log; «open_mark» = m .mark }
+joined t g l m = record { tree = t .len; staging = g .len; log = l .log; «open_mark» = m .mark }
 
-module _ {src : Bytes} {t g : NodesPart} {l : LogPart} {m : MarkPart} (T : ReadsNodes false src 0 t) (G : ReadsNodes true src (t .next) g) (L : ReadsLog src (g .next) l) (M : ReadsMark src (l .next) m) where
+module _ {src : Bytes} {u v : Words} {t g : NodesPart} {l : LogPart} {m : MarkPart} (T : ReadsNodes false src 0 u t) (G : ReadsNodes true src (t .next) v g) (L : ReadsLog src (g .next) l) (M : ReadsMark src (l .next) m) where
   -- All parts were read, up to the end.
   record Read : Type 0 where
     tree : t .ok ≡ true
@@ -94,11 +95,11 @@ module _ {src : Bytes} {t g : NodesPart} {l : LogPart} {m : MarkPart} (T : Reads
     mark : m .ok ≡ true
     end : m .next ≡ length src
 
-  accepted : Read → decode src ≡ some (storeOf src (joined t g l m))
+  accepted : Read → decode src ≡ some (storeOf src (storeIn u v (joined t g l m)))
   accepted r = subst (λ (b : Bytes). decode b ≡ some s) (encode-parts s ∙ sym bytes) (decode-encode s (well s (T .reads .formed (r .tree)) (G .reads .formed (r .staging)) (L .reads .formed (r .log))))
     where
       s : model.Store
-      s = storeOf src (joined t g l m)
+      s = storeOf src (storeIn u v (joined t g l m))
 
       a : Bytes
       a = encodeFields (map nodeField (s .tree))
@@ -122,7 +123,7 @@ module _ {src : Bytes} {t g : NodesPart} {l : LogPart} {m : MarkPart} (T : Reads
       let d = M .reads .only (s .openMark) [] tt refl (rw (append-nil (markField (s .openMark))) (c .1 .1)) in
       record { tree = a .0; staging = b .0; log = c .0; mark = d .0; end = ended src (m .next) (M .reads .within) (d .1 .1) }
 
-  pub decided : (ok : Bool) → ok ≡ ((t .ok && g .ok) && (l .ok && (m .ok && eqb (m .next) (length src)))) → Decodes src (record { ok = ok; store = joined t g l m })
+  pub decided : (ok : Bool) → ok ≡ ((t .ok && g .ok) && (l .ok && (m .ok && eqb (m .next) (length src)))) → Decodes src u v (record { ok = ok; store = joined t g l m })
   decided ok e = record {
     sound = record { tree = T .sound; staging = G .sound; log = L .sound };
     plain = L .plain;
@@ -146,10 +147,10 @@ module _ {src : Bytes} {t g : NodesPart} {l : LogPart} {m : MarkPart} (T : Reads
       no z (some s) q = absurd (false≢true (sym z ∙ ready (all-read s q)))
 
 -- A longer image than any store's.
-pub too-long : (src : Bytes) {t g : Table} → imageRoom < length src → Holds src t [] → Holds src g [] →
-    Decodes src (record { ok = false; store = record { tree = t; staging = g; log = record { start = 0; len = 0; stands = false; marked = false }; «open_mark» = false } })
+pub too-long : (src : Bytes) {t g : Words} → imageRoom < length src → length (nodesOf t) ≡ tableRoom → length (nodesOf g) ≡ tableRoom →
+    Decodes src t g (record { ok = false; store = record { tree = 0; staging = 0; log = record { start = 0; len = 0; stands = false; marked = false }; «open_mark» = false } })
 too-long src {t} {g} h T G = record {
-  sound = record { tree = T .sound; staging = G .sound; log = record { inside = omega arith } };
+  sound = record { tree = unused T .sound; staging = unused G .sound; log = record { inside = omega arith } };
   plain = refl;
   accepted = λ z. absurd (false≢true z);
   refused = λ z. no (decode src) refl;

@@ -10,8 +10,9 @@ use Rattle.model.specs.Store as model
 use Rattle.model.specs.Image.{logField, markField, decode}
 use Rattle.laws.specs.StoreLaws.{LogFits}
 use Rattle.laws.specs.ImageLaws.{listed}
-use Rattle.store.specs.Tables.{mapOf, SoundTable}
-use Rattle.store.specs.Stores.{logBytes, storeOf, SoundLog, SoundStore}
+use Rattle.store.specs.Words.{Words}
+use Rattle.store.specs.Tables.{tableOf, mapOf, SoundTable}
+use Rattle.store.specs.Stores.{storeIn, logBytes, storeOf, SoundLog, SoundStore}
 use Rattle.decode.specs.declared.NodesPart.{NodesPart}
 use Rattle.decode.specs.declared.LogPart.{LogPart}
 use Rattle.decode.specs.declared.MarkPart.{MarkPart}
@@ -19,9 +20,9 @@ use Rattle.decode.specs.declared.Decoded.{Decoded}
 use Rattle.decode.specs.Reading.{Reads}
 use Rattle.decode.specs.Listing.{own, Formed}
 
-pub record ReadsNodes (staged : Bool) (src : Bytes) (at : ℕ) (r : NodesPart) : Type 0 where
-  pub sound : SoundTable src (r .table)
-  pub reads : Reads (map (listed staged)) (Formed staged) (own staged) src at (r .ok) (mapOf src (r .table)) (r .next)
+pub record ReadsNodes (staged : Bool) (src : Bytes) (at : ℕ) (t : Words) (r : NodesPart) : Type 0 where
+  pub sound : SoundTable src (tableOf t (r .len))
+  pub reads : Reads (map (listed staged)) (Formed staged) (own staged) src at (r .ok) (mapOf src (tableOf t (r .len))) (r .next)
 
 -- Its header is as the image has it.
 pub record ReadsLog (src : Bytes) (at : ℕ) (r : LogPart) : Type 0 where
@@ -33,8 +34,8 @@ pub record ReadsMark (src : Bytes) (at : ℕ) (r : MarkPart) : Type 0 where
   pub reads : Reads markField (λ b. Unit {0}) (λ t. eqb t 0x14) src at (r .ok) (r .mark) (r .next)
 
 -- 01, Sixteen numbers: "1. The image breaks its layout or a limit." The store of the image; an image that the definition refuses is refused.
-pub record Decodes (src : Bytes) (r : Decoded) : Type 0 where
-  pub sound : SoundStore src (r .store)
+pub record Decodes (src : Bytes) (tree staging : Words) (r : Decoded) : Type 0 where
+  pub sound : SoundStore src (storeIn tree staging (r .store))
   pub plain : r .store .log .marked ≡ false
-  pub accepted : r .ok ≡ true → decode src ≡ some (storeOf src (r .store))
+  pub accepted : r .ok ≡ true → decode src ≡ some (storeOf src (storeIn tree staging (r .store)))
   pub refused : r .ok ≡ false → decode src ≡ none

@@ -14,8 +14,8 @@ use spans::NameRef;
 use spans::Order;
 use store::LogRef;
 use store::Node;
+use store::Nodes;
 use store::Store;
-use store::Table;
 
 // "At most 16 directories, 128 files, 32 staging files, 6,824 log bytes; so at most 19,262 bytes."
 const DIR_LIMIT: usize = 16;
@@ -52,7 +52,7 @@ pub enum Next {
 
 pub struct NodesPart {
     pub ok: bool,
-    pub table: Table,
+    pub len: usize,
     pub next: usize,
 }
 
@@ -199,12 +199,12 @@ fn next_node(src: &[u8], last: Spot, staged: bool) -> Next
 }
 
 // The listing that stands at a place: the directories with their files, or the staging files. Its nodes come in ascending order, so each is
-// stored at the table's end, in place: `store::append` would copy the table.
-fn read_nodes(src: &[u8], at: usize, staged: bool) -> NodesPart
+// stored behind the one before. The table is cleared first, so that its length is known: of a lent array it is not.
+fn read_nodes(src: &[u8], at: usize, staged: bool, t: &mut Nodes) -> NodesPart
     requires { ⌜ (length (now src) ≤ imageRoom) × (at ≤ length (now src)) ⌝ }
-    ensures { λ r. ⌜ ReadsNodes staged (now (src .entry)) at r ⌝ }
+    ensures { λ r. ⌜ ReadsNodes staged (now (src .entry)) at (now (t .exit)) r ⌝ }
 {
-    let mut t = store::empty();
+    *t = [[0u32; 3]; store::ROOM];
     let none = spans::empty();
     let mut last = Spot {
         node: Node {
@@ -216,27 +216,27 @@ fn read_nodes(src: &[u8], at: usize, staged: bool) -> NodesPart
         dirs: 0,
         files: 0,
     };
+    let mut len: usize = 0;
     loop {
         let n = next_node(src, last, staged);
         match n {
             Next::Is(p) => {
                 let x = p.node;
-                let n = t.len;
-                t.nodes[n] = x;
-                t.len = n + 1;
+                store::set_node(t, len, x);
+                len += 1;
                 last = p;
             }
             Next::Other => {
                 return NodesPart {
                     ok: true,
-                    table: t,
+                    len: len,
                     next: last.next,
                 };
             }
             Next::Broken => {
                 return NodesPart {
                     ok: false,
-                    table: t,
+                    len: len,
                     next: last.next,
                 };
             }
@@ -327,25 +327,23 @@ fn both(a: bool, b: bool) -> bool
 }
 
 // "A store image is, in this order": each part behind the one before, and nothing behind the last.
-fn read_image(src: &[u8]) -> Decoded
+fn read_image(src: &[u8], tree: &mut Nodes, staging: &mut Nodes) -> Decoded
     requires { ⌜ length (now src) ≤ imageRoom ⌝ }
-    ensures { λ r. ⌜ Decodes (now (src .entry)) r ⌝ }
+    ensures { λ r. ⌜ Decodes (now (src .entry)) (now (tree .exit)) (now (staging .exit)) r ⌝ }
 {
-    let t = read_nodes(src, 0, false);
-    let g = read_nodes(src, t.next, true);
+    let t = read_nodes(src, 0, false, tree);
+    let g = read_nodes(src, t.next, true, staging);
     let l = read_log(src, g.next);
     let m = read_mark(src, l.next);
     let listings = both(t.ok, g.ok);
     let tail = both(l.ok, both(m.ok, m.next == src.len()));
     let ok = both(listings, tail);
-    let tree = t.table;
-    let staging = g.table;
     let log = l.log;
     Decoded {
         ok: ok,
         store: Store {
-            tree: tree,
-            staging: staging,
+            tree: t.len,
+            staging: g.len,
             log: log,
             open_mark: m.mark,
         },
@@ -353,19 +351,21 @@ fn read_image(src: &[u8]) -> Decoded
 }
 
 // The store of an image (01, Sixteen numbers, 1). A longer image than any store's is refused at once.
-pub fn decode(src: &[u8]) -> Decoded
-    ensures { λ r. ⌜ Decodes (now (src .entry)) r ⌝ }
+pub fn decode(src: &[u8], tree: &mut Nodes, staging: &mut Nodes) -> Decoded
+    ensures { λ r. ⌜ Decodes (now (src .entry)) (now (tree .exit)) (now (staging .exit)) r ⌝ }
 {
     if IMAGE_LIMIT < src.len() {
+        *tree = [[0u32; 3]; store::ROOM];
+        *staging = [[0u32; 3]; store::ROOM];
         return Decoded {
             ok: false,
             store: Store {
-                tree: store::empty(),
-                staging: store::empty(),
+                tree: 0,
+                staging: 0,
                 log: NO_LOG,
                 open_mark: false,
             },
         };
     }
-    read_image(src)
+    read_image(src, tree, staging)
 }

@@ -15,9 +15,9 @@ use Rattle.field.proofs.Written.{encoded-length}
 use Rattle.spans.specs.Spans.{nameOf, lengthOf}
 use Rattle.spans.proofs.Parts.{length-name}
 use Rattle.store.specs.declared.Node.{Node}
-use Rattle.store.specs.declared.Table.{Table}
 use Rattle.store.specs.declared.LogRef.{LogRef}
-use Rattle.store.specs.Tables.{nodeOf, mapOf, SoundNode, Sized, SoundTable}
+use Rattle.store.specs.Words.{blank}
+use Rattle.store.specs.Tables.{Table, nodeOf, mapOf, SoundNode, Sized, SoundTable}
 use Rattle.store.specs.Stores.{SoundLog}
 use Rattle.store.proofs.Lists.{drop-zero}
 use Rattle.store.proofs.Live.{rest, finished, sound-at}
@@ -48,19 +48,19 @@ module _ {x : Node} {n : ℕ} (e : n ≡ lengthOf (x .file)) (b : n < 2_048) whe
 abbrev pub bytesOf : Bool → Bytes → Table → Bytes
 bytesOf staged src t = encodeFields (map (listed staged) (mapOf src t))
 
-abbrev pub bytesAt : Bool → Bytes → Table → ℕ → Node → Bytes
-bytesAt staged src t i d = encodeField (listed staged (nodeOf src (getD (t .nodes) i d)))
+abbrev pub bytesAt : Bool → Bytes → Table → ℕ → Bytes
+bytesAt staged src t i = encodeField (listed staged (nodeOf src (getD (t .nodes) i blank)))
 
 abbrev pub bytesFrom : Bool → Bytes → Table → ℕ → Bytes
 bytesFrom staged src t i = encodeFields (map (listed staged) (drop i (mapOf src t)))
 
 module _ (staged : Bool) (src : Bytes) {t : Table} (i : ℕ) (s : Sized t) where
-  pub next-bytes : (d : Node) → i < t .len → bytesFrom staged src t i ≡ bytesAt staged src t i d ++ bytesFrom staged src t (i + 1)
+  pub next-bytes : i < t .len → bytesFrom staged src t i ≡ bytesAt staged src t i ++ bytesFrom staged src t (i + 1)
   unfolding encodeFields
-  next-bytes d h = rw (rest src s i d h)
+  next-bytes h = rw (rest src s i blank h)
 
-  pub next-length : (d : Node) → i < t .len → length (bytesFrom staged src t i) ≡ length (bytesAt staged src t i d) + length (bytesFrom staged src t (i + 1))
-  next-length d h = ap length (next-bytes d h) ∙ length-append (bytesAt staged src t i d) (bytesFrom staged src t (i + 1))
+  pub next-length : i < t .len → length (bytesFrom staged src t i) ≡ length (bytesAt staged src t i) + length (bytesFrom staged src t (i + 1))
+  next-length h = ap length (next-bytes h) ∙ length-append (bytesAt staged src t i) (bytesFrom staged src t (i + 1))
 
   pub last-bytes : t .len ≤ i → bytesFrom staged src t i ≡ []
   unfolding encodeFields
@@ -77,13 +77,15 @@ pub start : {staged : Bool} {t : Table} → Sized t → Counting staged t 0 0
 start {staged} {t} s = record { sized = s; within = omega arith; bound = omega arith; same = λ src h. rw (drop-zero (mapOf src t)) (omega arith) }
 
 module _ {staged : Bool} {t : Table} {n i : ℕ} (w : Counting staged t n i) where
-  pub counted : (d : Node) {k : ℕ} → i < t .len → NodeSize staged (getD (t .nodes) i d) k → Counting staged t (n + k) (i + 1)
-  counted d {k} h z = record {
-    sized = w .sized;
-    within = omega arith;
-    bound = omega (arith, w .bound, z .bound);
-    same = λ src s. omega (arith, next-length staged src i (w .sized) d h, w .same src s, z .same src (sound-at i d s h));
-  }
+  pub counted : {x : Node} {k : ℕ} → i < t .len → x ≡ getD (t .nodes) i blank → NodeSize staged x k → Counting staged t (n + k) (i + 1)
+  counted {x} {k} h e z =
+      let y : NodeSize staged (getD (t .nodes) i blank) k = rw e at z in
+      record {
+        sized = w .sized;
+        within = omega arith;
+        bound = omega (arith, w .bound, z .bound);
+        same = λ src s. omega (arith, next-length staged src i (w .sized) h, w .same src s, y .same src (sound-at i blank s h));
+      }
 
   pub all-counted : t .len ≤ i → NodesSize staged t n
   all-counted h = record {

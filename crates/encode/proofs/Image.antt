@@ -12,8 +12,7 @@ use Rattle.model.specs.Image.{markField, encode}
 use Rattle.laws.specs.ImageLaws.{encode-parts}
 use Rattle.field.specs.Writing.{written}
 use Rattle.field.proofs.Written.{written-full, length-written, written-then, written-front}
-use Rattle.store.specs.declared.Store.{Store}
-use Rattle.store.specs.Stores.{storeOf, SoundStore}
+use Rattle.store.specs.Stores.{LentStore, storeOf, SoundStore}
 use Rattle.wal.specs.declared.Tail.{Tail}
 use Rattle.wal.specs.declared.Tail.the-variants.{Nothing, Header, Entry}
 use Rattle.wal.specs.Tails.{withTail}
@@ -23,28 +22,28 @@ use Rattle.encode.specs.Encoding.{writtenCount, Encodes}
 use Rattle.encode.proofs.Counting.{bytesOf}
 
 -- The bytes of the parts.
-abbrev tree : Bytes → Store → Bytes
+abbrev tree : Bytes → LentStore → Bytes
 tree src s = bytesOf false src (s .tree)
 
-abbrev staging : Bytes → Store → Bytes
+abbrev staging : Bytes → LentStore → Bytes
 staging src s = bytesOf true src (s .staging)
 
-abbrev log : Bytes → Tail → Store → Bytes
+abbrev log : Bytes → Tail → LentStore → Bytes
 log src tail s = fieldAfter src tail (s .log)
 
-abbrev mark : Store → Bytes
+abbrev mark : LentStore → Bytes
 mark s = encodeFields (markField (s .open_mark))
 
 -- The image that a tail leaves.
-abbrev image : Bytes → Tail → Store → Bytes
+abbrev image : Bytes → Tail → LentStore → Bytes
 image src tail s = encode (withTail src tail (storeOf src s))
 
-in-parts : (src : Bytes) (tail : Tail) (s : Store) → image src tail s ≡ tree src s ++ (staging src s ++ (log src tail s ++ mark s))
+in-parts : (src : Bytes) (tail : Tail) (s : LentStore) → image src tail s ≡ tree src s ++ (staging src s ++ (log src tail s ++ mark s))
 in-parts src Nothing s = encode-parts (withTail src Nothing (storeOf src s))
 in-parts src Header s = encode-parts (withTail src Header (storeOf src s))
 in-parts src (Entry o) s = encode-parts (withTail src (Entry o) (storeOf src s))
 
-module _ {src : Bytes} {s : Store} {tail : Tail} (h : SoundStore src s) {a g l m : ℕ} (A : NodesSize false (s .tree) a) (G : NodesSize true (s .staging) g) (L : TailSize src (s .log) tail l) (M : m ≡ length (mark s)) where
+module _ {src : Bytes} {s : LentStore} {tail : Tail} (h : SoundStore src s) {a g l m : ℕ} (A : NodesSize false (s .tree) a) (G : NodesSize true (s .staging) g) (L : TailSize src (s .log) tail l) (M : m ≡ length (mark s)) where
   tree-size : a ≡ length (tree src s)
   tree-size = A .same src (h .tree)
 

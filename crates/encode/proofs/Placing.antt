@@ -12,6 +12,7 @@ use Rattle.model.specs.Base.{Bytes}
 use Rattle.model.specs.Field.{littleEndian, encodeField}
 use Rattle.model.specs.Log.{header, markCommitting}
 use Rattle.laws.specs.ListLaws.{take-zero, part-length, drop-take}
+use Rattle.laws.specs.ImageLaws.{listed}
 use Rattle.field.specs.Writing.{written, field}
 use Rattle.field.proofs.Written.{written-none, written-nil, length-written, written-written, written-then, encoded-length}
 use Rattle.spans.specs.declared.NameRef.{NameRef}
@@ -19,11 +20,11 @@ use Rattle.spans.specs.Spans.{nameOf, lengthOf, Sound}
 use Rattle.spans.proofs.Parts.{length-name}
 use Rattle.store.specs.declared.LogRef.{LogRef}
 use Rattle.store.specs.declared.Node.{Node}
-use Rattle.store.specs.declared.Table.{Table}
-use Rattle.store.specs.Tables.{mapOf, SoundTable}
+use Rattle.store.specs.Words.{blank}
+use Rattle.store.specs.Tables.{Table, nodeOf, mapOf, SoundTable}
 use Rattle.store.specs.Stores.{logBytes}
 use Rattle.store.proofs.Lists.{drop-zero}
-use Rattle.store.proofs.Live.{sound-at}
+use Rattle.store.proofs.Read.{sound-read}
 use Rattle.encode.specs.Logs.{logStart}
 use Rattle.encode.specs.Sizes.{NodeSize}
 use Rattle.encode.proofs.Shapes.{header-length, log-absent, log-plain, log-marked, start-length, start-head}
@@ -123,22 +124,28 @@ module _ {staged : Bool} {src : Bytes} {t : Table} where
   begin {at} {out} h = record { within = omega arith; size = refl; left = rw (drop-zero (mapOf src t)); room = h; same = rw (drop-zero (mapOf src t)) }
 
   module _ {at p i : ℕ} {out now : Bytes} (s : SoundTable src t) (w : Placing staged src t at out now p i) where
-    module _ (d : Node) {k : ℕ} (h : i < t .len) (z : NodeSize staged (getD (t .nodes) i d) k) where
-      -- The place behind the node.
-      pub in-output : p + k + length (bytesFrom staged src t (i + 1)) ≡ at + length (bytesOf staged src t)
-      in-output = omega (arith, w .left, z .same src (sound-at i d s h), next-length staged src i (s .sized) d h)
+    module _ {x : Node} (h : i < t .len) (e : x ≡ getD (t .nodes) i blank) where
+      module _ {k : ℕ} (z : NodeSize staged x k) where
+        node-length : k ≡ length (bytesAt staged src t i)
+        node-length = z .same src (sound-read s h e) ∙ rw e
 
-      pub placed : {after : Bytes} → after ≡ written p (bytesAt staged src t i d) now → Placing staged src t at out after (p + k) (i + 1)
-      placed e = record {
-        within = omega arith;
-        size = ap length e ∙ length-written p (bytesAt staged src t i d) now ∙ w .size;
-        left = in-output;
-        room = w .room;
-        same =
-            ap (written (p + k) (bytesFrom staged src t (i + 1))) e
-            ∙ written-written p (p + k) (bytesAt staged src t i d) (bytesFrom staged src t (i + 1)) now (ap (p +_) (z .same src (sound-at i d s h))) (omega (arith, in-output, w .room, w .size))
-            ∙ ap (λ (b : Bytes). written p b now) (sym (next-bytes staged src i (s .sized) d h)) ∙ w .same;
-      }
+        -- The place behind the node.
+        pub in-output : p + k + length (bytesFrom staged src t (i + 1)) ≡ at + length (bytesOf staged src t)
+        in-output = omega (arith, w .left, node-length, next-length staged src i (s .sized) h)
+
+        pub placed : {after : Bytes} → after ≡ written p (encodeField (listed staged (nodeOf src x))) now → Placing staged src t at out after (p + k) (i + 1)
+        placed {after} f =
+            let g : after ≡ written p (bytesAt staged src t i) now = f ∙ rw e in
+            record {
+              within = omega arith;
+              size = ap length g ∙ length-written p (bytesAt staged src t i) now ∙ w .size;
+              left = in-output;
+              room = w .room;
+              same =
+                  ap (written (p + k) (bytesFrom staged src t (i + 1))) g
+                  ∙ written-written p (p + k) (bytesAt staged src t i) (bytesFrom staged src t (i + 1)) now (ap (p +_) node-length) (omega (arith, in-output, w .room, w .size))
+                  ∙ ap (λ (b : Bytes). written p b now) (sym (next-bytes staged src i (s .sized) h)) ∙ w .same;
+            }
 
     pub all-placed : t .len ≤ i → now ≡ written at (bytesOf staged src t) out
     all-placed h = sym (ap (λ (b : Bytes). written p b now) (last-bytes staged src i (s .sized) h) ∙ written-nil p now) ∙ w .same

@@ -11,10 +11,9 @@ use Rattle.model.specs.Log.{entry}
 use Rattle.model.specs.Image.{logField}
 use Rattle.laws.specs.ImageLaws.{listed}
 use Rattle.store.specs.declared.Node.{Node}
-use Rattle.store.specs.declared.Table.{Table}
 use Rattle.store.specs.declared.LogRef.{LogRef}
 use Rattle.store.specs.Places.{tableRoom}
-use Rattle.store.specs.Tables.{nodeOf, mapOf, SoundNode, SoundTable}
+use Rattle.store.specs.Tables.{Table, nodeOf, mapOf, SoundNode, SoundTable}
 use Rattle.store.specs.Stores.{logBytes, SoundLog}
 use Rattle.transaction.specs.declared.Operation.{Operation}
 use Rattle.transaction.specs.Operations.{opOf}

@@ -11,8 +11,8 @@ ghost use Rattle.model.specs.Image.{markField, encode};
 ghost use Rattle.laws.specs.ImageLaws.{listed};
 ghost use Rattle.field.specs.Writing.{written, field};
 ghost use Rattle.spans.specs.Spans.{nameOf, Sound};
-ghost use Rattle.store.specs.Tables.{nodeOf, mapOf, SoundNode, Sized, SoundTable};
-ghost use Rattle.store.specs.Stores.{logBytes, storeOf, SoundLog, SoundStore};
+ghost use Rattle.store.specs.Tables.{nodeOf, tableOf, mapOf, SoundNode, Sized, SoundTable};
+ghost use Rattle.store.specs.Stores.{storeIn, logBytes, storeOf, SoundLog, SoundStore};
 ghost use Rattle.transaction.specs.Operations.{opOf, SoundOp};
 ghost use Rattle.wal.specs.Tails.{withTail, SoundTail};
 ghost use Rattle.wal.specs.declared.Tail.the-variants.{Entry};
@@ -22,8 +22,8 @@ ghost use Rattle.encode.specs.Encoding.{Encodes};
 use spans::NameRef;
 use store::LogRef;
 use store::Node;
+use store::Nodes;
 use store::Store;
-use store::Table;
 use transaction::Operation;
 use wal::Tail;
 
@@ -64,15 +64,14 @@ fn node_size(x: Node, staged: bool) -> usize
 }
 
 // How many bytes the directories with their files, or the staging files, have.
-fn nodes_size(t: Table, staged: bool) -> usize
-    requires { ⌜ Sized t ⌝ }
-    ensures { λ r. ⌜ NodesSize staged t r ⌝ }
+fn nodes_size(t: &Nodes, n: usize, staged: bool) -> usize
+    requires { ⌜ Sized (tableOf (now t) n) ⌝ }
+    ensures { λ r. ⌜ NodesSize staged (tableOf (now (t .entry)) n) r ⌝ }
 {
-    let n = t.len;
     let mut size: usize = 0;
     let mut i: usize = 0;
     while i < n {
-        let x = t.nodes[i];
+        let x = store::node_at(t, i);
         size += node_size(x, staged);
         i += 1;
     }
@@ -156,15 +155,14 @@ fn put_node(src: &[u8], x: Node, staged: bool, out: &mut [u8], at: usize)
 }
 
 // The directories with their files, or the staging files.
-fn put_nodes(src: &[u8], t: Table, staged: bool, out: &mut [u8], at: usize)
-    requires { ⌜ SoundTable (now src) t × (at + length (encodeFields (map (listed staged) (mapOf (now src) t))) ≤ length (now out)) ⌝ }
-    ensures { λ _. ⌜ now (out .exit) ≡ written at (encodeFields (map (listed staged) (mapOf (now (src .entry)) t))) (now (out .entry)) ⌝ }
+fn put_nodes(src: &[u8], t: &Nodes, n: usize, staged: bool, out: &mut [u8], at: usize)
+    requires { ⌜ SoundTable (now src) (tableOf (now t) n) × (at + length (encodeFields (map (listed staged) (mapOf (now src) (tableOf (now t) n)))) ≤ length (now out)) ⌝ }
+    ensures { λ _. ⌜ now (out .exit) ≡ written at (encodeFields (map (listed staged) (mapOf (now (src .entry)) (tableOf (now (t .entry)) n)))) (now (out .entry)) ⌝ }
 {
-    let n = t.len;
     let mut p = at;
     let mut i: usize = 0;
     while i < n {
-        let x = t.nodes[i];
+        let x = store::node_at(t, i);
         put_node(src, x, staged, out, p);
         p += node_size(x, staged);
         i += 1;
@@ -259,22 +257,27 @@ fn put_mark(mark: bool, out: &mut [u8], at: usize)
 }
 
 // "A store image is, in this order": written whole, or not at all where it has no room. The answer is how many bytes were written.
-pub fn encode(src: &[u8], s: Store, tail: Tail, out: &mut [u8]) -> usize
-    requires { ⌜ SoundStore (now src) s × SoundTail (now src) tail ⌝ }
-    ensures { λ r. ⌜ Encodes (encode (withTail (now (src .entry)) tail (storeOf (now (src .entry)) s))) (now (out .entry)) (now (out .exit)) r ⌝ }
+pub fn encode(
+    src: &[u8],
+    tree: &Nodes,
+    staging: &Nodes,
+    s: Store,
+    tail: Tail,
+    out: &mut [u8],
+) -> usize
+    requires { ⌜ SoundStore (now src) (storeIn (now tree) (now staging) s) × SoundTail (now src) tail ⌝ }
+    ensures { λ r. ⌜ Encodes (encode (withTail (now (src .entry)) tail (storeOf (now (src .entry)) (storeIn (now (tree .entry)) (now (staging .entry)) s)))) (now (out .entry)) (now (out .exit)) r ⌝ }
 {
-    let tree = s.tree;
-    let staging = s.staging;
     let log = s.log;
-    let a = nodes_size(tree, false);
-    let b = a + nodes_size(staging, true);
+    let a = nodes_size(tree, s.tree, false);
+    let b = a + nodes_size(staging, s.staging, true);
     let c = b + tail_size(src, log, tail);
     let n = c + mark_size(s.open_mark);
     if out.len() < n {
         return 0;
     }
-    put_nodes(src, tree, false, out, 0);
-    put_nodes(src, staging, true, out, a);
+    put_nodes(src, tree, s.tree, false, out, 0);
+    put_nodes(src, staging, s.staging, true, out, a);
     put_tail(src, log, tail, out, b);
     put_mark(s.open_mark, out, c);
     n

@@ -1,24 +1,21 @@
 -- What the lent outputs hold after a refusal and after an answer.
 use mathlib.Core.Path.{_≡_, refl, sym, ap, subst, _∙_}
 use mathlib.Core.Bool.{Bool, true, false, false≢true}
-use mathlib.Core.List.{[]}
 use Prim.Native.Nat.{ℕ, _≤_}
 use native.Mathlib.Omega.{arith}
 use lib.ListN.{length}
 use lib.Dec.{eqb}
-use borrow.Author.Tests.{ne-eqb, eq-eqb}
-use Rattle.model.specs.Limits.{imageRoom}
-use Rattle.model.specs.Base.{Bytes, if_then_else_, caseOption}
+use borrow.Author.Tests.{ne-eqb}
+use Rattle.model.specs.Base.{Bytes}
 use Rattle.model.specs.Store as model
 use Rattle.model.specs.Image.{encode, decode}
-use Rattle.model.specs.Record.{Outcome, refuse, give}
-use Rattle.model.specs.Answers.{Answer, refusal, answer, outcome, onImage}
+use Rattle.model.specs.Answers.{Answer, refusal, answer, outcome}
 use Rattle.laws.specs.ImageLaws.{decode-only}
 use Rattle.laws.specs.ValidNames.{validNaming}
 use Rattle.laws.specs.LengthLaws.{encode-length}
 use Rattle.laws.specs.EntryLaws.{lent-good}
-use Rattle.store.specs.Stores.{storeOf}
-use Rattle.store.specs.declared.Store.{Store}
+use Rattle.store.specs.Words.{Words}
+use Rattle.store.specs.Stores.{LentStore, storeIn, storeOf}
 use Rattle.decode.specs.Decoding.{Decodes}
 use Rattle.decode.specs.declared.Decoded.{Decoded}
 use Rattle.local_storage.specs.Recording.{outcomeOf, handedOn}
@@ -30,24 +27,23 @@ use Rattle.field.specs.Writing as writing
 use Rattle.steps.specs.declared.Step.{Step}
 use Rattle.handover.specs.Contract.{handsBack, Gives, StepGives, Writes}
 use Rattle.handover.specs.Opening.{Held, Opens, fieldOf, stepped}
-use Rattle.handover.specs.declared.Opened.{Opened}
 
 -- An image that is accepted.
-module _ {image : Bytes} {d : Decoded} (w : Decodes image d) where
+module _ {image : Bytes} {tree staging : Words} {d : Decoded} (w : Decodes image tree staging d) where
   module _ (ok : d .ok ≡ true) where
-    held : Held image (d .store)
+    held : Held image (storeIn tree staging (d .store))
     held =
         let e = w .accepted ok in
-        let g = lent-good image (storeOf image (d .store)) e in
-        record { sound = w .sound; plain = w .plain; short = omega (arith, ap length (decode-only image (storeOf image (d .store)) e .0), encode-length validNaming (storeOf image (d .store)) g); accepted = e; well = g }
+        let g = lent-good image (storeOf image (storeIn tree staging (d .store))) e in
+        record { sound = w .sound; plain = w .plain; short = omega (arith, ap length (decode-only image (storeOf image (storeIn tree staging (d .store))) e .0), encode-length validNaming (storeOf image (storeIn tree staging (d .store))) g); accepted = e; well = g }
 
-    pub opened : {room : Bool} → room ≡ true → Opens image room (record { number = 0; store = d .store })
+    pub opened : {room : Bool} → room ≡ true → Opens image room tree staging (record { number = 0; store = d .store })
     opened {room} r = record { held = λ z. held; roomy = λ z. r; alone = λ h. absurd (h refl); broken = λ t h. absurd (h refl); given = λ z next. rw (w .accepted ok, r); refused = λ h next. absurd (h refl) }
 
-    pub no-room : {room : Bool} → room ≡ false → Opens image room (record { number = 2; store = d .store })
+    pub no-room : {room : Bool} → room ≡ false → Opens image room tree staging (record { number = 2; store = d .store })
     no-room {room} r = record { held = λ z. absurd (omega arith); roomy = λ z. absurd (omega arith); alone = λ h. refl; broken = λ t h. absurd (false≢true (sym r ∙ t)); given = λ z next. absurd (omega arith); refused = λ h next. rw (w .accepted ok, r) }
 
-  pub broken : d .ok ≡ false → (room : Bool) → Opens image room (record { number = 1; store = d .store })
+  pub broken : d .ok ≡ false → (room : Bool) → Opens image room tree staging (record { number = 1; store = d .store })
   broken e room = record { held = λ z. absurd (omega arith); roomy = λ z. absurd (omega arith); alone = λ h. refl; broken = λ t h. (w .refused e, refl); given = λ z next. absurd (omega arith); refused = λ h next. rw (w .refused e) }
 
 -- A refusal leaves all outputs.
@@ -63,18 +59,18 @@ pub gives : {a : Answer} {n : ℕ} {image out out' : Bytes} {written written' : 
 gives {a} {n} h e i w = record { number = e; image = w .same ∙ rw i; count = w .size ∙ rw (sym e, h, i) }
 
 -- What a recording method answered.
-pub recorded : (src : Bytes) (r : Recorded) → r .number ≡ 0 → outcome (outcomeOf src r) ≡ answer 0 (handedOn src r)
-recorded src r z = rw z
+pub recorded : (src : Bytes) (tree staging : Words) (r : Recorded) → r .number ≡ 0 → outcome (outcomeOf src tree staging r) ≡ answer 0 (handedOn src tree staging r)
+recorded src tree staging r z = rw z
 
-pub turned-down : (src : Bytes) (r : Recorded) → (r .number ≡ 0 → ⊥) → outcome (outcomeOf src r) ≡ refusal (r .number)
-turned-down src r h = rw (ne-eqb (r .number) 0 h)
+pub turned-down : (src : Bytes) (tree staging : Words) (r : Recorded) → (r .number ≡ 0 → ⊥) → outcome (outcomeOf src tree staging r) ≡ refusal (r .number)
+turned-down src tree staging r h = rw (ne-eqb (r .number) 0 h)
 
 -- The answer of a step entry.
-pub stepped-past : (src : Bytes) (s : Store) (left : ℕ) (last : Step) (n : ℕ) → (left ≡ 0 → ⊥) → stepped src s left last n ≡ refusal 16
+pub stepped-past : (src : Bytes) (s : LentStore) (left : ℕ) (last : Step) (n : ℕ) → (left ≡ 0 → ⊥) → stepped src s left last n ≡ refusal 16
 unfolding stepped
 stepped-past src s left last n h = rw (ne-eqb left 0 h)
 
-pub stepped-at : (src : Bytes) (s : Store) (left : ℕ) (last : Step) (n : ℕ) → left ≡ 0 → stepped src s left last n ≡ record { number = 0; image = encode (storeOf src s); step = fieldOf src last n }
+pub stepped-at : (src : Bytes) (s : LentStore) (left : ℕ) (last : Step) (n : ℕ) → left ≡ 0 → stepped src s left last n ≡ record { number = 0; image = encode (storeOf src s); step = fieldOf src last n }
 unfolding stepped
 stepped-at src s left last n z = rw z
 

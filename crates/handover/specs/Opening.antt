@@ -14,15 +14,15 @@ use Rattle.model.specs.Step.{stepField}
 use Rattle.model.specs.Answers.{Answer, refusal, onImage}
 use Rattle.laws.specs.ValidNames.{Valid}
 use Rattle.laws.specs.StoreLaws.{Good}
-use Rattle.store.specs.Stores.{storeOf, SoundStore}
-use Rattle.store.specs.declared.Store.{Store}
+use Rattle.store.specs.Words.{Words}
+use Rattle.store.specs.Stores.{LentStore, storeIn, storeOf, SoundStore}
 use Rattle.steps.specs.Steps.{stepOf, SoundStep}
 use Rattle.steps.specs.declared.Step.{Step}
 use Rattle.handover.specs.Contract.{handsBack}
 use Rattle.handover.specs.declared.Opened.{Opened}
 
 -- A store that an image holds.
-pub record Held (image : Bytes) (s : Store) : Type 0 where
+pub record Held (image : Bytes) (s : LentStore) : Type 0 where
   pub sound : SoundStore image s
   pub plain : s .log .marked ≡ false
   pub short : length image ≤ imageRoom
@@ -30,12 +30,12 @@ pub record Held (image : Bytes) (s : Store) : Type 0 where
   pub well : Good Valid (storeOf image s)
 
 -- What `open_image` answers: the refusal 1 or 2, or the store that what follows begins with.
-pub record Opens (image : Bytes) (room : Bool) (r : Opened) : Type 0 where
-  pub held : r .number ≡ 0 → Held image (r .store)
+pub record Opens (image : Bytes) (room : Bool) (tree staging : Words) (r : Opened) : Type 0 where
+  pub held : r .number ≡ 0 → Held image (storeIn tree staging (r .store))
   pub roomy : r .number ≡ 0 → room ≡ true
   pub alone : (r .number ≡ 0 → ⊥) → handsBack (r .number) ≡ false
   pub broken : room ≡ true → (r .number ≡ 0 → ⊥) → (decode image ≡ none) × (r .number ≡ 1)
-  pub given : r .number ≡ 0 → (next : model.Store → Answer) → onImage image room next ≡ next (storeOf image (r .store))
+  pub given : r .number ≡ 0 → (next : model.Store → Answer) → onImage image room next ≡ next (storeOf image (storeIn tree staging (r .store)))
   pub refused : (r .number ≡ 0 → ⊥) → (next : model.Store → Answer) → onImage image room next ≡ refusal (r .number)
 
 -- The field of the step that was done last, as the n-th; none for n = 0.
@@ -43,11 +43,11 @@ unfoldable pub fieldOf : Bytes → Step → ℕ → Bytes
 fieldOf src last n = if eqb n 0 then [] else stepField (stepOf src last)
 
 -- The answer of a step entry after n steps, by what is left of them.
-unfoldable pub stepped : Bytes → Store → ℕ → Step → ℕ → Answer
+unfoldable pub stepped : Bytes → LentStore → ℕ → Step → ℕ → Answer
 stepped src s left last n = if eqb left 0 then record { number = 0; image = encode (storeOf src s); step = fieldOf src last n } else refusal 16
 
 -- What lets it be handed back: the image and the field have room.
-pub record StepStands (src : Bytes) (s : Store) (left : ℕ) (last : Step) (n out step : ℕ) : Type 0 where
+pub record StepStands (src : Bytes) (s : LentStore) (left : ℕ) (last : Step) (n out step : ℕ) : Type 0 where
   pub sound : SoundStore src s
   pub lastSound : SoundStep src last
   pub room : left ≡ 0 → length (encode (storeOf src s)) ≤ out

@@ -5,7 +5,7 @@ ghost use Prim.Native.Nat.{_≤_};
 ghost use lib.ListN.{length};
 ghost use Rattle.model.specs.Image.{encode};
 ghost use Rattle.model.specs.Answers.{outcome};
-ghost use Rattle.store.specs.Stores.{storeOf, SoundStore};
+ghost use Rattle.store.specs.Stores.{storeIn, storeOf, SoundStore};
 ghost use Rattle.wal.specs.Tails.{withTail, SoundTail};
 ghost use Rattle.steps.specs.Steps.{SoundStep};
 ghost use Rattle.local_storage.specs.Recording.{outcomeOf};
@@ -13,6 +13,7 @@ ghost use Rattle.handover.specs.Contract.{handsBack, Gives, StepGives, W
 ghost use Rattle.handover.specs.Opening.{Opens, fieldOf, StepStands, stepped};
 use local_storage::Recorded;
 use steps::Step;
+use store::Nodes;
 use store::Store;
 use wal::Tail;
 
@@ -23,10 +24,10 @@ pub struct Opened {
 }
 
 // 01, Sixteen numbers: "1. The image breaks its layout or a limit. 2. The lent output has under 19,262 bytes".
-pub fn open_image(image: &[u8], room: bool) -> Opened
-    ensures { λ r. ⌜ Opens (now (image .entry)) room r ⌝ }
+pub fn open_image(image: &[u8], tree: &mut Nodes, staging: &mut Nodes, room: bool) -> Opened
+    ensures { λ r. ⌜ Opens (now (image .entry)) room (now (tree .exit)) (now (staging .exit)) r ⌝ }
 {
-    let d = decode::decode(image);
+    let d = decode::decode(image, tree, staging);
     let ok = d.ok;
     let s = d.store;
     if ok {
@@ -48,17 +49,32 @@ pub fn open_image(image: &[u8], room: bool) -> Opened
 }
 
 // A store's image, with the log that a tail leaves, written at the front of the output, and how many bytes it has.
-pub fn hand_image(src: &[u8], s: Store, tail: Tail, out: &mut [u8], written: &mut usize)
-    requires { ⌜ (SoundStore (now src) s × SoundTail (now src) tail) × (length (encode (withTail (now src) tail (storeOf (now src) s))) ≤ length (now out)) ⌝ }
-    ensures { λ _. ⌜ Writes (encode (withTail (now (src .entry)) tail (storeOf (now (src .entry)) s))) (now (out .entry)) (now (out .exit)) (now (written .exit)) ⌝ }
+pub fn hand_image(
+    src: &[u8],
+    tree: &Nodes,
+    staging: &Nodes,
+    s: Store,
+    tail: Tail,
+    out: &mut [u8],
+    written: &mut usize,
+)
+    requires { ⌜ (SoundStore (now src) (storeIn (now tree) (now staging) s) × SoundTail (now src) tail) × (length (encode (withTail (now src) tail (storeOf (now src) (storeIn (now tree) (now staging) s)))) ≤ length (now out)) ⌝ }
+    ensures { λ _. ⌜ Writes (encode (withTail (now (src .entry)) tail (storeOf (now (src .entry)) (storeIn (now (tree .entry)) (now (staging .entry)) s)))) (now (out .entry)) (now (out .exit)) (now (written .exit)) ⌝ }
 {
-    *written = encode::encode(src, s, tail, out);
+    *written = encode::encode(src, tree, staging, s, tail, out);
 }
 
 // What a method that records answered.
-pub fn hand_on(src: &[u8], r: Recorded, out: &mut [u8], written: &mut usize) -> u32
-    requires { ⌜ (SoundStore (now src) (r .storage .store) × SoundTail (now src) (r .tail)) × ((length (outcome (outcomeOf (now src) r) .image) ≤ length (now out)) × ((r .number ≡ 0 → ⊥) → handsBack (r .number) ≡ false)) ⌝ }
-    ensures { λ n. ⌜ Gives (outcome (outcomeOf (now (src .entry)) r)) n (now (out .entry)) (now (out .exit)) (now (written .entry)) (now (written .exit)) ⌝ }
+pub fn hand_on(
+    src: &[u8],
+    tree: &Nodes,
+    staging: &Nodes,
+    r: Recorded,
+    out: &mut [u8],
+    written: &mut usize,
+) -> u32
+    requires { ⌜ (SoundStore (now src) (storeIn (now tree) (now staging) (r .storage .store)) × SoundTail (now src) (r .tail)) × ((length (outcome (outcomeOf (now src) (now tree) (now staging) r) .image) ≤ length (now out)) × ((r .number ≡ 0 → ⊥) → handsBack (r .number) ≡ false)) ⌝ }
+    ensures { λ n. ⌜ Gives (outcome (outcomeOf (now (src .entry)) (now (tree .entry)) (now (staging .entry)) r)) n (now (out .entry)) (now (out .exit)) (now (written .entry)) (now (written .exit)) ⌝ }
 {
     let n = r.number;
     if n != 0 {
@@ -67,7 +83,7 @@ pub fn hand_on(src: &[u8], r: Recorded, out: &mut [u8], written: &mut usize) -> 
     let storage = r.storage;
     let s = storage.store;
     let tail = r.tail;
-    hand_image(src, s, tail, out, written);
+    hand_image(src, tree, staging, s, tail, out, written);
     0
 }
 
@@ -86,6 +102,8 @@ fn hand_field(src: &[u8], last: Step, n: u64, step: &mut [u8], step_written: &mu
 // The image after n steps and the last step's field; 16 where some of the n steps are left.
 pub fn hand_step(
     src: &[u8],
+    tree: &Nodes,
+    staging: &Nodes,
     s: Store,
     left: u64,
     last: Step,
@@ -95,13 +113,13 @@ pub fn hand_step(
     step: &mut [u8],
     step_written: &mut usize,
 ) -> u32
-    requires { ⌜ StepStands (now src) s left last n (length (now out)) (length (now step)) ⌝ }
-    ensures { λ r. ⌜ StepGives (stepped (now (src .entry)) s left last n) r (now (out .entry)) (now (out .exit)) (now (written .entry)) (now (written .exit)) (now (step .entry)) (now (step .exit)) (now («step_written» .entry)) (now («step_written» .exit)) ⌝ }
+    requires { ⌜ StepStands (now src) (storeIn (now tree) (now staging) s) left last n (length (now out)) (length (now step)) ⌝ }
+    ensures { λ r. ⌜ StepGives (stepped (now (src .entry)) (storeIn (now (tree .entry)) (now (staging .entry)) s) left last n) r (now (out .entry)) (now (out .exit)) (now (written .entry)) (now (written .exit)) (now (step .entry)) (now (step .exit)) (now («step_written» .entry)) (now («step_written» .exit)) ⌝ }
 {
     if left != 0 {
         return 16;
     }
-    hand_image(src, s, Tail::Nothing, out, written);
+    hand_image(src, tree, staging, s, Tail::Nothing, out, written);
     hand_field(src, last, n, step, step_written);
     0
 }

@@ -18,9 +18,9 @@ use Rattle.laws.specs.ValidNames.{validNaming}
 use Rattle.laws.specs.ImageLaws.{decode-only}
 use Rattle.laws.specs.LengthLaws.{encode-length}
 use Rattle.laws.specs.EntryLaws.{lent-good, on-recover}
-use Rattle.store.specs.declared.Table.{Table}
-use Rattle.store.specs.Tables.{mapOf, Holds}
-use Rattle.store.specs.Stores.{storeOf}
+use Rattle.store.specs.Words.{Words}
+use Rattle.store.specs.Tables.{Table, tableOf, mapOf, Holds}
+use Rattle.store.specs.Stores.{storeIn, storeOf}
 use Rattle.steps.specs.Steps.{Fits}
 use Rattle.steps.proofs.Room.{of-good}
 use Rattle.recovery.specs.declared.Recovered.{Recovered}
@@ -64,23 +64,23 @@ module _ (b : Bytes) where
 same-text : {a b out after : Bytes} {n : ℕ} → a ≡ b → Encodes b out after n → Encodes a out after n
 same-text e w = rw e w
 
-module _ {b : Bytes} {d : Decoded} (w : Decodes b d) {out after : Bytes} {k : ℕ} where
-  pub broken : {t : Table} → d .ok ≡ false → Holds b t [] → Encodes (textOf 1 (mapOf b t)) out after k → Encodes (listing b) out after k
+module _ {b : Bytes} {t g : Words} {d : Decoded} (w : Decodes b t g d) {out after : Bytes} {k : ℕ} where
+  pub broken : {n : Table} → d .ok ≡ false → Holds b n [] → Encodes (textOf 1 (mapOf b n)) out after k → Encodes (listing b) out after k
   broken e h v = same-text (image-refused b (w .refused e) ∙ ap (textOf 1) (sym (h .same))) v
 
-  module _ (e : d .ok ≡ true) {limited : Bool} {r : Recovered} (c : Recovers b (d .store) limited 0 r) where
-    pub turned-down : {t : Table} → (r .number ≡ 0 → ⊥) → Holds b t [] → Encodes (textOf (r .number) (mapOf b t)) out after k → Encodes (listing b) out after k
+  module _ (e : d .ok ≡ true) {limited : Bool} {u v : Words} {r : Recovered} (c : Recovers b (storeIn t g (d .store)) limited 0 u v r) where
+    pub turned-down : {n : Table} → (r .number ≡ 0 → ⊥) → Holds b n [] → Encodes (textOf (r .number) (mapOf b n)) out after k → Encodes (listing b) out after k
     turned-down z h v = same-text (log-refused b (w .accepted e) (recovery.refused c z) ∙ ap (textOf (r .number)) (sym (h .same))) v
 
-    pub listed : limited ≡ false → r .number ≡ 0 → Encodes (textOf 0 (mapOf b (r .run .store .tree))) out after k → Encodes (listing b) out after k
+    pub listed : limited ≡ false → r .number ≡ 0 → Encodes (textOf 0 (mapOf b (tableOf u (r .run .store .tree)))) out after k → Encodes (listing b) out after k
     listed l z v = same-text (all-done b (w .accepted e) (recovery.not-refused c z) ∙ ap (λ (s : model.Store). textOf 0 (s .tree)) (recovery.recovered-is c z l)) v
 
 -- An image that is read can be recovered.
-module _ {b : Bytes} {d : Decoded} (w : Decodes b d) (e : d .ok ≡ true) where
-  pub fitting : Fits b (d .store)
-  fitting = record { sound = w .sound; within = of-good (lent-good b (storeOf b (d .store)) (w .accepted e)) }
+module _ {b : Bytes} {t g : Words} {d : Decoded} (w : Decodes b t g d) (e : d .ok ≡ true) where
+  pub fitting : Fits b (storeIn t g (d .store))
+  fitting = record { sound = w .sound; within = of-good (lent-good b (storeOf b (storeIn t g (d .store))) (w .accepted e)) }
 
   pub short : length b ≤ 0xFFFF
   short =
       let a = w .accepted e in
-      omega (arith, ap length (decode-only b (storeOf b (d .store)) a .0), encode-length validNaming (storeOf b (d .store)) (lent-good b (storeOf b (d .store)) a))
+      omega (arith, ap length (decode-only b (storeOf b (storeIn t g (d .store))) a .0), encode-length validNaming (storeOf b (storeIn t g (d .store))) (lent-good b (storeOf b (storeIn t g (d .store))) a))

@@ -5,13 +5,14 @@ use native.Mathlib.Omega.{arith}
 use lib.ListN.{length, getD, length-append}
 use borrow.Author.Tests.{le-leb, lt-leb}
 use Rattle.model.specs.Base.{Bytes}
+use Rattle.model.specs.Answers.{listingLine}
 use Rattle.field.specs.Writing.{written}
 use Rattle.field.proofs.Written.{written-full, written-nil, length-written, written-written, written-then}
 use Rattle.store.specs.declared.Node.{Node}
-use Rattle.store.specs.declared.Table.{Table}
-use Rattle.store.specs.Tables.{mapOf, SoundTable}
+use Rattle.store.specs.Words.{blank}
+use Rattle.store.specs.Tables.{Table, nodeOf, mapOf, SoundTable}
 use Rattle.store.proofs.Lists.{drop-zero}
-use Rattle.store.proofs.Live.{sound-at}
+use Rattle.store.proofs.Read.{sound-read}
 use Rattle.encode.specs.Encoding.{writtenCount, Encodes}
 use Rattle.listing.specs.Lines.{answerLine, linesOf, textOf, LineSize, LinesSize}
 use Rattle.listing.proofs.Counting.{lineAt, linesFrom, next-line, next-length, no-line}
@@ -29,26 +30,31 @@ module _ {src : Bytes} {t : Table} where
   begin {at} {out} h = record { within = omega arith; size = refl; left = rw (drop-zero (mapOf src t)); room = h; same = rw (drop-zero (mapOf src t)) }
 
   module _ {at p i : ℕ} {out now : Bytes} (s : SoundTable src t) (w : Placing src t at out now p i) where
-    module _ (d : Node) (h : i < t .len) where
-      pub line-room : p + length (lineAt src t i d) ≤ length now
-      line-room = omega (arith, w .left, w .room, w .size, next-length src i (s .sized) d h)
+    module _ {x : Node} (h : i < t .len) (e : x ≡ getD (t .nodes) i blank) where
+      pub line-room : p + length (listingLine (nodeOf src x)) ≤ length now
+      line-room = rw e (omega (arith, w .left, w .room, w .size, next-length src i (s .sized) h))
 
-      module _ {k : ℕ} (z : LineSize (getD (t .nodes) i d) k) where
+      module _ {k : ℕ} (z : LineSize x k) where
+        line-length : k ≡ length (lineAt src t i)
+        line-length = z .same src (sound-read s h e) ∙ rw e
+
         -- The place behind the node's line.
         pub in-output : p + k + length (linesFrom src t (i + 1)) ≡ at + length (linesOf (mapOf src t))
-        in-output = omega (arith, w .left, z .same src (sound-at i d s h), next-length src i (s .sized) d h)
+        in-output = omega (arith, w .left, line-length, next-length src i (s .sized) h)
 
-        pub placed : {after : Bytes} → after ≡ written p (lineAt src t i d) now → Placing src t at out after (p + k) (i + 1)
-        placed e = record {
-          within = omega arith;
-          size = ap length e ∙ length-written p (lineAt src t i d) now ∙ w .size;
-          left = in-output;
-          room = w .room;
-          same =
-              ap (written (p + k) (linesFrom src t (i + 1))) e
-              ∙ written-written p (p + k) (lineAt src t i d) (linesFrom src t (i + 1)) now (ap (p +_) (z .same src (sound-at i d s h))) (omega (arith, in-output, w .room, w .size))
-              ∙ ap (λ (b : Bytes). written p b now) (sym (next-line src i (s .sized) d h)) ∙ w .same;
-        }
+        pub placed : {after : Bytes} → after ≡ written p (listingLine (nodeOf src x)) now → Placing src t at out after (p + k) (i + 1)
+        placed {after} f =
+            let g : after ≡ written p (lineAt src t i) now = f ∙ rw e in
+            record {
+              within = omega arith;
+              size = ap length g ∙ length-written p (lineAt src t i) now ∙ w .size;
+              left = in-output;
+              room = w .room;
+              same =
+                  ap (written (p + k) (linesFrom src t (i + 1))) g
+                  ∙ written-written p (p + k) (lineAt src t i) (linesFrom src t (i + 1)) now (ap (p +_) line-length) (omega (arith, in-output, w .room, w .size))
+                  ∙ ap (λ (b : Bytes). written p b now) (sym (next-line src i (s .sized) h)) ∙ w .same;
+            }
 
     pub all-placed : t .len ≤ i → now ≡ written at (linesOf (mapOf src t)) out
     all-placed h = sym (ap (λ (b : Bytes). written p b now) (no-line src i (s .sized) h) ∙ written-nil p now) ∙ w .same

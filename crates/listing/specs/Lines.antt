@@ -7,9 +7,8 @@ use Rattle.model.specs.Map.{Map}
 use Rattle.model.specs.Base.{Bytes, flatMap}
 use Rattle.model.specs.Answers.{decimal, listingLine}
 use Rattle.store.specs.declared.Node.{Node}
-use Rattle.store.specs.declared.Table.{Table}
 use Rattle.store.specs.Places.{tableRoom}
-use Rattle.store.specs.Tables.{nodeOf, mapOf, SoundNode, SoundTable}
+use Rattle.store.specs.Tables.{Table, nodeOf, mapOf, SoundNode, SoundTable}
 
 -- What a line ends in that has a number: a space, the number in decimal, a line feed.
 unfoldable pub numberEnd : ℕ → Bytes

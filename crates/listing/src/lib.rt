@@ -4,11 +4,11 @@ ghost use Prim.Native.Nat.{_+_, _%_, _≤_};
 ghost use lib.ListN.{length};
 ghost use Rattle.model.specs.Answers.{decimal, listingLine, listing};
 ghost use Rattle.field.specs.Writing.{written};
-ghost use Rattle.store.specs.Tables.{nodeOf, mapOf, SoundNode, Sized, SoundTable};
+ghost use Rattle.store.specs.Tables.{tableOf, nodeOf, mapOf, SoundNode, Sized, SoundTable};
 ghost use Rattle.encode.specs.Encoding.{Encodes};
 ghost use Rattle.listing.specs.Lines.{numberEnd, answerLine, linesOf, textOf, Digits, LineSize, LinesSize};
 use store::Node;
-use store::Table;
+use store::Nodes;
 
 // How many digits a number has in decimal.
 fn digits(n: u32) -> usize
@@ -92,15 +92,14 @@ fn line_size(x: Node) -> usize
 }
 
 // How many bytes the lines of a tree have.
-fn lines_size(t: Table) -> usize
-    requires { ⌜ Sized t ⌝ }
-    ensures { λ r. ⌜ LinesSize t r ⌝ }
+fn lines_size(t: &Nodes, n: usize) -> usize
+    requires { ⌜ Sized (tableOf (now t) n) ⌝ }
+    ensures { λ r. ⌜ LinesSize (tableOf (now (t .entry)) n) r ⌝ }
 {
-    let n = t.len;
     let mut size: usize = 0;
     let mut i: usize = 0;
     while i < n {
-        let x = t.nodes[i];
+        let x = store::node_at(t, i);
         size += line_size(x);
         i += 1;
     }
@@ -128,15 +127,14 @@ fn put_line(src: &[u8], x: Node, out: &mut [u8], at: usize)
 }
 
 // The lines of a tree, "in image order".
-fn put_lines(src: &[u8], t: Table, out: &mut [u8], at: usize)
-    requires { ⌜ SoundTable (now src) t × (at + length (linesOf (mapOf (now src) t)) ≤ length (now out)) ⌝ }
-    ensures { λ _. ⌜ now (out .exit) ≡ written at (linesOf (mapOf (now (src .entry)) t)) (now (out .entry)) ⌝ }
+fn put_lines(src: &[u8], t: &Nodes, n: usize, out: &mut [u8], at: usize)
+    requires { ⌜ SoundTable (now src) (tableOf (now t) n) × (at + length (linesOf (mapOf (now src) (tableOf (now t) n))) ≤ length (now out)) ⌝ }
+    ensures { λ _. ⌜ now (out .exit) ≡ written at (linesOf (mapOf (now (src .entry)) (tableOf (now (t .entry)) n))) (now (out .entry)) ⌝ }
 {
-    let n = t.len;
     let mut p = at;
     let mut i: usize = 0;
     while i < n {
-        let x = t.nodes[i];
+        let x = store::node_at(t, i);
         put_line(src, x, out, p);
         p += line_size(x);
         i += 1;
@@ -144,17 +142,17 @@ fn put_lines(src: &[u8], t: Table, out: &mut [u8], at: usize)
 }
 
 // The number's line and the lines of a tree, written whole, or not at all where they have no room. The answer is how many bytes were written.
-fn put_text(src: &[u8], number: u32, t: Table, out: &mut [u8]) -> usize
-    requires { ⌜ SoundTable (now src) t ⌝ }
-    ensures { λ r. ⌜ Encodes (textOf number (mapOf (now (src .entry)) t)) (now (out .entry)) (now (out .exit)) r ⌝ }
+fn put_text(src: &[u8], number: u32, t: &Nodes, len: usize, out: &mut [u8]) -> usize
+    requires { ⌜ SoundTable (now src) (tableOf (now t) len) ⌝ }
+    ensures { λ r. ⌜ Encodes (textOf number (mapOf (now (src .entry)) (tableOf (now (t .entry)) len))) (now (out .entry)) (now (out .exit)) r ⌝ }
 {
     let a = answer_size(number);
-    let n = a + lines_size(t);
+    let n = a + lines_size(t, len);
     if out.len() < n {
         return 0;
     }
     put_answer(number, out);
-    put_lines(src, t, out, a);
+    put_lines(src, t, len, out, a);
     n
 }
 
@@ -163,18 +161,21 @@ fn put_text(src: &[u8], number: u32, t: Table, out: &mut [u8]) -> usize
 pub fn listing(image: &[u8], out: &mut [u8]) -> usize
     ensures { λ r. ⌜ Encodes (listing (now (image .entry))) (now (out .entry)) (now (out .exit)) r ⌝ }
 {
-    let d = decode::decode(image);
+    let none = [[0u32; 3]; store::ROOM];
+    let mut tree = [[0u32; 3]; store::ROOM];
+    let mut staging = [[0u32; 3]; store::ROOM];
+    let d = decode::decode(image, &mut tree, &mut staging);
     let ok = d.ok;
     if !ok {
-        return put_text(image, 1, store::empty(), out);
+        return put_text(image, 1, &none, 0, out);
     }
     let s = d.store;
-    let r = recovery::recover(image, s, false, 0);
+    let r = recovery::recover(image, &mut tree, &mut staging, s, false, 0);
     let number = r.number;
     if number != 0 {
-        return put_text(image, number, store::empty(), out);
+        return put_text(image, number, &none, 0, out);
     }
     let run = r.run;
     let after = run.store;
-    put_text(image, 0, after.tree, out)
+    put_text(image, 0, &tree, after.tree, out)
 }

@@ -20,9 +20,10 @@ use Rattle.spans.specs.Spans.{nameOf, Sound}
 use Rattle.spans.specs.declared.NameRef.{NameRef}
 use Rattle.spans.proofs.Parts.{length-name}
 use Rattle.store.specs.declared.Node.{Node}
-use Rattle.store.specs.declared.Table.{Table}
-use Rattle.store.specs.Tables.{nodeOf, mapOf, SoundNode, SoundTable}
-use Rattle.store.proofs.Live.{rest, finished, sound-at}
+use Rattle.store.specs.Words.{blank}
+use Rattle.store.specs.Tables.{Table, nodeOf, mapOf, SoundNode, SoundTable}
+use Rattle.store.proofs.Live.{finished}
+use Rattle.store.proofs.Read.{sound-read, rest-read}
 use Rattle.store.specs.Nodes.{isFileOf}
 use Rattle.store.proofs.Nodes.{file-listed, not-listed, file-named}
 use Rattle.local_collection.specs.declared.OtherCase.the-variants.{Is, Nothing}
@@ -109,30 +110,27 @@ pub record Seeking (src : Bytes) (t : Table) (dir key : NameRef) (i : ℕ) : Typ
 pub seeking : {src : Bytes} {t : Table} {dir key : NameRef} → SoundTable src t → Sound src dir → Sound src key → Seeking src t dir key 0
 seeking s d k = record { sound = s; dir-sound = d; key-sound = k; within = omega arith; same = refl }
 
-module _ {src : Bytes} {t : Table} {dir key : NameRef} {i : ℕ} (o : Node) (w : Seeking src t dir key i) (h : i < t .len) where
-  abbrev x : Node
-  x = getD (t .nodes) i o
-
-  pub seeking-node : SoundNode src (getD (t .nodes) i o)
-  seeking-node = sound-at i o (w .sound) h
+module _ {src : Bytes} {t : Table} {dir key : NameRef} {i : ℕ} {x : Node} (w : Seeking src t dir key i) (v : x ≡ getD (t .nodes) i blank) (h : i < t .len) where
+  pub seeking-node : SoundNode src x
+  seeking-node = sound-read (w .sound) h v
 
   here : {b : Bool} → (isKeyOf (nameOf src dir) (nodeOf src x) && sameBytes (lower (nameOf src (x .file))) (nameOf src key)) ≡ b →
       (if b then some (nameOf src (x .file)) else otherCase (nameOf src key) (files (nameOf src dir) (drop (i + 1) (mapOf src t)))) ≡ otherCase (nameOf src key) (files (nameOf src dir) (mapOf src t))
   here e =
       ap (λ (b : Bool). if b then some (nameOf src (x .file)) else otherCase (nameOf src key) (files (nameOf src dir) (drop (i + 1) (mapOf src t)))) (sym e)
       ∙ sym (case-next (nameOf src dir) (nodeOf src x) (drop (i + 1) (mapOf src t)) (nameOf src key))
-      ∙ ap (λ (m : model.Map). otherCase (nameOf src key) (files (nameOf src dir) m)) (sym (rest src (w .sound .sized) i o h))
+      ∙ ap (λ (m : model.Map). otherCase (nameOf src key) (files (nameOf src dir) m)) (sym (rest-read (w .sound) h v))
       ∙ w .same
 
-  module _ {b : Bool} (e : b ≡ isKeyOf (nameOf src dir) (nodeOf src (getD (t .nodes) i o))) where
+  module _ {b : Bool} (e : b ≡ isKeyOf (nameOf src dir) (nodeOf src x)) where
     pub sought-past : b ≡ false → Seeking src t dir key (i + 1)
     sought-past p = record { sound = w .sound; dir-sound = w .dir-sound; key-sound = w .key-sound; within = omega arith; same = here {b = false} (rw (← e, p)) }
 
-    module _ {a : Bool} (q : a ≡ sameBytes (lower (nameOf src (getD (t .nodes) i o .file))) (nameOf src key)) (p : b ≡ true) where
+    module _ {a : Bool} (q : a ≡ sameBytes (lower (nameOf src (x .file))) (nameOf src key)) (p : b ≡ true) where
       pub sought-other : a ≡ false → Seeking src t dir key (i + 1)
       sought-other z = record { sound = w .sound; dir-sound = w .dir-sound; key-sound = w .key-sound; within = omega arith; same = here {b = false} (rw (← e, p, ← q, z)) }
 
-      pub sought-found : a ≡ true → OtherCaseOf src (nameOf src key) (files (nameOf src dir) (mapOf src t)) (Is (getD (t .nodes) i o .file))
+      pub sought-found : a ≡ true → OtherCaseOf src (nameOf src key) (files (nameOf src dir) (mapOf src t)) (Is (x .file))
       sought-found z = record {
         sound = record { sound = seeking-node .file; some = omega (arith, length-name (seeking-node .file), key-named (nameOf src dir) (nodeOf src x) (sym e ∙ p)) };
         same = here {b = true} (rw (← e, p, ← q, z));
@@ -159,23 +157,20 @@ pub record Listing (src : Bytes) (t : Table) (dir : NameRef) (before now : Bytes
 pub listing : {src : Bytes} {t : Table} {dir : NameRef} {out : Bytes} → SoundTable src t → Sound src dir → length (keysOf (nameOf src dir) (mapOf src t)) ≤ length out → Listing src t dir out out 0 0
 listing s d h = record { sound = s; dir-sound = d; room = h; within = omega arith; small = omega arith; size = refl; told = omega arith; wrote = refl }
 
-module _ {src : Bytes} {t : Table} {dir : NameRef} {before now : Bytes} {at i : ℕ} (o : Node) (w : Listing src t dir before now at i) (h : i < t .len) where
-  abbrev y : Node
-  y = getD (t .nodes) i o
-
+module _ {src : Bytes} {t : Table} {dir : NameRef} {before now : Bytes} {at i : ℕ} {x : Node} (w : Listing src t dir before now at i) (v : x ≡ getD (t .nodes) i blank) (h : i < t .len) where
   abbrev later : Bytes
   later = keysOf (nameOf src dir) (drop (i + 1) (mapOf src t))
 
-  pub listing-node : SoundNode src (getD (t .nodes) i o)
-  listing-node = sound-at i o (w .sound) h
+  pub listing-node : SoundNode src x
+  listing-node = sound-read (w .sound) h v
 
-  these : {b : Bool} → b ≡ isKeyOf (nameOf src dir) (nodeOf src y) → {c : Bool} → b ≡ c → keysOf (nameOf src dir) (drop i (mapOf src t)) ≡ (if c then encodeField (field 3 (lower (nameOf src (y .file)))) ++ later else later)
+  these : {b : Bool} → b ≡ isKeyOf (nameOf src dir) (nodeOf src x) → {c : Bool} → b ≡ c → keysOf (nameOf src dir) (drop i (mapOf src t)) ≡ (if c then encodeField (field 3 (lower (nameOf src (x .file)))) ++ later else later)
   these e {c} p =
-      ap (keysOf (nameOf src dir)) (rest src (w .sound .sized) i o h)
-      ∙ keys-next (nameOf src dir) (nodeOf src y) (drop (i + 1) (mapOf src t))
-      ∙ ap (λ (b : Bool). if b then encodeField (field 3 (lower (nameOf src (y .file)))) ++ later else later) (sym e ∙ p)
+      ap (keysOf (nameOf src dir)) (rest-read (w .sound) h v)
+      ∙ keys-next (nameOf src dir) (nodeOf src x) (drop (i + 1) (mapOf src t))
+      ∙ ap (λ (b : Bool). if b then encodeField (field 3 (lower (nameOf src (x .file)))) ++ later else later) (sym e ∙ p)
 
-  module _ {b : Bool} (e : b ≡ isKeyOf (nameOf src dir) (nodeOf src (getD (t .nodes) i o))) where
+  module _ {b : Bool} (e : b ≡ isKeyOf (nameOf src dir) (nodeOf src x)) where
     pub listed-past : b ≡ false → {next : Bytes} {m : ℕ} → next ≡ now → m ≡ at → Listing src t dir before next m (i + 1)
     listed-past p f g = rw (f, g) record {
       sound = w .sound;
@@ -188,9 +183,9 @@ module _ {src : Bytes} {t : Table} {dir : NameRef} {before now : Bytes} {at i : 
       wrote = ap (λ (l : Bytes). written at l now) (sym (these e p)) ∙ w .wrote;
     }
 
-    pub listed-key : b ≡ true → {next after : Bytes} {m n : ℕ} → Puts (lower (nameOf src (getD (t .nodes) i o .file))) at now after n → next ≡ after → m ≡ at + n → Listing src t dir before next m (i + 1)
+    pub listed-key : b ≡ true → {next after : Bytes} {m n : ℕ} → Puts (lower (nameOf src (x .file))) at now after n → next ≡ after → m ≡ at + n → Listing src t dir before next m (i + 1)
     listed-key p {next} {after} {m} {n} q f g =
-        let new : Bytes = encodeField (field 3 (lower (nameOf src (y .file)))) in
+        let new : Bytes = encodeField (field 3 (lower (nameOf src (x .file)))) in
         let l : length (keysOf (nameOf src dir) (drop i (mapOf src t))) ≡ length new + length later = ap length (these e p) ∙ length-append new later in
         let told : at + n + length later ≡ length (keysOf (nameOf src dir) (mapOf src t)) = omega (arith, w .told, q .size) in
         rw (f, g) record {

@@ -12,8 +12,7 @@ use Rattle.model.specs.Record.{otherCase, caseRenamed}
 use Rattle.spans.specs.Spans.{nameOf, Sound}
 use Rattle.spans.specs.declared.NameRef.{NameRef}
 use Rattle.store.specs.Tables.{keyOf, mapOf, heldOf}
-use Rattle.store.specs.Stores.{storeOf}
-use Rattle.store.specs.declared.Store.{Store}
+use Rattle.store.specs.Stores.{LentStore, storeOf}
 use Rattle.store.specs.declared.Held.{Held}
 use Rattle.store.specs.declared.Held.the-variants.{Number}
 use Rattle.store.specs.declared.Held.the-variants as held
@@ -37,7 +36,7 @@ module _ (c k : Name) (s : model.Store) where
   unfolding caseRenamed
   an-other e p = rw (e, p)
 
-module _ {src : Bytes} {dir key : NameRef} {s : Store} {h : Held} (e : heldOf h ≡ look (keyOf src dir key) (mapOf src (s .tree))) where
+module _ {src : Bytes} {dir key : NameRef} {s : LentStore} {h : Held} (e : heldOf h ≡ look (keyOf src dir key) (mapOf src (s .tree))) where
   pub standing : {x : ℕ} → Fits src s → h ≡ Number x → Normalized src dir key s s
   standing f p = record { fits = f; same = key-stands (nameOf src dir) (nameOf src key) (storeOf src s) (sym e ∙ ap heldOf p) }
 
@@ -45,7 +44,7 @@ module _ {src : Bytes} {dir key : NameRef} {s : Store} {h : Held} (e : heldOf h 
     pub not-there : Fits src s → o ≡ Nothing → Normalized src dir key s s
     not-there f p = record { fits = f; same = no-other (nameOf src dir) (nameOf src key) (storeOf src s) (sym e ∙ ap heldOf q) (sym (w .same) ∙ ap (caseOf src) p) }
 
-    pub renamed : {f : NameRef} {r : Store} → o ≡ Is f → Applied src (RenameFile dir f key) s r → Normalized src dir key s r
+    pub renamed : {f : NameRef} {r : LentStore} → o ≡ Is f → Applied src (RenameFile dir f key) s r → Normalized src dir key s r
     unfolding stepOf
     renamed p a = record { fits = a .fits; same = a .same ∙ an-other (nameOf src dir) (nameOf src key) (storeOf src s) (sym e ∙ ap heldOf q) (sym (w .same) ∙ ap (caseOf src) p) }
 
@@ -53,6 +52,6 @@ module _ {src : Bytes} {dir key : NameRef} {s : Store} {h : Held} (e : heldOf h 
 pub found-named : {src : Bytes} {k : Name} {l : _} {o : OtherCase} {f : NameRef} → OtherCaseOf src k l o → o ≡ Is f → FileName src f
 found-named {src} w p = rw p at (w .sound)
 
-pub can-rename : {src : Bytes} {dir f key : NameRef} {s : Store} → Fits src s → Sound src dir → FileName src f → FileName src key → (Fits src s × SoundStep src (RenameFile dir f key)) × Allowed (stepOf src (RenameFile dir f key)) (storeOf src s)
+pub can-rename : {src : Bytes} {dir f key : NameRef} {s : LentStore} → Fits src s → Sound src dir → FileName src f → FileName src key → (Fits src s × SoundStep src (RenameFile dir f key)) × Allowed (stepOf src (RenameFile dir f key)) (storeOf src s)
 unfolding stepOf
 can-rename f d a k = ((f, record { names = (d, (a, k)) }), tt)

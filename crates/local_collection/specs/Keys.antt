@@ -16,8 +16,7 @@ use Rattle.field.specs.Writing.{written, field}
 use Rattle.spans.specs.Spans.{nameOf}
 use Rattle.spans.specs.declared.NameRef.{NameRef}
 use Rattle.store.specs.Nodes.{isFileOf}
-use Rattle.store.specs.Stores.{storeOf}
-use Rattle.store.specs.declared.Store.{Store}
+use Rattle.store.specs.Stores.{LentStore, storeOf}
 use Rattle.steps.specs.Steps.{FileName, Fits}
 use Rattle.local_collection.specs.declared.OtherCase.{OtherCase}
 use Rattle.local_collection.specs.declared.OtherCase.the-variants.{Is, Nothing}
@@ -48,7 +47,7 @@ pub record OtherCaseOf (src : Bytes) (k : Name) (l : List Name) (o : OtherCase) 
   pub same : caseOf src o ≡ otherCase k l
 
 -- What `ensure_normalized_on_disk` answers.
-pub record Normalized (src : Bytes) (dir key : NameRef) (s r : Store) : Type 0 where
+pub record Normalized (src : Bytes) (dir key : NameRef) (s r : LentStore) : Type 0 where
   pub fits : Fits src r
   pub same : storeOf src r ≡ caseRenamed (nameOf src dir) (nameOf src key) (storeOf src s)
 

@@ -8,16 +8,16 @@ ghost use Rattle.model.specs.Store.{files};
 ghost use Rattle.field.specs.Writing.{written, Writes, field};
 ghost use Rattle.spans.specs.Spans.{nameOf, Sound};
 ghost use Rattle.model.specs.Record.{keyList};
-ghost use Rattle.store.specs.Tables.{nodeOf, mapOf, SoundNode, SoundTable};
-ghost use Rattle.store.specs.Stores.{storeOf, SoundStore};
+ghost use Rattle.store.specs.Tables.{nodeOf, tableOf, mapOf, SoundNode, SoundTable};
+ghost use Rattle.store.specs.Stores.{storeIn, storeOf, SoundStore};
 ghost use Rattle.steps.specs.Steps.{FileName, Fits};
 ghost use Rattle.local_collection.specs.Keys.{isKey, isKeyOf, keysOf, Puts, OtherCaseOf, Normalized};
 use spans::NameRef;
 use steps::Step;
 use store::Held;
 use store::Node;
+use store::Nodes;
 use store::Store;
-use store::Table;
 
 // A file whose name is the key in another case, if there is one.
 pub enum OtherCase {
@@ -73,14 +73,13 @@ fn is_key_of(src: &[u8], x: Node, dir: NameRef) -> bool
 }
 
 // The first file of a listing that is the key in another case.
-pub fn other_case(src: &[u8], t: Table, dir: NameRef, key: NameRef) -> OtherCase
-    requires { ⌜ SoundTable (now src) t × (Sound (now src) dir × Sound (now src) key) ⌝ }
-    ensures { λ r. ⌜ OtherCaseOf (now (src .entry)) (nameOf (now (src .entry)) key) (files (nameOf (now (src .entry)) dir) (mapOf (now (src .entry)) t)) r ⌝ }
+pub fn other_case(src: &[u8], t: &Nodes, n: usize, dir: NameRef, key: NameRef) -> OtherCase
+    requires { ⌜ SoundTable (now src) (tableOf (now t) n) × (Sound (now src) dir × Sound (now src) key) ⌝ }
+    ensures { λ r. ⌜ OtherCaseOf (now (src .entry)) (nameOf (now (src .entry)) key) (files (nameOf (now (src .entry)) dir) (mapOf (now (src .entry)) (tableOf (now (t .entry)) n))) r ⌝ }
 {
-    let n = t.len;
     let mut i: usize = 0;
     while i < n {
-        let x = t.nodes[i];
+        let x = store::node_at(t, i);
         if is_key_of(src, x, dir) {
             let f = x.file;
             if lowers_to(src, f, key) {
@@ -93,17 +92,30 @@ pub fn other_case(src: &[u8], t: Table, dir: NameRef, key: NameRef) -> OtherCase
 }
 
 // A file that is the key in another case is renamed, unless the key's own stands (`ensure_normalized_on_disk`).
-pub fn ensure_normalized_on_disk(src: &[u8], s: Store, dir: NameRef, key: NameRef) -> Store
-    requires { ⌜ Fits (now src) s × (Sound (now src) dir × FileName (now src) key) ⌝ }
-    ensures { λ r. ⌜ Normalized (now (src .entry)) dir key s r ⌝ }
+pub fn ensure_normalized_on_disk(
+    src: &[u8],
+    tree: &mut Nodes,
+    staging: &mut Nodes,
+    s: Store,
+    dir: NameRef,
+    key: NameRef,
+) -> Store
+    requires { ⌜ Fits (now src) (storeIn (now tree) (now staging) s) × (Sound (now src) dir × FileName (now src) key) ⌝ }
+    ensures { λ r. ⌜ Normalized (now (src .entry)) dir key (storeIn (now (tree .entry)) (now (staging .entry)) s) (storeIn (now (tree .exit)) (now (staging .exit)) r) ⌝ }
 {
-    let h = store::look(src, s.tree, dir, key);
+    let h = store::look(src, tree, s.tree, dir, key);
     match h {
         Held::Number(_) => s,
         Held::Nothing => {
-            let o = other_case(src, s.tree, dir, key);
+            let o = other_case(src, tree, s.tree, dir, key);
             match o {
-                OtherCase::Is(f) => steps::apply(src, s, Step::RenameFile(dir, f, key)),
+                OtherCase::Is(f) => steps::apply(
+                    src,
+                    tree,
+                    staging,
+                    s,
+                    Step::RenameFile(dir, f, key),
+                ),
                 OtherCase::Nothing => s,
             }
         }
@@ -140,15 +152,14 @@ fn put_key(src: &[u8], file: NameRef, out: &mut [u8], at: usize) -> usize
 }
 
 // The keys of a tree's directory as fields at the start of the output, and how long they are.
-fn put_keys(src: &[u8], t: Table, dir: NameRef, out: &mut [u8]) -> usize
-    requires { ⌜ (SoundTable (now src) t × Sound (now src) dir) × (length (keysOf (nameOf (now src) dir) (mapOf (now src) t)) ≤ length (now out)) ⌝ }
-    ensures { λ r. ⌜ Writes (keysOf (nameOf (now (src .entry)) dir) (mapOf (now (src .entry)) t)) 0 (now (out .entry)) (now (out .exit)) r ⌝ }
+fn put_keys(src: &[u8], t: &Nodes, n: usize, dir: NameRef, out: &mut [u8]) -> usize
+    requires { ⌜ (SoundTable (now src) (tableOf (now t) n) × Sound (now src) dir) × (length (keysOf (nameOf (now src) dir) (mapOf (now src) (tableOf (now t) n))) ≤ length (now out)) ⌝ }
+    ensures { λ r. ⌜ Writes (keysOf (nameOf (now (src .entry)) dir) (mapOf (now (src .entry)) (tableOf (now (t .entry)) n))) 0 (now (out .entry)) (now (out .exit)) r ⌝ }
 {
-    let n = t.len;
     let mut at: usize = 0;
     let mut i: usize = 0;
     while i < n {
-        let x = t.nodes[i];
+        let x = store::node_at(t, i);
         if is_key_of(src, x, dir) {
             let f = x.file;
             at += put_key(src, f, out, at);
@@ -159,9 +170,16 @@ fn put_keys(src: &[u8], t: Table, dir: NameRef, out: &mut [u8]) -> usize
 }
 
 // 01, Modules in port order: "key list (0x03 fields)" (`list_keys_in_dir`); a missing collection reads as empty.
-pub fn list_keys(src: &[u8], s: Store, dir: NameRef, out: &mut [u8]) -> usize
-    requires { ⌜ (SoundStore (now src) s × Sound (now src) dir) × (length (keyList (nameOf (now src) dir) (storeOf (now src) s)) ≤ length (now out)) ⌝ }
-    ensures { λ r. ⌜ Writes (keyList (nameOf (now (src .entry)) dir) (storeOf (now (src .entry)) s)) 0 (now (out .entry)) (now (out .exit)) r ⌝ }
+pub fn list_keys(
+    src: &[u8],
+    tree: &Nodes,
+    staging: &Nodes,
+    s: Store,
+    dir: NameRef,
+    out: &mut [u8],
+) -> usize
+    requires { ⌜ (SoundStore (now src) (storeIn (now tree) (now staging) s) × Sound (now src) dir) × (length (keyList (nameOf (now src) dir) (storeOf (now src) (storeIn (now tree) (now staging) s))) ≤ length (now out)) ⌝ }
+    ensures { λ r. ⌜ Writes (keyList (nameOf (now (src .entry)) dir) (storeOf (now (src .entry)) (storeIn (now (tree .entry)) (now (staging .entry)) s))) 0 (now (out .entry)) (now (out .exit)) r ⌝ }
 {
-    put_keys(src, s.tree, dir, out)
+    put_keys(src, tree, s.tree, dir, out)
 }

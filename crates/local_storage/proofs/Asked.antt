@@ -5,16 +5,17 @@ use borrow.Author.Tests.{ne-eqb}
 use Rattle.model.specs.Order.{Name}
 use Rattle.model.specs.Base.{Bytes}
 use Rattle.model.specs.Name.{validName, lower}
-use Rattle.model.specs.Record.{Outcome, refuse, give}
+use Rattle.model.specs.Record.{Outcome, refuse}
 use Rattle.laws.specs.Tests.{and-both}
 use Rattle.laws.specs.ValidNames.{valid-named}
 use Rattle.spans.specs.Spans.{Sound, Names}
 use Rattle.spans.specs.declared.NameRef.{NameRef}
+use Rattle.store.specs.Words.{Words}
 use Rattle.steps.specs.Steps.{FileName}
 use Rattle.steps.proofs.FileNames as files
 use Rattle.local_storage.specs.declared.LocalStorage.{LocalStorage}
 use Rattle.local_storage.specs.declared.Recorded.{Recorded}
-use Rattle.local_storage.specs.Recording.{handedOn, Answers, Given, GivenKey, GivenWrite}
+use Rattle.local_storage.specs.Recording.{Answers, Given, GivenKey, GivenWrite}
 
 -- A valid name is a file's: it is not empty.
 pub file-name : {src : Bytes} {r : NameRef} {n : Name} → Names src r n → validName n ≡ true → FileName src r
@@ -29,10 +30,7 @@ delete-asks {n = n} {key} w h = (w .names h .sound, file-name (w .keys h) (and-b
 pub write-asks : {src : Bytes} {v : Bool} {r k f : NameRef} {n key file : Name} → GivenWrite src v r k f n key file → v ≡ true → Sound src r × (Sound src k × Sound src f)
 write-asks w h = (w .names h .sound, (w .keys h .sound, w .staged h .sound))
 
--- A number other than 0 refuses; 0 gives the store handed on.
-module _ {src : Bytes} {o : Outcome} {s : LocalStorage} {r : Recorded} (w : Answers src o s r) where
+-- A number other than 0 refuses.
+module _ {src : Bytes} {o : Outcome} {tree staging : Words} {s : LocalStorage} {tree' staging' : Words} {r : Recorded} (w : Answers src o tree staging s tree' staging' r) where
   pub answer-refused : (r .number ≡ 0 → ⊥) → o ≡ refuse (r .number)
   answer-refused h = sym (w .same) ∙ rw (ne-eqb (r .number) 0 h)
-
-  pub answer-given : r .number ≡ 0 → o ≡ give (handedOn src r)
-  answer-given h = sym (w .same) ∙ rw h

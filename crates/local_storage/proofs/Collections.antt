@@ -12,12 +12,13 @@ use Rattle.model.specs.Store as model
 use Rattle.model.specs.Record.{give, appended, hasDir, recordDeleteAll, recordCreate, recordDeleteCollection, recordCopy}
 use Rattle.spans.specs.Spans.{nameOf, Sound}
 use Rattle.spans.specs.declared.NameRef.{NameRef}
-use Rattle.store.specs.Stores.{SoundStore}
+use Rattle.store.specs.Words.{Words}
+use Rattle.store.specs.Stores.{storeIn, SoundStore}
 use Rattle.transaction.specs.declared.Operation.the-variants.{DeleteAll, CreateCollection, DeleteCollection, CopyCollection}
 use Rattle.local_storage.specs.declared.LocalStorage.{LocalStorage}
 use Rattle.local_storage.specs.declared.Recorded.{Recorded}
 use Rattle.local_storage.specs.Recording.{storageOf, refusedWith, recordedIn, Answers, Given, Admits}
-use Rattle.local_storage.proofs.Outcomes.{accepted, not-admitted, admitted, fails, holds}
+use Rattle.local_storage.proofs.Outcomes.{untouched, accepted, not-admitted, admitted, fails, holds}
 
 -- A given name that is valid, and whether its collection stands.
 module _ {src : Bytes} {v : Bool} {r : NameRef} {c : Name} (w : Given src v r c) where
@@ -36,75 +37,75 @@ module _ {src : Bytes} {v : Bool} {r : NameRef} {c : Name} (w : Given src v r c)
   pub stands : (s : model.Store) {b x : Bool} → not v ≡ false → b ≡ hasDir (nameOf src r) s → b ≡ x → hasDir c s ≡ x
   stands s h e p = ap (λ (m : Name). hasDir m s) (sym (named h)) ∙ sym e ∙ p
 
-module _ {src : Bytes} {self : LocalStorage} {r : Recorded} {n : ℕ} (g : SoundStore src (self .store)) (a : Admits (storageOf src self) n) where
+module _ {src : Bytes} {tree staging : Words} {self : LocalStorage} {r : Recorded} {n : ℕ} (g : SoundStore src (storeIn tree staging (self .store))) (a : (t u : Words) → Admits (storageOf src t u self) n) where
   module _ {v : Bool} {f : NameRef} {c : Name} (w : Given src v f c) where
-    pub create-4-5 : (n ≡ 0 → ⊥) → r ≡ refusedWith self n → Answers src (recordCreate c (storageOf src self)) self r
+    pub create-4-5 : (n ≡ 0 → ⊥) → r ≡ refusedWith self n → Answers src (recordCreate c (storageOf src tree staging self)) tree staging self tree staging r
     unfolding recordCreate
-    create-4-5 z e = not-admitted a _ g z e
+    create-4-5 z e = not-admitted (a tree staging) _ (untouched g) z e
 
-    pub delete-4-5 : (n ≡ 0 → ⊥) → r ≡ refusedWith self n → Answers src (recordDeleteCollection c (storageOf src self)) self r
+    pub delete-4-5 : (n ≡ 0 → ⊥) → r ≡ refusedWith self n → Answers src (recordDeleteCollection c (storageOf src tree staging self)) tree staging self tree staging r
     unfolding recordDeleteCollection
-    delete-4-5 z e = not-admitted a _ g z e
+    delete-4-5 z e = not-admitted (a tree staging) _ (untouched g) z e
 
-    pub all-4-5 : (n ≡ 0 → ⊥) → r ≡ refusedWith self n → Answers src (recordDeleteAll c (storageOf src self)) self r
+    pub all-4-5 : (n ≡ 0 → ⊥) → r ≡ refusedWith self n → Answers src (recordDeleteAll c (storageOf src tree staging self)) tree staging self tree staging r
     unfolding recordDeleteAll
-    all-4-5 z e = not-admitted a _ g z e
+    all-4-5 z e = not-admitted (a tree staging) _ (untouched g) z e
 
     module _ (z : n ≡ 0) (h : not v ≡ true) (e : r ≡ refusedWith self 6) where
-      pub create-6 : Answers src (recordCreate c (storageOf src self)) self r
+      pub create-6 : Answers src (recordCreate c (storageOf src tree staging self)) tree staging self tree staging r
       unfolding recordCreate
-      create-6 = admitted a _ z (fails _ g (invalid w h) (omega arith) e)
+      create-6 = admitted (a tree staging) _ z (fails _ (untouched g) (invalid w h) (omega arith) e)
 
-      pub delete-6 : Answers src (recordDeleteCollection c (storageOf src self)) self r
+      pub delete-6 : Answers src (recordDeleteCollection c (storageOf src tree staging self)) tree staging self tree staging r
       unfolding recordDeleteCollection
-      delete-6 = admitted a _ z (fails _ g (invalid w h) (omega arith) e)
+      delete-6 = admitted (a tree staging) _ z (fails _ (untouched g) (invalid w h) (omega arith) e)
 
-      pub all-6 : Answers src (recordDeleteAll c (storageOf src self)) self r
+      pub all-6 : Answers src (recordDeleteAll c (storageOf src tree staging self)) tree staging self tree staging r
       unfolding recordDeleteAll
-      all-6 = admitted a _ z (fails _ g (invalid w h) (omega arith) e)
+      all-6 = admitted (a tree staging) _ z (fails _ (untouched g) (invalid w h) (omega arith) e)
 
     module _ (z : n ≡ 0) (h : not v ≡ false) where
-      pub all-0 : r ≡ recordedIn self (DeleteAll f) → Answers src (recordDeleteAll c (storageOf src self)) self r
+      pub all-0 : r ≡ recordedIn self (DeleteAll f) → Answers src (recordDeleteAll c (storageOf src tree staging self)) tree staging self tree staging r
       unfolding recordDeleteAll
-      all-0 e = admitted a _ z (holds 6 _ (valid w h) (accepted g e (sound w h) (ap (λ (m : Name). give (appended (deleteAll m) (storageOf src self))) (sym (named w h)))))
+      all-0 e = admitted (a tree staging) _ z (holds 6 _ (valid w h) (accepted g e (sound w h) (ap (λ (m : Name). give (appended (deleteAll m) (storageOf src tree staging self))) (sym (named w h)))))
 
-      module _ {b : Bool} (p : b ≡ hasDir (nameOf src f) (storageOf src self)) where
-        pub create-9 : b ≡ true → r ≡ refusedWith self 9 → Answers src (recordCreate c (storageOf src self)) self r
+      module _ {b : Bool} (p : (u : Words) → b ≡ hasDir (nameOf src f) (storageOf src tree u self)) where
+        pub create-9 : b ≡ true → r ≡ refusedWith self 9 → Answers src (recordCreate c (storageOf src tree staging self)) tree staging self tree staging r
         unfolding recordCreate
-        create-9 q e = admitted a _ z (holds 6 _ (valid w h) (fails _ g (ap not (stands w (storageOf src self) h p q)) (omega arith) e))
+        create-9 q e = admitted (a tree staging) _ z (holds 6 _ (valid w h) (fails _ (untouched g) (ap not (stands w (storageOf src tree staging self) h (p staging) q)) (omega arith) e))
 
-        pub create-0 : b ≡ false → r ≡ recordedIn self (CreateCollection f) → Answers src (recordCreate c (storageOf src self)) self r
+        pub create-0 : b ≡ false → r ≡ recordedIn self (CreateCollection f) → Answers src (recordCreate c (storageOf src tree staging self)) tree staging self tree staging r
         unfolding recordCreate
-        create-0 q e = admitted a _ z (holds 6 _ (valid w h) (holds 9 _ (ap not (stands w (storageOf src self) h p q)) (accepted g e (sound w h) (ap (λ (m : Name). give (appended (createCollection m) (storageOf src self))) (sym (named w h))))))
+        create-0 q e = admitted (a tree staging) _ z (holds 6 _ (valid w h) (holds 9 _ (ap not (stands w (storageOf src tree staging self) h (p staging) q)) (accepted g e (sound w h) (ap (λ (m : Name). give (appended (createCollection m) (storageOf src tree staging self))) (sym (named w h))))))
 
-        pub delete-7 : not b ≡ true → r ≡ refusedWith self 7 → Answers src (recordDeleteCollection c (storageOf src self)) self r
+        pub delete-7 : not b ≡ true → r ≡ refusedWith self 7 → Answers src (recordDeleteCollection c (storageOf src tree staging self)) tree staging self tree staging r
         unfolding recordDeleteCollection
-        delete-7 q e = admitted a _ z (holds 6 _ (valid w h) (fails _ g (stands w (storageOf src self) h p (not-true b q)) (omega arith) e))
+        delete-7 q e = admitted (a tree staging) _ z (holds 6 _ (valid w h) (fails _ (untouched g) (stands w (storageOf src tree staging self) h (p staging) (not-true b q)) (omega arith) e))
 
-        pub delete-0 : not b ≡ false → r ≡ recordedIn self (DeleteCollection f) → Answers src (recordDeleteCollection c (storageOf src self)) self r
+        pub delete-0 : not b ≡ false → r ≡ recordedIn self (DeleteCollection f) → Answers src (recordDeleteCollection c (storageOf src tree staging self)) tree staging self tree staging r
         unfolding recordDeleteCollection
-        delete-0 q e = admitted a _ z (holds 6 _ (valid w h) (holds 7 _ (stands w (storageOf src self) h p (not-false b q)) (accepted g e (sound w h) (ap (λ (m : Name). give (appended (deleteCollection m) (storageOf src self))) (sym (named w h))))))
+        delete-0 q e = admitted (a tree staging) _ z (holds 6 _ (valid w h) (holds 7 _ (stands w (storageOf src tree staging self) h (p staging) (not-false b q)) (accepted g e (sound w h) (ap (λ (m : Name). give (appended (deleteCollection m) (storageOf src tree staging self))) (sym (named w h))))))
 
   module _ {v x : Bool} {f d : NameRef} {c k : Name} (w : Given src v f c) (u : Given src x d k) where
-    pub copy-4-5 : (n ≡ 0 → ⊥) → r ≡ refusedWith self n → Answers src (recordCopy c k (storageOf src self)) self r
+    pub copy-4-5 : (n ≡ 0 → ⊥) → r ≡ refusedWith self n → Answers src (recordCopy c k (storageOf src tree staging self)) tree staging self tree staging r
     unfolding recordCopy
-    copy-4-5 z e = not-admitted a _ g z e
+    copy-4-5 z e = not-admitted (a tree staging) _ (untouched g) z e
 
-    pub copy-6 : n ≡ 0 → not v ≡ true → r ≡ refusedWith self 6 → Answers src (recordCopy c k (storageOf src self)) self r
+    pub copy-6 : n ≡ 0 → not v ≡ true → r ≡ refusedWith self 6 → Answers src (recordCopy c k (storageOf src tree staging self)) tree staging self tree staging r
     unfolding recordCopy
-    copy-6 z h e = admitted a _ z (fails _ g (invalid w h) (omega arith) e)
+    copy-6 z h e = admitted (a tree staging) _ z (fails _ (untouched g) (invalid w h) (omega arith) e)
 
-    module _ (z : n ≡ 0) (h : not v ≡ false) {b : Bool} (p : b ≡ hasDir (nameOf src f) (storageOf src self)) where
-      pub copy-7 : not b ≡ true → r ≡ refusedWith self 7 → Answers src (recordCopy c k (storageOf src self)) self r
+    module _ (z : n ≡ 0) (h : not v ≡ false) {b : Bool} (p : (u : Words) → b ≡ hasDir (nameOf src f) (storageOf src tree u self)) where
+      pub copy-7 : not b ≡ true → r ≡ refusedWith self 7 → Answers src (recordCopy c k (storageOf src tree staging self)) tree staging self tree staging r
       unfolding recordCopy
-      copy-7 q e = admitted a _ z (holds 6 _ (valid w h) (fails _ g (stands w (storageOf src self) h p (not-true b q)) (omega arith) e))
+      copy-7 q e = admitted (a tree staging) _ z (holds 6 _ (valid w h) (fails _ (untouched g) (stands w (storageOf src tree staging self) h (p staging) (not-true b q)) (omega arith) e))
 
-      pub copy-6-again : not b ≡ false → not x ≡ true → r ≡ refusedWith self 6 → Answers src (recordCopy c k (storageOf src self)) self r
+      pub copy-6-again : not b ≡ false → not x ≡ true → r ≡ refusedWith self 6 → Answers src (recordCopy c k (storageOf src tree staging self)) tree staging self tree staging r
       unfolding recordCopy
-      copy-6-again q i e = admitted a _ z (holds 6 _ (valid w h) (holds 7 _ (stands w (storageOf src self) h p (not-false b q)) (fails _ g (invalid u i) (omega arith) e)))
+      copy-6-again q i e = admitted (a tree staging) _ z (holds 6 _ (valid w h) (holds 7 _ (stands w (storageOf src tree staging self) h (p staging) (not-false b q)) (fails _ (untouched g) (invalid u i) (omega arith) e)))
 
-      pub copy-0 : {y : Bool} → not b ≡ false → not x ≡ false → y ≡ hasDir (nameOf src d) (storageOf src self) → r ≡ recordedIn self (CopyCollection f d y) → Answers src (recordCopy c k (storageOf src self)) self r
+      pub copy-0 : {y : Bool} → not b ≡ false → not x ≡ false → ((u : Words) → y ≡ hasDir (nameOf src d) (storageOf src tree u self)) → r ≡ recordedIn self (CopyCollection f d y) → Answers src (recordCopy c k (storageOf src tree staging self)) tree staging self tree staging r
       unfolding recordCopy
       copy-0 q i o e =
-          admitted a _ z (holds 6 _ (valid w h) (holds 7 _ (stands w (storageOf src self) h p (not-false b q)) (holds 6 _ (valid u i) (accepted g e (sound w h, sound u i)
-          (rw (← named w h, ← named u i, ← o))))))
+          admitted (a tree staging) _ z (holds 6 _ (valid w h) (holds 7 _ (stands w (storageOf src tree staging self) h (p staging) (not-false b q)) (holds 6 _ (valid u i) (accepted g e (sound w h, sound u i)
+          (rw (← named w h, ← named u i, ← o staging))))))

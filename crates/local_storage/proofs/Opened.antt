@@ -11,10 +11,11 @@ use borrow.Author.Tests.{not-true, not-false, le-leb, lt-leb}
 use Rattle.model.specs.Base.{Bytes, if_then_else_}
 use Rattle.model.specs.Operation.{Op}
 use Rattle.model.specs.Log.{Journal, absent, recording, committing, journal, readJournal, byStatus, validHeader, Entries, entries}
+use Rattle.model.specs.Map.{Map}
 use Rattle.model.specs.Store as model
 use Rattle.model.specs.Record.{transaction, recordedOps}
-use Rattle.store.specs.Stores.{storeOf, logBytes}
-use Rattle.store.specs.declared.Store.{Store}
+use Rattle.store.specs.Stores.{logBytes}
+use Rattle.store.specs.declared.LogRef.{LogRef}
 use Rattle.transaction.specs.Operations.{inBounds}
 use Rattle.wal.specs.Logs.{journalOf, endingOf, loggedOf, opsRead, entriesOf, entriesAt, ReadsLog}
 use Rattle.wal.specs.declared.Status.{Status}
@@ -23,14 +24,18 @@ use Rattle.wal.specs.declared.Ending.{Ending}
 use Rattle.wal.specs.declared.Ending.the-variants.{Whole, Truncated, Undecodable, TooMany}
 use Rattle.wal.specs.declared.WalRead.{WalRead}
 use Rattle.local_storage.specs.declared.Transaction.{Transaction}
-use Rattle.local_storage.specs.Recording.{Ready, isRecording, isWhole, Opens, Admits}
+use Rattle.local_storage.specs.Recording.{Readable, isRecording, isWhole, Opens, Admits}
 
 -- The bytes of a log that stands.
-abbrev bytesOf : Bytes → Store → Bytes
-bytesOf src s = take (s .log .len) (drop (s .log .start) src)
+abbrev bytesOf : Bytes → LogRef → Bytes
+bytesOf src l = take (l .len) (drop (l .start) src)
 
-abbrev pub opened : Bytes → Store → Bool
-opened src s = s .open_mark && isRecording (journal (logBytes src (s .log)))
+abbrev opened : Bytes → Bool → LogRef → Bool
+opened src mark l = mark && isRecording (journal (logBytes src l))
+
+-- A store by its log and its mark.
+abbrev storeBy : Bytes → Bool → LogRef → Map → Map → model.Store
+storeBy src mark l tree staging = record { tree = tree; staging = staging; log = logBytes src l; openMark = mark }
 
 -- What a status says.
 abbrev pub records : Status → Bool
@@ -43,31 +48,32 @@ status-of Absent e = refl
 status-of Recording e = refl
 status-of Committing e = refl
 
-module _ {src : Bytes} {s : Store} (r : Ready src s) where
-  log-stands : s .log .stands ≡ true → logBytes src (s .log) ≡ some (bytesOf src s)
+module _ {src : Bytes} {l : LogRef} (r : Readable src l) where
+  log-stands : l .stands ≡ true → logBytes src l ≡ some (bytesOf src l)
   unfolding logBytes
   log-stands h = rw (h, r .plain)
 
-  log-missing : s .log .stands ≡ false → logBytes src (s .log) ≡ none
+  log-missing : l .stands ≡ false → logBytes src l ≡ none
   unfolding logBytes
   log-missing h = rw h
 
-  pub no-mark : not (s .open_mark) ≡ true → false ≡ opened src s
-  no-mark h = rw (not-true (s .open_mark) h)
-
-  pub no-log : not (s .open_mark) ≡ false → not (s .log .stands) ≡ true → false ≡ opened src s
-  no-log h l = rw (not-false (s .open_mark) h, log-missing (not-true (s .log .stands) l))
-
   -- The slice that the code lends is the log.
-  slice : {a b n : ℕ} → a ≡ s .log .start → n ≡ s .log .len → b ≡ a + n → take (b - a) (drop a src) ≡ bytesOf src s
-  slice {a} {b} {n} p q e = let z : b - a ≡ s .log .len = omega arith in rw (z, p)
+  slice : {a b n : ℕ} → a ≡ l .start → n ≡ l .len → b ≡ a + n → take (b - a) (drop a src) ≡ bytesOf src l
+  slice {a} {b} {n} p q e = let z : b - a ≡ l .len = omega arith in rw (z, p)
 
-  pub by-status : {st v : Status} {a b n : ℕ} → not (s .open_mark) ≡ false → not (s .log .stands) ≡ false → a ≡ s .log .start → n ≡ s .log .len → b ≡ a + n →
-      journalOf st (entries (take (b - a) (drop a src))) ≡ readJournal (take (b - a) (drop a src)) → st ≡ v → records v ≡ opened src s
-  by-status {st} {v} {a} {b} h l p q e w t =
-      let j : isRecording (readJournal (bytesOf src s)) ≡ records v
-      = ap (λ (k : Bytes). isRecording (readJournal k)) (sym (slice p q e)) ∙ ap isRecording (sym w) ∙ status-of st (entries (take (b - a) (drop a src))) ∙ ap records t in
-      rw (not-false (s .open_mark) h, log-stands (not-false (s .log .stands) l)) (sym j)
+  module _ (mark : Bool) where
+    pub no-mark : not mark ≡ true → false ≡ opened src mark l
+    no-mark h = rw (not-true mark h)
+
+    pub no-log : not mark ≡ false → not (l .stands) ≡ true → false ≡ opened src mark l
+    no-log h g = rw (not-false mark h, log-missing (not-true (l .stands) g))
+
+    pub by-status : {st v : Status} {a b n : ℕ} → not mark ≡ false → not (l .stands) ≡ false → a ≡ l .start → n ≡ l .len → b ≡ a + n →
+        journalOf st (entries (take (b - a) (drop a src))) ≡ readJournal (take (b - a) (drop a src)) → st ≡ v → records v ≡ opened src mark l
+    by-status {st} {v} {a} {b} h g p q e w t =
+        let j : isRecording (readJournal (bytesOf src l)) ≡ records v
+        = ap (λ (k : Bytes). isRecording (readJournal k)) (sym (slice p q e)) ∙ ap isRecording (sym w) ∙ status-of st (entries (take (b - a) (drop a src))) ∙ ap records t in
+        rw (not-false mark h, log-stands (not-false (l .stands) g)) (sym j)
 
 -- A Recording log gives its entries.
 recording-entries : (l : Bytes) → isRecording (readJournal l) ≡ true → readJournal l ≡ recording (entries l .ops) (entries l .end)
@@ -85,10 +91,10 @@ whole-ops o Truncated = refl
 whole-ops o Undecodable = refl
 whole-ops o TooMany = refl
 
-module _ {src : Bytes} {s : Store} (r : Ready src s) {b : Bool} (e : b ≡ opened src s) where
-  not-opened : not b ≡ true → transaction (storeOf src s) ≡ none
+module _ {src : Bytes} (mark : Bool) {l : LogRef} (tree staging : Map) (r : Readable src l) {b : Bool} (e : b ≡ opened src mark l) where
+  not-opened : not b ≡ true → transaction (storeBy src mark l tree staging) ≡ none
   unfolding transaction
-  not-opened h = go (s .open_mark) (journal (logBytes src (s .log))) (sym e ∙ not-true b h)
+  not-opened h = go mark (journal (logBytes src l)) (sym e ∙ not-true b h)
     where
       go : (m : Bool) (j : Journal) → (m && isRecording j) ≡ false → (if m then recordedOps j else none) ≡ none
       go false j e = refl
@@ -96,37 +102,37 @@ module _ {src : Bytes} {s : Store} (r : Ready src s) {b : Bool} (e : b ≡ opene
       go true (recording o x) e = absurd (false≢true (sym e))
       go true (committing o x) e = refl
 
-  pub closed : {t : WalRead} {i j : ℕ} → not b ≡ true → ReadsLog src i j t → Opens src (storeOf src s) (record { found = false; read = t })
+  pub closed : {t : WalRead} {i j : ℕ} → not b ≡ true → ReadsLog src i j t → Opens src (storeBy src mark l tree staging) (record { found = false; read = t })
   closed h w = record { held = w .held; same = sym (not-opened h) }
 
   -- What the walk through the log read.
-  module _ {t : WalRead} {i n m : ℕ} (p : i ≡ s .log .start) (q : n ≡ s .log .len) (z : m ≡ i + n) (w : ReadsLog src i m t) where
+  module _ {t : WalRead} {i n m : ℕ} (p : i ≡ l .start) (q : n ≡ l .len) (z : m ≡ i + n) (w : ReadsLog src i m t) where
     bounds : inBounds src i m ≡ true
     unfolding inBounds
     bounds =
-        let k = r .sound .log .inside in
+        let k = r .log .inside in
         rw (le-leb i m (omega arith), le-leb m (length src) (omega arith), le-leb (length src) 0xFFFF (r .short))
 
-    read-entries : entriesOf src t ≡ entries (bytesOf src s)
+    read-entries : entriesOf src t ≡ entries (bytesOf src l)
     unfolding entriesAt
-    read-entries = w .same ∙ rw bounds (ap entries (let k : m - i ≡ s .log .len = omega arith in rw (k, p)))
+    read-entries = w .same ∙ rw bounds (ap entries (let k : m - i ≡ l .len = omega arith in rw (k, p)))
 
-    found-ops : opened src s ≡ true → (if isWhole (t .ending) then some (opsRead src t) else none) ≡ transaction (storeOf src s)
+    found-ops : opened src mark l ≡ true → (if isWhole (t .ending) then some (opsRead src t) else none) ≡ transaction (storeBy src mark l tree staging)
     unfolding transaction
-    found-ops h = go (s .open_mark) (s .log .stands) refl refl h
+    found-ops h = go mark (l .stands) refl refl h
       where
-        go : (a c : Bool) → s .open_mark ≡ a → s .log .stands ≡ c → (a && isRecording (journal (logBytes src (s .log)))) ≡ true → (if isWhole (t .ending) then some (opsRead src t) else none) ≡ (if a then recordedOps (journal (logBytes src (s .log))) else none)
+        go : (a c : Bool) → mark ≡ a → l .stands ≡ c → (a && isRecording (journal (logBytes src l))) ≡ true → (if isWhole (t .ending) then some (opsRead src t) else none) ≡ (if a then recordedOps (journal (logBytes src l)) else none)
         go false c x y h = absurd (false≢true h)
         go true false x y h = absurd (false≢true (subst (λ (o : Option Bytes). isRecording (journal o) ≡ true) (log-missing r y) h))
         go true true x y h =
-            let l : logBytes src (s .log) ≡ some (bytesOf src s) = log-stands r y in
-            let k : readJournal (bytesOf src s) ≡ recording (entries (bytesOf src s) .ops) (entries (bytesOf src s) .end) = recording-entries (bytesOf src s) (subst (λ (o : Option Bytes). isRecording (journal o) ≡ true) l h) in
+            let here : logBytes src l ≡ some (bytesOf src l) = log-stands r y in
+            let k : readJournal (bytesOf src l) ≡ recording (entries (bytesOf src l) .ops) (entries (bytesOf src l) .end) = recording-entries (bytesOf src l) (subst (λ (o : Option Bytes). isRecording (journal o) ≡ true) here h) in
             whole-ops (opsRead src t) (t .ending)
             ∙ ap (λ (x : Entries). recordedOps (recording (x .ops) (x .end))) read-entries
             ∙ ap recordedOps (sym k)
-            ∙ ap (λ (o : Option Bytes). recordedOps (journal o)) (sym l)
+            ∙ ap (λ (o : Option Bytes). recordedOps (journal o)) (sym here)
 
-    pub found : {f : Bool} → not b ≡ false → f ≡ isWhole (t .ending) → Opens src (storeOf src s) (record { found = f; read = t })
+    pub found : {f : Bool} → not b ≡ false → f ≡ isWhole (t .ending) → Opens src (storeBy src mark l tree staging) (record { found = f; read = t })
     found h f = record { held = w .held; same = ap (λ (x : Bool). if x then some (opsRead src t) else none) f ∙ found-ops (sym e ∙ not-false b h) }
 
 -- 4, 5, or going on.

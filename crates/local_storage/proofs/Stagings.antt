@@ -16,10 +16,8 @@ use Rattle.laws.specs.Tests.{and-both}
 use Rattle.spans.specs.Spans.{Sound, Names}
 use Rattle.spans.specs.declared.NameRef.{NameRef}
 use Rattle.store.specs.Places.{tableRoom, putIn}
-use Rattle.store.specs.Tables.{keyOf, mapOf, SoundNode, SoundTable, Holds}
-use Rattle.store.specs.Stores.{SoundStore}
-use Rattle.store.specs.declared.Store.{Store}
-use Rattle.store.specs.declared.Table.{Table}
+use Rattle.store.specs.Tables.{Table, keyOf, mapOf, SoundNode, SoundTable, Holds}
+use Rattle.store.specs.Stores.{LentStore, SoundStore}
 use Rattle.store.proofs.Room.{room-put}
 use Rattle.store.proofs.Live.{length-table}
 use Rattle.local_storage.specs.Recording.{canStage, Staged}
@@ -50,18 +48,19 @@ module _ {src : Bytes} {e f : NameRef} (w : Names src e []) where
   pub staged-node : {x : ℕ} → Sound src f → SoundNode src (record { dir = e; file = f; number = x })
   staged-node s = record { dir = w .sound; file = s }
 
-  pub added : {s : Store} {t : Table} {x : ℕ} → SoundStore src s → length (mapOf src (s .staging)) < tableRoom → Holds src t (putIn (keyOf src e f) x (mapOf src (s .staging))) →
+  pub added : {s : LentStore} {t : Table} {x : ℕ} → SoundStore src s → s .staging .len < tableRoom → Holds src t (putIn (keyOf src e f) x (mapOf src (s .staging))) →
       Staged src f x s (record { tree = s .tree; staging = t; log = s .log; open_mark = s .open_mark })
   added {s} {t} {x} g h p = record {
     sound = record { tree = g .tree; staging = p .sound; log = g .log };
-    same = rw (p .same, room-put (keyOf src e f) x (mapOf src (s .staging)) h, w .same);
+    same = rw (p .same, room-put (keyOf src e f) x (mapOf src (s .staging)) (omega (arith, table-length (g .staging))), w .same);
   }
 
 -- A Write that is not refused has room.
-pub few-staged : (f : Name) (x : ℕ) (m : Map) → canStage f x m ≡ true → length m < tableRoom
+pub few-staged : {src : Bytes} {t : Table} (f : Name) (x : ℕ) → SoundTable src t → canStage f x (mapOf src t) ≡ true → t .len < tableRoom
 unfolding canStage
-few-staged f x m e =
+few-staged {src} {t} f x s e =
+    let m : Map = mapOf src t in
     let a = and-both (not (isSome (look (stagingKey f) m)) && not (leb stagingLimit (length m))) (validNumber x) e in
     let b = and-both (not (isSome (look (stagingKey f) m))) (not (leb stagingLimit (length m))) (a .0) in
     let c = leb-false stagingLimit (length m) (not-true (leb stagingLimit (length m)) (b .1)) in
-    omega arith
+    omega (arith, table-length s)

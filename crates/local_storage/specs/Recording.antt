@@ -19,8 +19,9 @@ use Rattle.model.specs.Record.{Outcome, refuse, give, transaction, recordInto}
 use Rattle.spans.specs.Spans.{nameOf, Names}
 use Rattle.spans.specs.declared.NameRef.{NameRef}
 use Rattle.store.specs.Tables.{mapOf}
-use Rattle.store.specs.Stores.{storeOf, logBytes, SoundStore}
-use Rattle.store.specs.declared.Store.{Store}
+use Rattle.store.specs.Words.{Words}
+use Rattle.store.specs.Stores.{LentStore, storeIn, storeOf, logBytes, SoundLog, SoundStore}
+use Rattle.store.specs.declared.LogRef.{LogRef}
 use Rattle.transaction.specs.declared.Operation.{Operation}
 use Rattle.wal.specs.Logs.{opsRead, SoundRead}
 use Rattle.wal.specs.Tails.{withTail, SoundTail}
@@ -32,23 +33,28 @@ use Rattle.local_storage.specs.declared.Recorded.{Recorded}
 use Rattle.local_storage.specs.declared.Transaction.{Transaction}
 
 -- What every store meets that a method takes: an image's log is not rewritten, and spans can point everywhere in the bytes.
-pub record Ready (src : Bytes) (s : Store) : Type 0 where
-  pub sound : SoundStore src s
-  pub plain : s .log .marked ≡ false
+pub record Readable (src : Bytes) (l : LogRef) : Type 0 where
+  pub log : SoundLog src l
+  pub plain : l .marked ≡ false
   pub short : length src ≤ 0xFFFF
 
-abbrev pub storageOf : Bytes → LocalStorage → model.Store
-storageOf src s = storeOf src (s .store)
+pub record Ready (src : Bytes) (s : LentStore) : Type 0 where
+  pub sound : SoundStore src s
+  pub readable : Readable src (s .log)
 
-abbrev pub handedOn : Bytes → Recorded → model.Store
-handedOn src r = withTail src (r .tail) (storageOf src (r .storage))
+-- What a storage stands for with its lent tables.
+abbrev pub storageOf : Bytes → Words → Words → LocalStorage → model.Store
+storageOf src tree staging s = storeOf src (storeIn tree staging (s .store))
+
+abbrev pub handedOn : Bytes → Words → Words → Recorded → model.Store
+handedOn src tree staging r = withTail src (r .tail) (storageOf src tree staging (r .storage))
 
 -- What follows a test: a number other than 0 refuses.
 abbrev pub unless : ℕ → Outcome → Outcome
 unless n next = if eqb n 0 then next else refuse n
 
-abbrev pub outcomeOf : Bytes → Recorded → Outcome
-outcomeOf src r = unless (r .number) (give (handedOn src r))
+abbrev pub outcomeOf : Bytes → Words → Words → Recorded → Outcome
+outcomeOf src tree staging r = unless (r .number) (give (handedOn src tree staging r))
 
 -- A refusal, and an operation recorded.
 abbrev pub refusedWith : LocalStorage → ℕ → Recorded
@@ -57,12 +63,12 @@ refusedWith s n = record { number = n; storage = s; tail = Nothing }
 abbrev pub recordedIn : LocalStorage → Operation → Recorded
 recordedIn s o = record { number = 0; storage = s; tail = Entry o }
 
--- What a method answers. A refusal hands back the store that came in.
-pub record Answers (src : Bytes) (o : Outcome) (before : LocalStorage) (r : Recorded) : Type 0 where
-  pub same : outcomeOf src r ≡ o
-  pub sound : SoundStore src (r .storage .store)
+-- What a method answers, with the tables as they were lent and as they are handed back. A refusal hands back the store that came in.
+pub record Answers (src : Bytes) (o : Outcome) (tree staging : Words) (before : LocalStorage) (tree' staging' : Words) (r : Recorded) : Type 0 where
+  pub same : outcomeOf src tree' staging' r ≡ o
+  pub sound : SoundStore src (storeIn tree' staging' (r .storage .store))
   pub tail : SoundTail src (r .tail)
-  pub kept : (r .number ≡ 0 → ⊥) → r .storage ≡ before
+  pub kept : (r .number ≡ 0 → ⊥) → storageOf src tree' staging' (r .storage) ≡ storageOf src tree staging before
 
 -- A given name that was tested beforehand: where it is valid, it stands in the bytes.
 pub record Given (src : Bytes) (v : Bool) (r : NameRef) (n : Name) : Type 0 where
@@ -112,10 +118,10 @@ unfoldable pub canStage : Name → ℕ → Map → Bool
 canStage f x m = not (isSome (look (stagingKey f) m)) && not (leb stagingLimit (length m)) && validNumber x
 
 -- What is put among the staging files, and what goes with a rollback.
-pub record Staged (src : Bytes) (f : NameRef) (x : ℕ) (s r : Store) : Type 0 where
+pub record Staged (src : Bytes) (f : NameRef) (x : ℕ) (s r : LentStore) : Type 0 where
   pub sound : SoundStore src r
   pub same : storeOf src r ≡ record { tree = mapOf src (s .tree); staging = put (stagingKey (nameOf src f)) x (mapOf src (s .staging)); log = logBytes src (s .log); openMark = s .open_mark }
 
-pub record Discarded (src : Bytes) (s r : Store) : Type 0 where
+pub record Discarded (src : Bytes) (s r : LentStore) : Type 0 where
   pub sound : SoundStore src s → SoundStore src r
   pub same : storeOf src r ≡ record { tree = mapOf src (s .tree); staging = []; log = none; openMark = false }

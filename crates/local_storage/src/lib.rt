@@ -8,16 +8,18 @@ ghost use Rattle.model.specs.Base.{Bytes};
 ghost use Rattle.model.specs.Log.{journal};
 ghost use Rattle.model.specs.Record.{hasDir, beginTransaction, discard, recordCreate, recordDeleteCollection, recordCopy};
 ghost use Rattle.spans.specs.Spans.{nameOf, Sound};
-ghost use Rattle.store.specs.Tables.{mapOf};
-ghost use Rattle.store.specs.Stores.{storeOf, logBytes, SoundStore};
+ghost use Rattle.store.specs.Words.{Words};
+ghost use Rattle.store.specs.Tables.{tableOf, mapOf, SoundTable};
+ghost use Rattle.store.specs.Stores.{storeIn, storeOf, logBytes, SoundStore};
 ghost use Rattle.steps.specs.Steps.{Within};
 ghost use Rattle.local_storage.specs.Committing.{Commits};
-ghost use Rattle.local_storage.specs.Recording.{Ready, storageOf, Answers, Given, isRecording, isWhole, Opens, Admits, Discarded, refusedWith, recordedIn};
+ghost use Rattle.local_storage.specs.Recording.{Readable, Ready, storageOf, Answers, Given, isRecording, isWhole, Opens, Admits, Discarded, refusedWith, recordedIn};
 
 mod collection;
 
 use spans::NameRef;
 use steps::Step;
+use store::Nodes;
 use store::Store;
 use transaction::Operation;
 use wal::Ending;
@@ -63,7 +65,7 @@ fn wide(x: u16) -> usize
 
 // Whether the mark of an open transaction stands, with a log that is Recording.
 fn is_recording(src: &[u8], s: Store) -> bool
-    requires { ⌜ Ready (now src) s ⌝ }
+    requires { ⌜ Readable (now src) (s .log) ⌝ }
     ensures { λ r. ⌜ r ≡ (s .open_mark && isRecording (journal (logBytes (now (src .entry)) (s .log)))) ⌝ }
 {
     if !s.open_mark {
@@ -97,8 +99,8 @@ fn is_whole(ending: Ending) -> bool
 
 // The open transaction. 01, Sixteen numbers, 4: "an untruncated, decodable Recording log of at most 32 operations".
 pub fn open_transaction(src: &[u8], s: Store) -> Transaction
-    requires { ⌜ Ready (now src) s ⌝ }
-    ensures { λ r. ⌜ Opens (now (src .entry)) (storeOf (now (src .entry)) s) r ⌝ }
+    requires { ⌜ Readable (now src) (s .log) ⌝ }
+    ensures { λ r. ⌜ ((tree staging : Words) → Opens (now (src .entry)) (storeOf (now (src .entry)) (storeIn tree staging s)) r) ⌝ }
 {
     if !is_recording(src, s) {
         return Transaction {
@@ -119,8 +121,8 @@ pub fn open_transaction(src: &[u8], s: Store) -> Transaction
 
 // 01, Sixteen numbers: "5. Recording meets 32 operations", after 4; 0 where it goes on.
 fn refusal(src: &[u8], s: Store) -> u32
-    requires { ⌜ Ready (now src) s ⌝ }
-    ensures { λ r. ⌜ Admits (storeOf (now (src .entry)) s) r ⌝ }
+    requires { ⌜ Readable (now src) (s .log) ⌝ }
+    ensures { λ r. ⌜ ((tree staging : Words) → Admits (storeOf (now (src .entry)) (storeIn tree staging s)) r) ⌝ }
 {
     let t = open_transaction(src, s);
     if !t.found {
@@ -134,11 +136,11 @@ fn refusal(src: &[u8], s: Store) -> u32
 }
 
 // Whether a collection stands.
-fn has_dir(src: &[u8], s: Store, name: NameRef) -> bool
-    requires { ⌜ SoundStore (now src) s × Sound (now src) name ⌝ }
-    ensures { λ r. ⌜ r ≡ hasDir (nameOf (now (src .entry)) name) (storeOf (now (src .entry)) s) ⌝ }
+fn has_dir(src: &[u8], tree: &Nodes, s: Store, name: NameRef) -> bool
+    requires { ⌜ SoundTable (now src) (tableOf (now tree) (s .tree)) × Sound (now src) name ⌝ }
+    ensures { λ r. ⌜ ((staging : Words) → r ≡ hasDir (nameOf (now (src .entry)) name) (storeOf (now (src .entry)) (storeIn (now (tree .entry)) staging s))) ⌝ }
 {
-    store::dir_exists(src, s.tree, name)
+    store::dir_exists(src, tree, s.tree, name)
 }
 
 // A store with the mark of an open transaction.
@@ -161,12 +163,12 @@ fn unmarked(s: Store) -> Store
 
 // A store without log, staging files and mark.
 fn discarded(s: Store) -> Store
-    ensures { λ r. ⌜ ((src : Bytes) → Discarded src s r) ⌝ }
+    ensures { λ r. ⌜ ((src : Bytes) (tree staging : Words) → Discarded src (storeIn tree staging s) (storeIn tree staging r)) ⌝ }
 {
     let mut l = s.log;
     l.stands = false;
     let mut r = s;
-    r.staging = store::empty();
+    r.staging = 0;
     r.log = l;
     r.open_mark = false;
     r
@@ -195,7 +197,7 @@ fn accepted(storage: LocalStorage, op: Operation) -> Recorded
 impl LocalStorage {
     // The mark, and a log made anew (`create_wal`).
     pub fn begin_transaction(self) -> Recorded
-        ensures { λ r. ⌜ ((src : Bytes) → SoundStore src (self .store) → Answers src (beginTransaction (storageOf src self)) self r) ⌝ }
+        ensures { λ r. ⌜ ((src : Bytes) (tree staging : Words) → SoundStore src (storeIn tree staging (self .store)) → Answers src (beginTransaction (storageOf src tree staging self)) tree staging self tree staging r) ⌝ }
     {
         let s = self.store;
         if s.open_mark {
@@ -211,9 +213,16 @@ impl LocalStorage {
 
     // All steps of the commit, or where `limited` the first n. 01, Listings and file steps: "The open mark 0x14 goes with commit's last step":
     // where the run did not stop.
-    pub fn commit(self, src: &[u8], limited: bool, n: u64) -> Committed
-        requires { ⌜ Ready (now src) (self .store) × Within (mapOf (now src) (self .store .tree)) ⌝ }
-        ensures { λ r. ⌜ Commits (now (src .entry)) (self .store) limited n r ⌝ }
+    pub fn commit(
+        self,
+        src: &[u8],
+        tree: &mut Nodes,
+        staging: &mut Nodes,
+        limited: bool,
+        n: u64,
+    ) -> Committed
+        requires { ⌜ Ready (now src) (storeIn (now tree) (now staging) (self .store)) × Within (mapOf (now src) (tableOf (now tree) (self .store .tree))) ⌝ }
+        ensures { λ r. ⌜ Commits (now (src .entry)) (storeIn (now (tree .entry)) (now (staging .entry)) (self .store)) limited n (now (tree .exit)) (now (staging .exit)) r ⌝ }
     {
         let t = open_transaction(src, self.store);
         if !t.found {
@@ -226,7 +235,7 @@ impl LocalStorage {
             };
         }
         let read = t.read;
-        let run = commit::apply_inner(src, self.store, read, limited, n);
+        let run = commit::apply_inner(src, tree, staging, self.store, read, limited, n);
         let last = run.last;
         let s = run.store;
         let stopped = run.stopped;
@@ -251,8 +260,8 @@ impl LocalStorage {
 
     // Log, staging files and mark go (`discard`).
     pub fn rollback(self, src: &[u8]) -> Recorded
-        requires { ⌜ Ready (now src) (self .store) ⌝ }
-        ensures { λ r. ⌜ Answers (now (src .entry)) (discard (storageOf (now (src .entry)) self)) self r ⌝ }
+        requires { ⌜ Readable (now src) (self .store .log) ⌝ }
+        ensures { λ r. ⌜ ((tree staging : Words) → SoundStore (now (src .entry)) (storeIn tree staging (self .store)) → Answers (now (src .entry)) (discard (storageOf (now (src .entry)) tree staging self)) tree staging self tree staging r) ⌝ }
     {
         let t = open_transaction(src, self.store);
         if !t.found {
@@ -267,9 +276,16 @@ impl LocalStorage {
     }
 
     // 4, 5, 6; "9. The collection to create exists."
-    pub fn create_collection(self, src: &[u8], valid: bool, name: NameRef) -> Recorded
-        requires { ⌜ Ready (now src) (self .store) × (valid ≡ true → Sound (now src) name) ⌝ }
-        ensures { λ r. ⌜ ((c : Name) → Given (now (src .entry)) valid name c → Answers (now (src .entry)) (recordCreate c (storageOf (now (src .entry)) self)) self r) ⌝ }
+    pub fn create_collection(
+        self,
+        src: &[u8],
+        tree: &Nodes,
+        staging: &Nodes,
+        valid: bool,
+        name: NameRef,
+    ) -> Recorded
+        requires { ⌜ Ready (now src) (storeIn (now tree) (now staging) (self .store)) × (valid ≡ true → Sound (now src) name) ⌝ }
+        ensures { λ r. ⌜ ((c : Name) → Given (now (src .entry)) valid name c → Answers (now (src .entry)) (recordCreate c (storageOf (now (src .entry)) (now (tree .entry)) (now (staging .entry)) self)) (now (tree .entry)) (now (staging .entry)) self (now (tree .entry)) (now (staging .entry)) r) ⌝ }
     {
         let n = refusal(src, self.store);
         if n != 0 {
@@ -278,16 +294,23 @@ impl LocalStorage {
         if !valid {
             return refused(self, 6);
         }
-        if has_dir(src, self.store, name) {
+        if has_dir(src, tree, self.store, name) {
             return refused(self, 9);
         }
         accepted(self, Operation::CreateCollection(name))
     }
 
     // 4, 5, 6; "7. The collection to delete or to copy from is missing."
-    pub fn delete_collection(self, src: &[u8], valid: bool, name: NameRef) -> Recorded
-        requires { ⌜ Ready (now src) (self .store) × (valid ≡ true → Sound (now src) name) ⌝ }
-        ensures { λ r. ⌜ ((c : Name) → Given (now (src .entry)) valid name c → Answers (now (src .entry)) (recordDeleteCollection c (storageOf (now (src .entry)) self)) self r) ⌝ }
+    pub fn delete_collection(
+        self,
+        src: &[u8],
+        tree: &Nodes,
+        staging: &Nodes,
+        valid: bool,
+        name: NameRef,
+    ) -> Recorded
+        requires { ⌜ Ready (now src) (storeIn (now tree) (now staging) (self .store)) × (valid ≡ true → Sound (now src) name) ⌝ }
+        ensures { λ r. ⌜ ((c : Name) → Given (now (src .entry)) valid name c → Answers (now (src .entry)) (recordDeleteCollection c (storageOf (now (src .entry)) (now (tree .entry)) (now (staging .entry)) self)) (now (tree .entry)) (now (staging .entry)) self (now (tree .entry)) (now (staging .entry)) r) ⌝ }
     {
         let n = refusal(src, self.store);
         if n != 0 {
@@ -296,7 +319,7 @@ impl LocalStorage {
         if !valid {
             return refused(self, 6);
         }
-        if !has_dir(src, self.store, name) {
+        if !has_dir(src, tree, self.store, name) {
             return refused(self, 7);
         }
         accepted(self, Operation::DeleteCollection(name))
@@ -306,13 +329,15 @@ impl LocalStorage {
     pub fn copy_collection(
         self,
         src: &[u8],
+        tree: &Nodes,
+        staging: &Nodes,
         valid_source: bool,
         source: NameRef,
         valid_dest: bool,
         dest: NameRef,
     ) -> Recorded
-        requires { ⌜ Ready (now src) (self .store) × ((«valid_source» ≡ true → Sound (now src) source) × («valid_dest» ≡ true → Sound (now src) dest)) ⌝ }
-        ensures { λ r. ⌜ ((a b : Name) → Given (now (src .entry)) «valid_source» source a → Given (now (src .entry)) «valid_dest» dest b → Answers (now (src .entry)) (recordCopy a b (storageOf (now (src .entry)) self)) self r) ⌝ }
+        requires { ⌜ Ready (now src) (storeIn (now tree) (now staging) (self .store)) × ((«valid_source» ≡ true → Sound (now src) source) × («valid_dest» ≡ true → Sound (now src) dest)) ⌝ }
+        ensures { λ r. ⌜ ((a b : Name) → Given (now (src .entry)) «valid_source» source a → Given (now (src .entry)) «valid_dest» dest b → Answers (now (src .entry)) (recordCopy a b (storageOf (now (src .entry)) (now (tree .entry)) (now (staging .entry)) self)) (now (tree .entry)) (now (staging .entry)) self (now (tree .entry)) (now (staging .entry)) r) ⌝ }
     {
         let n = refusal(src, self.store);
         if n != 0 {
@@ -321,13 +346,13 @@ impl LocalStorage {
         if !valid_source {
             return refused(self, 6);
         }
-        if !has_dir(src, self.store, source) {
+        if !has_dir(src, tree, self.store, source) {
             return refused(self, 7);
         }
         if !valid_dest {
             return refused(self, 6);
         }
-        let existed = has_dir(src, self.store, dest);
+        let existed = has_dir(src, tree, self.store, dest);
         accepted(self, Operation::CopyCollection(source, dest, existed))
     }
 }

@@ -15,8 +15,7 @@ use Rattle.model.specs.Plan.{opSteps}
 use Rattle.laws.specs.MapLaws.{look-put-other}
 use Rattle.plans.specs.Machine.{applyAll, single, seq}
 use Rattle.plans.specs.ModelPlans.{careful, turn-of}
-use Rattle.steps.specs.declared.Run.{Run}
-use Rattle.steps.specs.CodeRuns.{Follows}
+use Rattle.steps.specs.CodeRuns.{LentRun, Follows}
 use Rattle.recovery.proofs.Follow.{follows-as, follows-then}
 use Rattle.operations.specs.Parts.{backUpStanding, backUpStandingDir, makeMissing, backUpAll}
 use Rattle.operations.proofs.Careful.{lawful}
@@ -60,6 +59,6 @@ module _ (s : Store) where
       ∙ (unfold seq backUpStandingDir copySource opSteps in refl)
 
 -- A copy: its destination is backed up and made, and then what its source asks for.
-pub copied : (a b : Name) {src : Bytes} {run kept made r : Run} → Follows careful src (backUpStandingDir b) run kept → Follows careful src (single (makeDirectory b)) kept made → Follows careful src (copySource a b) made r
+pub copied : (a b : Name) {src : Bytes} {run kept made r : LentRun} → Follows careful src (backUpStandingDir b) run kept → Follows careful src (single (makeDirectory b)) kept made → Follows careful src (copySource a b) made r
     → (existed : Bool) → Follows careful src (opSteps (copyCollection a b existed)) run r
 copied a b p q w existed = follows-as lawful (follows-then lawful (follows-then lawful p q) w) (by-copy _ a b existed)

@@ -1,8 +1,8 @@
 -- The machine of commit, whose steps may fail; the steps that fail with 14 and are not made.
 use mathlib.Core.Path.{_≡_, refl, sym}
-use mathlib.Core.List.{[]}
+use mathlib.Core.List.{List, []}
 use mathlib.Core.Option.{Option, none, some}
-use mathlib.Core.Bool.{false, false≢true}
+use mathlib.Core.Bool.{true, false, false≢true}
 use Prim.Native.Nat.{ℕ, _<_}
 use lib.ListN.{length}
 use borrow.Author.Tests.{lt-ltb}
@@ -14,15 +14,19 @@ use Rattle.model.specs.Store.{Store}
 use Rattle.model.specs.Step.{Step, renameFile, renameDirectory, copyFile, apply, fails, nameTooLong, newFile, stepFault}
 use Rattle.store.specs.Stores.{storeOf}
 use Rattle.plans.specs.Machine.{Lawful, single}
+use Rattle.plans.specs.MachineLaws.{stays}
 use Rattle.plans.specs.ModelPlans.{fault, careful}
-use Rattle.plans.specs.RunLaws.{careful-lawful}
-use Rattle.steps.specs.declared.Run.{Run}
-use Rattle.steps.specs.CodeRuns.{SoundRun, Follows, Refuses}
+use Rattle.plans.specs.RunLaws.{careful-lawful, over-stopped}
+use Rattle.steps.specs.CodeRuns.{LentRun, runOf, SoundRun, Follows, Refuses}
 
 abbrev pub lawful : Lawful careful
 lawful = careful-lawful apply fault
 
-pub refused : {src : Bytes} {a b : Run} → SoundRun src a → Refuses src a b → (x : Step) → stepFault x (storeOf src (a .store)) ≡ some fails → Follows careful src (single x) a b
+-- A run that has stopped follows every plan.
+pub stopped : {src : Bytes} {plan : Store → List Step} {run : LentRun} → SoundRun src run → run .stopped ≡ true → Follows careful src plan run run
+stopped {src} {plan} {run} s h = record { sound = s; does = stays lawful (over-stopped (runOf src run) h) }
+
+pub refused : {src : Bytes} {a b : LentRun} → SoundRun src a → Refuses src a b → (x : Step) → stepFault x (storeOf src (a .store)) ≡ some fails → Follows careful src (single x) a b
 refused s w x e = record { sound = w .sound s; does = w .does x e }
 
 -- 01, Sixteen numbers, 14: "backup name over 64 bytes".

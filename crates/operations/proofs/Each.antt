@@ -1,6 +1,6 @@
 -- Loops that do one step for each file of a directory, and the loop through the operations.
-use mathlib.Core.Path.{_≡_, ap, subst, _∙_}
-use mathlib.Core.List.{List, map}
+use mathlib.Core.Path.{_≡_, sym, ap, subst, _∙_}
+use mathlib.Core.List.{List, [], map}
 use Prim.Native.Nat.{ℕ, _+_, _≤_, _<_}
 use native.Mathlib.Omega.{arith}
 use lib.ListN.{drop, getD, drop-of-length-le}
@@ -11,22 +11,26 @@ use Rattle.model.specs.Operation.{Op}
 use Rattle.model.specs.Store.{Store, files}
 use Rattle.model.specs.Step.{Step, renameFile, apply}
 use Rattle.model.specs.Plan.{opSteps, operationSteps}
+use Rattle.laws.specs.Listings.{files-named}
 use Rattle.laws.specs.OperationLaws.{ValidOp}
-use Rattle.laws.specs.Tests.{All}
+use Rattle.laws.specs.Tests.{All, all-drop, in-all}
 use Rattle.plans.specs.Machine.{single, seqOver, Going}
 use Rattle.plans.specs.MachineLaws.{begin, turn, goes-as, finish}
-use Rattle.plans.specs.ModelPlans.{careful, in-turn}
-use Rattle.plans.specs.Listings.{atFile, over-files, in-turn-single}
+use Rattle.plans.specs.ModelPlans.{careful, in-turn, in-turn-single}
+use Rattle.spans.specs.Spans.{nameOf}
+use Rattle.spans.specs.declared.NameRef.{NameRef}
+use Rattle.store.specs.Words.{nameAt}
 use Rattle.store.specs.Tables.{mapOf}
 use Rattle.store.proofs.Lists.{all-getD}
-use Rattle.steps.specs.declared.Run.{Run}
-use Rattle.steps.specs.CodeRuns.{runOf, SoundRun, Follows}
+use Rattle.steps.specs.Steps.{FileName}
+use Rattle.steps.specs.CodeRuns.{LentRun, runOf, SoundRun, Follows}
+use Rattle.steps.proofs.FileNames.{file-name}
 use Rattle.transaction.specs.Operations.{opOf, SoundOp}
 use Rattle.wal.specs.declared.Logged.{Logged}
 use Rattle.wal.specs.declared.WalRead.{WalRead}
 use Rattle.wal.specs.Logs.{loggedOf, opsRead, SoundRead}
 use Rattle.recovery.proofs.Follow.{follows-as}
-use Rattle.recovery.proofs.Over.{Over, end}
+use Rattle.recovery.proofs.Over.{listed-rest, Over, name, end}
 use Rattle.recovery.proofs.Entries.{length-read, op-at, read-at, read-rest}
 use Rattle.operations.proofs.Careful.{lawful}
 
@@ -37,21 +41,34 @@ each h f = single (h f)
 abbrev pub backUpFile : Name → Name → Step
 backUpFile d f = renameFile d f (backupName f)
 
-pub each-end : (h : Name → Step) (d : Name) {src : Bytes} {run now : Run} {i : ℕ} → Over lawful src (atFile d (each h)) (run .store .tree) run now i → run .store .tree .len ≤ i → Follows careful src (λ s. map h (files d (s .tree))) run now
-each-end h d {src} {run} w l = follows-as lawful (end lawful w l) (over-files (each h) d (mapOf src (run .store .tree)) _ ∙ in-turn-single h (files d (mapOf src (run .store .tree))) _)
+module _ {src : Bytes} {run now : LentRun} {listing : List ℕ} {n i : ℕ} (h : Name → Step) (d : Name) (w : Over lawful src (each h) listing n (files d (mapOf src (run .store .tree))) run now i) where
+  -- The name at i is not empty.
+  pub each-name : {r : NameRef} → r ≡ nameAt (getD listing i 0) → i < n → FileName src r
+  each-name {r} e l =
+      file-name (name lawful w e l)
+      (subst (λ (q : NameRef). nameOf src q ≡ [] → ⊥) (sym e) (subst (All Named) (listed-rest (w .lists) i l) (all-drop Named i names (in-all Named names (files-named d (mapOf src (run .store .tree))))) .0))
+    where
+      names : List Name
+      names = files d (mapOf src (run .store .tree))
+
+      Named : Name → Type 0
+      Named f = f ≡ [] → ⊥
+
+  pub each-end : n ≤ i → Follows careful src (λ s. map h (files d (s .tree))) run now
+  each-end l = follows-as lawful (end lawful w l) (in-turn (each h) (files d (mapOf src (run .store .tree))) _ ∙ in-turn-single h (files d (mapOf src (run .store .tree))) _)
 
 -- `apply_operations`: the first i operations are done.
-pub record Ahead (src : Bytes) (w : WalRead) (start now : Run) (i : ℕ) : Type 0 where
+pub record Ahead (src : Bytes) (w : WalRead) (start now : LentRun) (i : ℕ) : Type 0 where
   pub read : SoundRead src w
   pub valid : All ValidOp (opsRead src w)
   pub sound : SoundRun src now
   pub within : i ≤ w .len
   pub going : Going careful (seqOver apply opSteps (opsRead src w)) (seqOver apply opSteps (drop i (opsRead src w))) (runOf src start) (runOf src now)
 
-pub ahead-start : {src : Bytes} {w : WalRead} {run : Run} → SoundRead src w → All ValidOp (opsRead src w) → SoundRun src run → Ahead src w run run 0
+pub ahead-start : {src : Bytes} {w : WalRead} {run : LentRun} → SoundRead src w → All ValidOp (opsRead src w) → SoundRun src run → Ahead src w run run 0
 ahead-start s v r = record { read = s; valid = v; sound = r; within = omega arith; going = begin lawful }
 
-module _ {src : Bytes} {w : WalRead} {start now : Run} {i : ℕ} (a : Ahead src w start now i) where
+module _ {src : Bytes} {w : WalRead} {start now : LentRun} {i : ℕ} (a : Ahead src w start now i) where
   rest-as : (l : List Op) → drop i (opsRead src w) ≡ l → Going careful (seqOver apply opSteps (opsRead src w)) (seqOver apply opSteps l) (runOf src start) (runOf src now)
   rest-as l e = goes-as lawful (a .going) (ap (λ (q : List Op). seqOver apply opSteps q (runOf src now .store)) e)
 
@@ -65,5 +82,5 @@ module _ {src : Bytes} {w : WalRead} {start now : Run} {i : ℕ} (a : Ahead src 
     pub op-ahead : SoundOp src (getD (w .ops) i d .op) × ValidOp (opOf src (getD (w .ops) i d .op))
     op-ahead = (op-at (a .read) i d h, subst ValidOp (read-at (a .read) i d h) (all-getD ValidOp (opsRead src w) i (loggedOf src d) (a .valid) (omega (arith, length-read (a .read)))))
 
-    pub ahead-next : {next : Run} → Follows careful src (opSteps (opOf src (getD (w .ops) i d .op))) now next → Ahead src w start next (i + 1)
+    pub ahead-next : {next : LentRun} → Follows careful src (opSteps (opOf src (getD (w .ops) i d .op))) now next → Ahead src w start next (i + 1)
     ahead-next p = record { read = a .read; valid = a .valid; sound = p .sound; within = omega arith; going = turn lawful (rest-as _ (read-rest (a .read) i d h)) (p .does) }

@@ -5,6 +5,5 @@ pub mod RunLaws
 pub mod Tries
 pub mod Endings
 pub mod Budget
-pub mod Listings
 pub mod ModelPlans
 pub mod ModelAnswers

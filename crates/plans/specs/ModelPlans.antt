@@ -1,6 +1,6 @@
 -- The model's plans as plans of these machines: model Step and Plan.
 use mathlib.Core.Path.{_≡_, refl, ap, _∙_}
-use mathlib.Core.List.{List, [], _∷_, _++_}
+use mathlib.Core.List.{List, [], _∷_, _++_, map}
 use mathlib.Core.Option.{Option, none, some}
 use Prim.Native.Nat.{ℕ}
 use native.Mathlib.Omega.{arith}
@@ -11,7 +11,7 @@ use Rattle.model.specs.Step as model
 use Rattle.model.specs.Step.{Step, apply, Fault, fails, full, stepFault}
 use Rattle.model.specs.Plan.{inTurn, inSequence, firstFault, stepsBeforeFault}
 use Rattle.model.specs.Answers.{commitNumber}
-use Rattle.plans.specs.Machine.{Machine, applyAll, seq, seqOver}
+use Rattle.plans.specs.Machine.{Machine, applyAll, single, seq, seqOver}
 use Rattle.plans.specs.Runs as runs
 use Rattle.plans.specs.Runs.{Run, faultIn, upTo}
 
@@ -39,6 +39,11 @@ turn-of f {rest} {others} h s = ap (λ (u : Store). f s ++ rest u) (apply-all (f
 pub in-turn : {A : Type 0} (g : A → Store → List Step) (l : List A) (s : Store) → seqOver apply g l s ≡ inTurn g l s
 in-turn g [] s = refl
 in-turn g (a ∷ l) s = turn-of (g a) (in-turn g l) s
+
+-- Plans of one step each, whatever the store.
+pub in-turn-single : {A : Type 0} (h : A → Step) (l : List A) (s : Store) → inTurn (λ a. single (h a)) l s ≡ map h l
+in-turn-single h [] s = refl
+in-turn-single h (a ∷ l) s = ap (λ (xs : List Step). h a ∷ xs) (in-turn-single h l (apply (h a) s))
 
 pub in-sequence : (f : Store → List Step) (fs : List (Store → List Step)) (s : Store) → seq apply f (inSequence fs) s ≡ inSequence (f ∷ fs) s
 in-sequence f fs s = turn-of f (λ u. refl) s

@@ -17,8 +17,7 @@ use Rattle.plans.specs.Machine.{seqOver, Going}
 use Rattle.plans.specs.MachineLaws.{begin, turn, goes-as, finish}
 use Rattle.plans.specs.ModelPlans.{plain, in-turn}
 use Rattle.store.proofs.Lists.{all-getD}
-use Rattle.steps.specs.declared.Run.{Run}
-use Rattle.steps.specs.CodeRuns.{runOf, SoundRun, Follows}
+use Rattle.steps.specs.CodeRuns.{LentRun, runOf, SoundRun, Follows}
 use Rattle.transaction.specs.Operations.{opOf, SoundOp}
 use Rattle.wal.specs.declared.Logged.{Logged}
 use Rattle.wal.specs.declared.WalRead.{WalRead}
@@ -74,13 +73,13 @@ module _ {src : Bytes} {m : Map} {w : WalRead} {i : ℕ} (a : Among src m w i) w
 
 -- `remove_new_artifacts`: the first i operations are left.
 module _ (g : Op → Store → List Step) where
-  pub record Back (src : Bytes) (w : WalRead) (start now : Run) (i : ℕ) : Type 0 where
+  pub record Back (src : Bytes) (w : WalRead) (start now : LentRun) (i : ℕ) : Type 0 where
     pub read : SoundRead src w
     pub sound : SoundRun src now
     pub within : i ≤ w .len
     pub going : Going plain (seqOver apply g (reverse (opsRead src w))) (seqOver apply g (reverse (take i (opsRead src w)))) (runOf src start) (runOf src now)
 
-  pub back-start : {src : Bytes} {w : WalRead} {run : Run} → SoundRead src w → SoundRun src run → Back src w run run (w .len)
+  pub back-start : {src : Bytes} {w : WalRead} {run : LentRun} → SoundRead src w → SoundRun src run → Back src w run run (w .len)
   back-start {src} {w} {run} s r = record {
     read = s;
     sound = r;
@@ -88,7 +87,7 @@ module _ (g : Op → Store → List Step) where
     going = goes-as lawful (begin lawful) (ap (λ (q : List Op). seqOver apply g (reverse q) (runOf src run .store)) (sym (take-all (w .len) (opsRead src w) (omega (arith, length-read s)))));
   }
 
-  module _ {src : Bytes} {w : WalRead} {start now : Run} {i : ℕ} (b : Back src w start now i) where
+  module _ {src : Bytes} {w : WalRead} {start now : LentRun} {i : ℕ} (b : Back src w start now i) where
     pub back-end : i ≤ 0 → Follows plain src (inTurn g (reverse (opsRead src w))) start now
     back-end h =
         let e : i ≡ 0 = omega arith in
@@ -100,7 +99,7 @@ module _ (g : Op → Store → List Step) where
       pub op-before : SoundOp src (getD (w .ops) (i - 1) d .op)
       op-before = op-at (b .read) (i - 1) d (omega (arith, b .within))
 
-      pub back-next : {next : Run} → Follows plain src (g (opOf src (getD (w .ops) (i - 1) d .op))) now next → Back src w start next (i - 1)
+      pub back-next : {next : LentRun} → Follows plain src (g (opOf src (getD (w .ops) (i - 1) d .op))) now next → Back src w start next (i - 1)
       back-next p =
           let k : i ≤ w .len = b .within in
           let e : i ≡ suc (i - 1) = omega arith in

@@ -10,9 +10,8 @@ use borrow.Author.Tests.{lt-ltb, le-ltb}
 use Rattle.model.specs.Map.{Map}
 use Rattle.model.specs.Base.{Bytes, ifEmpty}
 use Rattle.model.specs.Store.{hasBackupFiles, hasPendingWork}
-use Rattle.store.specs.declared.Store.{Store}
 use Rattle.store.specs.Tables.{mapOf, Sized}
-use Rattle.store.specs.Stores.{storeOf}
+use Rattle.store.specs.Stores.{LentStore, storeOf}
 use Rattle.store.proofs.Live.{length-table}
 use Rattle.recovery.proofs.Picks.{log-told}
 
@@ -20,7 +19,7 @@ some-left : (m : Map) (n : ℕ) → length m ≡ n → ltb 0 n ≡ ifEmpty m fal
 some-left [] n e = le-ltb 0 n (omega arith)
 some-left (x ∷ m) n e = lt-ltb 0 n (omega arith)
 
-module _ (src : Bytes) (s : Store) where
+module _ (src : Bytes) (s : LentStore) where
   pub by-log : s .log .stands ≡ true → true ≡ hasPendingWork (storeOf src s)
   unfolding hasPendingWork
   by-log h = rw (log-told src (s .log) ∙ h)

@@ -8,14 +8,15 @@ use Rattle.model.specs.Store as model
 use Rattle.model.specs.Step.{apply}
 use Rattle.model.specs.Plan.{inSequence, recoverParts, recoverFault, recoverPlan, withoutMark}
 use Rattle.store.specs.declared.LogRef.{LogRef}
+use Rattle.store.specs.Words.{Words}
 use Rattle.store.specs.declared.Store.{Store}
-use Rattle.store.specs.Tables.{mapOf}
-use Rattle.store.specs.Stores.{logBytes, storeOf}
+use Rattle.store.specs.Tables.{tableOf, mapOf}
+use Rattle.store.specs.Stores.{storeIn, logBytes, storeOf}
 use Rattle.plans.specs.Budget.{Cut, Whole, plainly, limited-prefix, unlimited-whole}
 use Rattle.plans.specs.ModelPlans.{plain}
-use Rattle.steps.specs.declared.Run.{Run}
 use Rattle.steps.specs.Steps.{Fits}
-use Rattle.steps.specs.CodeRuns.{runOf, SoundRun, Fresh, Follows}
+use Rattle.steps.specs.declared.Run.{Run}
+use Rattle.steps.specs.CodeRuns.{LentRun, runIn, runOf, SoundRun, Fresh, Follows}
 use Rattle.wal.specs.declared.Status.{Status}
 use Rattle.wal.specs.declared.Status.the-variants.{Committing}
 use Rattle.wal.specs.declared.WalRead.{WalRead}
@@ -23,7 +24,7 @@ use Rattle.wal.specs.Logs.{journalOf, endingOf, opsRead, entriesOf}
 use Rattle.recovery.specs.Recoveries.{logPart, refusalOf, Ran, Recovers}
 use Rattle.recovery.proofs.Follow.{lawful, follows-as}
 
-abbrev pub unmarked : Store → Store
+abbrev unmarked : Store → Store
 unmarked s = record { tree = s .tree; staging = s .staging; log = s .log; open_mark = false }
 
 -- What the log is, by its status and by what was read of it.
@@ -35,28 +36,31 @@ module _ (src : Bytes) (l : LogRef) {r : Status} (e : journalOf r (entries (logP
   pub journal-read : (w : WalRead) → entriesOf src w ≡ entries (logPart src l) → journal (logBytes src l) ≡ committing (opsRead src w) (endingOf (w .ending))
   journal-read w k = journal-is src l e h ∙ ap (λ (x : Entries). committing (x .ops) (x .end)) (sym k)
 
-module _ (src : Bytes) (s : Store) {u : Store} {limited : Bool} {n : ℕ} {start : Run} (f : Fresh u limited n start) (e : u ≡ unmarked s) where
-  pub start-sound : Fits src s → SoundRun src start
-  start-sound h = f .sound src (subst (Fits src) (sym e) (record { sound = record { tree = h .sound .tree; staging = h .sound .staging; log = h .sound .log }; within = h .within }))
+module _ (src : Bytes) (tree staging : Words) (s : Store) {u : Store} {limited : Bool} {n : ℕ} {start : Run} (fresh : (t g : Words) → Fresh (storeIn t g u) limited n (runIn t g start)) (e : u ≡ unmarked s) where
+  abbrev f : Fresh (storeIn tree staging u) limited n (runIn tree staging start)
+  f = fresh tree staging
 
-  started : storeOf src (start .store) ≡ withoutMark (storeOf src s)
-  started = ap (storeOf src) (f .store ∙ e)
+  pub start-sound : Fits src (storeIn tree staging s) → SoundRun src (runIn tree staging start)
+  start-sound h = f .sound src (subst (λ (x : Store). Fits src (storeIn tree staging x)) (sym e) (record { sound = record { tree = h .sound .tree; staging = h .sound .staging; log = h .sound .log }; within = h .within }))
+
+  started : storeOf src (storeIn tree staging (start .store)) ≡ withoutMark (storeOf src (storeIn tree staging s))
+  started = ap (storeOf src) (f .store ∙ ap (storeIn tree staging) e)
 
   module _ (j : Journal) (at : journal (logBytes src (s .log)) ≡ j) where
     -- The plan of what the log is.
-    planned : {r : Run} → Follows plain src (inSequence (recoverParts j)) start r → Follows plain src recoverPlan start r
+    planned : {r : LentRun} → Follows plain src (inSequence (recoverParts j)) (runIn tree staging start) r → Follows plain src recoverPlan (runIn tree staging start) r
     unfolding recoverPlan
-    planned p = follows-as lawful p (ap (λ (k : Journal). inSequence (recoverParts k) (storeOf src (start .store))) (sym (ap (λ (v : model.Store). journal (v .log)) started ∙ at)))
+    planned p = follows-as lawful p (ap (λ (k : Journal). inSequence (recoverParts k) (storeOf src (storeIn tree staging (start .store)))) (sym (ap (λ (v : model.Store). journal (v .log)) started ∙ at)))
 
-    ran : {r : Run} → Follows plain src (inSequence (recoverParts j)) start r → Ran src s limited n r
+    ran : {r : LentRun} → Follows plain src (inSequence (recoverParts j)) (runIn tree staging start) r → Ran src (storeIn tree staging s) limited n r
     ran {r} p = record {
       sound = p .sound;
       cut = λ l. subst (λ (v : model.Store). Cut apply (recoverPlan v) n v (runOf src r)) started (limited-prefix apply (plainly apply (planned p .does)) (f .stopped) n (f .limited ∙ l) (f .left));
       whole = λ l. subst (λ (v : model.Store). Whole apply (recoverPlan v) v (runOf src r)) started (unlimited-whole apply (plainly apply (planned p .does)) (f .stopped) (f .limited ∙ l));
     }
 
-    pub recovers : {r : Run} → 0 ≡ refusalOf (recoverFault j (mapOf src (s .tree))) → Follows plain src (inSequence (recoverParts j)) start r → Recovers src s limited n (record { number = 0; run = r })
-    recovers z p = record { number = z ∙ ap (λ (k : Journal). refusalOf (recoverFault k (mapOf src (s .tree)))) (sym at); run = λ h. ran p }
+    pub recovers : {t g : Words} {r : Run} → 0 ≡ refusalOf (recoverFault j (mapOf src (tableOf tree (s .tree)))) → Follows plain src (inSequence (recoverParts j)) (runIn tree staging start) (runIn t g r) → Recovers src (storeIn tree staging s) limited n t g (record { number = 0; run = r })
+    recovers z p = record { number = z ∙ ap (λ (k : Journal). refusalOf (recoverFault k (mapOf src (tableOf tree (s .tree))))) (sym at); run = λ h. ran p }
 
-    pub refuses : {r : Run} (k : ℕ) → k ≡ refusalOf (recoverFault j (mapOf src (s .tree))) → (k ≡ 0 → ⊥) → Recovers src s limited n (record { number = k; run = r })
-    refuses k z h = record { number = z ∙ ap (λ (k : Journal). refusalOf (recoverFault k (mapOf src (s .tree)))) (sym at); run = λ q. absurd (h q) }
+    pub refuses : {t g : Words} {r : Run} (k : ℕ) → k ≡ refusalOf (recoverFault j (mapOf src (tableOf tree (s .tree)))) → (k ≡ 0 → ⊥) → Recovers src (storeIn tree staging s) limited n t g (record { number = k; run = r })
+    refuses k z h = record { number = z ∙ ap (λ (k : Journal). refusalOf (recoverFault k (mapOf src (tableOf tree (s .tree))))) (sym at); run = λ q. absurd (h q) }

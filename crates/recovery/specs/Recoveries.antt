@@ -9,12 +9,11 @@ use Rattle.model.specs.Log.{journal}
 use Rattle.model.specs.Store as model
 use Rattle.model.specs.Step.{apply}
 use Rattle.model.specs.Plan.{withoutMark, recoverFault, recoverPlan}
-use Rattle.store.specs.Stores.{storeOf}
+use Rattle.store.specs.Words.{Words}
+use Rattle.store.specs.Stores.{LentStore, storeOf}
 use Rattle.store.specs.declared.LogRef.{LogRef}
-use Rattle.store.specs.declared.Store.{Store}
 use Rattle.plans.specs.Budget.{Cut, Whole}
-use Rattle.steps.specs.CodeRuns.{runOf, SoundRun}
-use Rattle.steps.specs.declared.Run.{Run}
+use Rattle.steps.specs.CodeRuns.{LentRun, runIn, runOf, SoundRun}
 use Rattle.recovery.specs.declared.Recovered.{Recovered}
 
 -- The bytes of a log whose header was not rewritten.
@@ -30,12 +29,12 @@ recoverNumber s = refusalOf (recoverFault (journal (s .log)) (s .tree))
 
 -- A run that did recovery's plan: its first n steps where it was limited, else all. `recovered-cut` and `recovered-whole` of crate plans
 -- give the model's stores.
-pub record Ran (src : Bytes) (s : Store) (limited : Bool) (n : ℕ) (r : Run) : Type 0 where
+pub record Ran (src : Bytes) (s : LentStore) (limited : Bool) (n : ℕ) (r : LentRun) : Type 0 where
   pub sound : SoundRun src r
   pub cut : limited ≡ true → Cut apply (recoverPlan (withoutMark (storeOf src s))) n (withoutMark (storeOf src s)) (runOf src r)
   pub whole : limited ≡ false → Whole apply (recoverPlan (withoutMark (storeOf src s))) (withoutMark (storeOf src s)) (runOf src r)
 
 -- 01, Sixteen numbers: 11, 12 and 13, or the plan.
-pub record Recovers (src : Bytes) (s : Store) (limited : Bool) (n : ℕ) (r : Recovered) : Type 0 where
+pub record Recovers (src : Bytes) (s : LentStore) (limited : Bool) (n : ℕ) (tree staging : Words) (r : Recovered) : Type 0 where
   pub number : r .number ≡ recoverNumber (storeOf src s)
-  pub run : r .number ≡ 0 → Ran src s limited n (r .run)
+  pub run : r .number ≡ 0 → Ran src s limited n (runIn tree staging (r .run))

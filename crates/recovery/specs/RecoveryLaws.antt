@@ -12,9 +12,9 @@ use Rattle.model.specs.Store.{hasBackupFiles}
 use Rattle.model.specs.Step.{stepField}
 use Rattle.model.specs.Plan.{isNewArtifact, recoverFault, recoverPlan, recovered, recoveredAt, withoutMark}
 use Rattle.model.specs.Answers.{fieldAt}
-use Rattle.store.specs.declared.Store.{Store}
+use Rattle.store.specs.Words.{Words}
 use Rattle.store.specs.Tables.{mapOf}
-use Rattle.store.specs.Stores.{logBytes, storeOf}
+use Rattle.store.specs.Stores.{LentStore, storeIn, logBytes, storeOf}
 use Rattle.plans.specs.ModelAnswers.{recovered-cut, recovered-whole, field-at}
 use Rattle.steps.specs.Steps.{stepOf}
 use Rattle.recovery.specs.declared.Recovered.{Recovered}
@@ -37,7 +37,7 @@ fault-some : (o : Option ℕ) → (refusalOf o ≡ 0 → ⊥) → o ≡ some (re
 fault-some none h = absurd (h refl)
 fault-some (some k) h = refl
 
-module _ {src : Bytes} {s : Store} {limited : Bool} {n : ℕ} {r : Recovered} (w : Recovers src s limited n r) where
+module _ {src : Bytes} {s : LentStore} {limited : Bool} {n : ℕ} {tree staging : Words} {r : Recovered} (w : Recovers src s limited n tree staging r) where
   pub not-refused : r .number ≡ 0 → recoverFault (journal (logBytes src (s .log))) (mapOf src (s .tree)) ≡ none
   not-refused z = fault-none (journal (logBytes src (s .log))) (mapOf src (s .tree)) (sym (w .number) ∙ z)
 
@@ -45,10 +45,10 @@ module _ {src : Bytes} {s : Store} {limited : Bool} {n : ℕ} {r : Recovered} (w
   refused h = rw (w .number) (fault-some (recoverFault (journal (logBytes src (s .log))) (mapOf src (s .tree))) (λ z. h (w .number ∙ z)))
 
   module _ (z : r .number ≡ 0) where
-    pub recovered-is : limited ≡ false → recovered (storeOf src s) ≡ storeOf src (r .run .store)
+    pub recovered-is : limited ≡ false → recovered (storeOf src s) ≡ storeOf src (storeIn tree staging (r .run .store))
     recovered-is l = recovered-whole (storeOf src s) (w .run z .whole l)
 
-    pub recovered-at : limited ≡ true → recoveredAt n (storeOf src s) ≡ storeOf src (r .run .store)
+    pub recovered-at : limited ≡ true → recoveredAt n (storeOf src s) ≡ storeOf src (storeIn tree staging (r .run .store))
     recovered-at l = recovered-cut (storeOf src s) (w .run z .cut l)
 
     -- The field of the step that was done last.

@@ -12,11 +12,11 @@ ghost use Rattle.model.specs.Log.{entries, journal, absent, committing};
 ghost use Rattle.model.specs.Store.{hasBackupFiles, hasPendingWork};
 ghost use Rattle.model.specs.Plan.{inTurn, inSequence, recoverParts, recoverFault, undoSteps, restoreFile, restoreDirectory, restoreBackups, removeBackupFile, removeBackupsIn, removeBackups, removeStagingFiles, removeStandingLog, isNewArtifact};
 ghost use Rattle.spans.specs.Spans.{nameOf, Sound};
-ghost use Rattle.store.specs.Tables.{mapOf, SoundTable};
-ghost use Rattle.store.specs.Stores.{logBytes, storeOf, SoundLog, SoundStore};
+ghost use Rattle.store.specs.Tables.{tableOf, mapOf, SoundTable};
+ghost use Rattle.store.specs.Stores.{storeIn, logBytes, storeOf, SoundLog, SoundStore};
 ghost use Rattle.plans.specs.ModelPlans.{plain};
 ghost use Rattle.steps.specs.Steps.{Fits};
-ghost use Rattle.steps.specs.CodeRuns.{SoundRun, Follows};
+ghost use Rattle.steps.specs.CodeRuns.{runIn, SoundRun, Follows};
 ghost use Rattle.transaction.specs.Operations.{opOf, SoundOp};
 ghost use Rattle.wal.specs.Logs.{journalOf, endingOf, opsRead, entriesOf, SoundRead};
 ghost use Rattle.recovery.specs.Walks.{clearFile, clearDir, overFiles, undoWrite, undoCreate, undoCopy, undoAll, cleanUp};
@@ -27,47 +27,46 @@ use spans::OriginalName;
 use steps::Run;
 use steps::Step;
 use store::LogRef;
+use store::Nodes;
 use store::Store;
-use store::Table;
 use transaction::Operation;
 use wal::Ending;
 use wal::Status;
 use wal::WalRead;
 
 // Whether the backup of a file stands. One whose name has over 64 bytes stands nowhere.
-fn has_backup(src: &[u8], t: Table, dir: NameRef, file: NameRef) -> bool
-    requires { ⌜ SoundTable (now src) t × (Sound (now src) dir × Sound (now src) file) ⌝ }
-    ensures { λ r. ⌜ r ≡ isSome (look (nameOf (now (src .entry)) dir, backupName (nameOf (now (src .entry)) file)) (mapOf (now (src .entry)) t)) ⌝ }
+fn has_backup(src: &[u8], t: &Nodes, n: usize, dir: NameRef, file: NameRef) -> bool
+    requires { ⌜ SoundTable (now src) (tableOf (now t) n) × (Sound (now src) dir × Sound (now src) file) ⌝ }
+    ensures { λ r. ⌜ r ≡ isSome (look (nameOf (now (src .entry)) dir, backupName (nameOf (now (src .entry)) file)) (mapOf (now (src .entry)) (tableOf (now (t .entry)) n))) ⌝ }
 {
     let b = spans::backup(src, file);
     match b {
-        BackupName::Is(q) => store::exists(src, t, dir, q),
+        BackupName::Is(q) => store::exists(src, t, n, dir, q),
         BackupName::TooLong => false,
     }
 }
 
 // The same for a directory.
-fn has_backup_dir(src: &[u8], t: Table, dir: NameRef) -> bool
-    requires { ⌜ SoundTable (now src) t × Sound (now src) dir ⌝ }
-    ensures { λ r. ⌜ r ≡ isSome (look (backupName (nameOf (now (src .entry)) dir), []) (mapOf (now (src .entry)) t)) ⌝ }
+fn has_backup_dir(src: &[u8], t: &Nodes, n: usize, dir: NameRef) -> bool
+    requires { ⌜ SoundTable (now src) (tableOf (now t) n) × Sound (now src) dir ⌝ }
+    ensures { λ r. ⌜ r ≡ isSome (look (backupName (nameOf (now (src .entry)) dir), []) (mapOf (now (src .entry)) (tableOf (now (t .entry)) n))) ⌝ }
 {
     let b = spans::backup(src, dir);
     match b {
-        BackupName::Is(q) => store::dir_exists(src, t, q),
+        BackupName::Is(q) => store::dir_exists(src, t, n, q),
         BackupName::TooLong => false,
     }
 }
 
 // Whether any backup stands. 01, Listings and file steps: "The search for a backup leaves both walks at the first hit."
-pub fn has_backup_files(src: &[u8], t: Table) -> bool
-    requires { ⌜ SoundTable (now src) t ⌝ }
-    ensures { λ r. ⌜ r ≡ hasBackupFiles (mapOf (now (src .entry)) t) ⌝ }
+pub fn has_backup_files(src: &[u8], t: &Nodes, n: usize) -> bool
+    requires { ⌜ SoundTable (now src) (tableOf (now t) n) ⌝ }
+    ensures { λ r. ⌜ r ≡ hasBackupFiles (mapOf (now (src .entry)) (tableOf (now (t .entry)) n)) ⌝ }
 {
-    let n = t.len;
     let mut found = false;
     let mut i: usize = 0;
     'directories: while i < n {
-        let x = t.nodes[i];
+        let x = store::node_at(t, i);
         let dir = x.dir;
         if spans::is_backup(src, dir) {
             found = true;
@@ -75,7 +74,7 @@ pub fn has_backup_files(src: &[u8], t: Table) -> bool
         }
         // The nodes of this directory: its own, whose file name is empty, and those of its files.
         while i < n {
-            let y = t.nodes[i];
+            let y = store::node_at(t, i);
             let of = y.dir;
             let file = y.file;
             if !spans::same(src, dir, of) {
@@ -92,42 +91,40 @@ pub fn has_backup_files(src: &[u8], t: Table) -> bool
 }
 
 // Whether a previous run left work to do: 01, Modules in port order, "`has_pending_work` (yes or no)".
-pub fn has_pending_work(src: &[u8], s: Store) -> bool
-    requires { ⌜ SoundStore (now src) s ⌝ }
-    ensures { λ r. ⌜ r ≡ hasPendingWork (storeOf (now (src .entry)) s) ⌝ }
+pub fn has_pending_work(src: &[u8], tree: &Nodes, staging: &Nodes, s: Store) -> bool
+    requires { ⌜ SoundStore (now src) (storeIn (now tree) (now staging) s) ⌝ }
+    ensures { λ r. ⌜ r ≡ hasPendingWork (storeOf (now (src .entry)) (storeIn (now (tree .entry)) (now (staging .entry)) s)) ⌝ }
 {
     let log = s.log;
     if log.stands {
         return true;
     }
-    let t = s.tree;
-    if has_backup_files(src, t) {
+    if has_backup_files(src, tree, s.tree) {
         return true;
     }
-    let staging = s.staging;
-    staging.len > 0
+    s.staging > 0
 }
 
 // Whether an operation seems to have been applied: `has_new_artifacts`, for one operation. 01, Corners, recovery.rs: "A Write to an
 // existing key counts as a new artifact, though nothing was done."
-pub fn is_new_artifact(src: &[u8], t: Table, op: Operation) -> bool
-    requires { ⌜ SoundTable (now src) t × SoundOp (now src) op ⌝ }
-    ensures { λ r. ⌜ r ≡ isNewArtifact (mapOf (now (src .entry)) t) (opOf (now (src .entry)) op) ⌝ }
+pub fn is_new_artifact(src: &[u8], t: &Nodes, n: usize, op: Operation) -> bool
+    requires { ⌜ SoundTable (now src) (tableOf (now t) n) × SoundOp (now src) op ⌝ }
+    ensures { λ r. ⌜ r ≡ isNewArtifact (mapOf (now (src .entry)) (tableOf (now (t .entry)) n)) (opOf (now (src .entry)) op) ⌝ }
 {
     match op {
         Operation::Write(c, k, _) => {
-            if store::exists(src, t, c, k) {
-                return !has_backup(src, t, c, k);
+            if store::exists(src, t, n, c, k) {
+                return !has_backup(src, t, n, c, k);
             }
             false
         }
-        Operation::CreateCollection(c) => store::dir_exists(src, t, c),
+        Operation::CreateCollection(c) => store::dir_exists(src, t, n, c),
         Operation::CopyCollection(_, b, existed) => {
             if existed {
                 return false;
             }
-            if store::dir_exists(src, t, b) {
-                return !has_backup_dir(src, t, b);
+            if store::dir_exists(src, t, n, b) {
+                return !has_backup_dir(src, t, n, b);
             }
             false
         }
@@ -136,16 +133,16 @@ pub fn is_new_artifact(src: &[u8], t: Table, op: Operation) -> bool
 }
 
 // Whether any of the operations that were read seems to have been applied.
-fn has_new_artifacts(src: &[u8], t: Table, w: WalRead) -> bool
-    requires { ⌜ SoundTable (now src) t × SoundRead (now src) w ⌝ }
-    ensures { λ r. ⌜ r ≡ anyOf (isNewArtifact (mapOf (now (src .entry)) t)) (opsRead (now (src .entry)) w) ⌝ }
+fn has_new_artifacts(src: &[u8], t: &Nodes, n: usize, w: WalRead) -> bool
+    requires { ⌜ SoundTable (now src) (tableOf (now t) n) × SoundRead (now src) w ⌝ }
+    ensures { λ r. ⌜ r ≡ anyOf (isNewArtifact (mapOf (now (src .entry)) (tableOf (now (t .entry)) n))) (opsRead (now (src .entry)) w) ⌝ }
 {
-    let n = w.len;
+    let k = w.len;
     let mut i: usize = 0;
-    while i < n {
+    while i < k {
         let x = w.ops[i];
         let op = x.op;
-        if is_new_artifact(src, t, op) {
+        if is_new_artifact(src, t, n, op) {
             return true;
         }
         i += 1;
@@ -154,31 +151,38 @@ fn has_new_artifacts(src: &[u8], t: Table, w: WalRead) -> bool
 }
 
 // Removes the file that a Write made, unless its backup stands.
-fn undo_write(src: &[u8], run: Run, dir: NameRef, key: NameRef) -> Run
-    requires { ⌜ SoundRun (now src) run × (Sound (now src) dir × Sound (now src) key) ⌝ }
-    ensures { λ r. ⌜ Follows plain (now (src .entry)) (undoWrite (nameOf (now (src .entry)) dir) (nameOf (now (src .entry)) key)) run r ⌝ }
+fn undo_write(
+    src: &[u8],
+    tree: &mut Nodes,
+    staging: &mut Nodes,
+    run: Run,
+    dir: NameRef,
+    key: NameRef,
+) -> Run
+    requires { ⌜ SoundRun (now src) (runIn (now tree) (now staging) run) × (Sound (now src) dir × Sound (now src) key) ⌝ }
+    ensures { λ r. ⌜ Follows plain (now (src .entry)) (undoWrite (nameOf (now (src .entry)) dir) (nameOf (now (src .entry)) key)) (runIn (now (tree .entry)) (now (staging .entry)) run) (runIn (now (tree .exit)) (now (staging .exit)) r) ⌝ }
 {
     let s = run.store;
-    let t = s.tree;
-    if store::exists(src, t, dir, key) {
-        if has_backup(src, t, dir, key) {
+    let n = s.tree;
+    if store::exists(src, tree, n, dir, key) {
+        if has_backup(src, tree, n, dir, key) {
             return run;
         }
-        return steps::advance(src, run, Step::RemoveFile(dir, key));
+        return steps::advance(src, tree, staging, run, Step::RemoveFile(dir, key));
     }
     run
 }
 
 // Removes the directory that a CreateCollection made, if it is empty.
-fn undo_create(src: &[u8], run: Run, dir: NameRef) -> Run
-    requires { ⌜ SoundRun (now src) run × Sound (now src) dir ⌝ }
-    ensures { λ r. ⌜ Follows plain (now (src .entry)) (undoCreate (nameOf (now (src .entry)) dir)) run r ⌝ }
+fn undo_create(src: &[u8], tree: &mut Nodes, staging: &mut Nodes, run: Run, dir: NameRef) -> Run
+    requires { ⌜ SoundRun (now src) (runIn (now tree) (now staging) run) × Sound (now src) dir ⌝ }
+    ensures { λ r. ⌜ Follows plain (now (src .entry)) (undoCreate (nameOf (now (src .entry)) dir)) (runIn (now (tree .entry)) (now (staging .entry)) run) (runIn (now (tree .exit)) (now (staging .exit)) r) ⌝ }
 {
     let s = run.store;
-    let t = s.tree;
-    if store::dir_exists(src, t, dir) {
-        if store::is_dir_empty(src, t, dir) {
-            return steps::advance(src, run, Step::RemoveDirectory(dir));
+    let n = s.tree;
+    if store::dir_exists(src, tree, n, dir) {
+        if store::is_dir_empty(src, tree, n, dir) {
+            return steps::advance(src, tree, staging, run, Step::RemoveDirectory(dir));
         }
         return run;
     }
@@ -186,43 +190,58 @@ fn undo_create(src: &[u8], run: Run, dir: NameRef) -> Run
 }
 
 // Removes the destination that a CopyCollection made, unless its backup stands.
-fn undo_copy(src: &[u8], run: Run, dir: NameRef) -> Run
-    requires { ⌜ SoundRun (now src) run × Sound (now src) dir ⌝ }
-    ensures { λ r. ⌜ Follows plain (now (src .entry)) (undoCopy (nameOf (now (src .entry)) dir)) run r ⌝ }
+fn undo_copy(src: &[u8], tree: &mut Nodes, staging: &mut Nodes, run: Run, dir: NameRef) -> Run
+    requires { ⌜ SoundRun (now src) (runIn (now tree) (now staging) run) × Sound (now src) dir ⌝ }
+    ensures { λ r. ⌜ Follows plain (now (src .entry)) (undoCopy (nameOf (now (src .entry)) dir)) (runIn (now (tree .entry)) (now (staging .entry)) run) (runIn (now (tree .exit)) (now (staging .exit)) r) ⌝ }
 {
     let s = run.store;
-    let t = s.tree;
-    if store::dir_exists(src, t, dir) {
-        if has_backup_dir(src, t, dir) {
+    let n = s.tree;
+    if store::dir_exists(src, tree, n, dir) {
+        if has_backup_dir(src, tree, n, dir) {
             return run;
         }
-        return steps::advance(src, run, Step::RemoveDirectory(dir));
+        return steps::advance(src, tree, staging, run, Step::RemoveDirectory(dir));
     }
     run
 }
 
 // Removes the new artifact of an operation: `remove_new_artifacts`, for one operation.
-pub fn undo_operation(src: &[u8], run: Run, op: Operation) -> Run
-    requires { ⌜ SoundRun (now src) run × SoundOp (now src) op ⌝ }
-    ensures { λ r. ⌜ Follows plain (now (src .entry)) (undoSteps (opOf (now (src .entry)) op)) run r ⌝ }
+pub fn undo_operation(
+    src: &[u8],
+    tree: &mut Nodes,
+    staging: &mut Nodes,
+    run: Run,
+    op: Operation,
+) -> Run
+    requires { ⌜ SoundRun (now src) (runIn (now tree) (now staging) run) × SoundOp (now src) op ⌝ }
+    ensures { λ r. ⌜ Follows plain (now (src .entry)) (undoSteps (opOf (now (src .entry)) op)) (runIn (now (tree .entry)) (now (staging .entry)) run) (runIn (now (tree .exit)) (now (staging .exit)) r) ⌝ }
 {
+    if run.stopped {
+        return run;
+    }
     match op {
-        Operation::Write(c, k, _) => undo_write(src, run, c, k),
-        Operation::CreateCollection(c) => undo_create(src, run, c),
+        Operation::Write(c, k, _) => undo_write(src, tree, staging, run, c, k),
+        Operation::CreateCollection(c) => undo_create(src, tree, staging, run, c),
         Operation::CopyCollection(_, b, existed) => {
             if existed {
                 return run;
             }
-            undo_copy(src, run, b)
+            undo_copy(src, tree, staging, run, b)
         }
         Operation::Delete(_, _) | Operation::DeleteAll(_) | Operation::DeleteCollection(_) => run,
     }
 }
 
 // Removes the new artifacts of the operations that were read, from the last to the first.
-pub fn remove_new_artifacts(src: &[u8], run: Run, w: WalRead) -> Run
-    requires { ⌜ SoundRun (now src) run × SoundRead (now src) w ⌝ }
-    ensures { λ r. ⌜ Follows plain (now (src .entry)) (inTurn undoSteps (reverse (opsRead (now (src .entry)) w))) run r ⌝ }
+pub fn remove_new_artifacts(
+    src: &[u8],
+    tree: &mut Nodes,
+    staging: &mut Nodes,
+    run: Run,
+    w: WalRead,
+) -> Run
+    requires { ⌜ SoundRun (now src) (runIn (now tree) (now staging) run) × SoundRead (now src) w ⌝ }
+    ensures { λ r. ⌜ Follows plain (now (src .entry)) (inTurn undoSteps (reverse (opsRead (now (src .entry)) w))) (runIn (now (tree .entry)) (now (staging .entry)) run) (runIn (now (tree .exit)) (now (staging .exit)) r) ⌝ }
 {
     let mut work = run;
     let mut i: usize = w.len;
@@ -230,51 +249,71 @@ pub fn remove_new_artifacts(src: &[u8], run: Run, w: WalRead) -> Run
         i -= 1;
         let x = w.ops[i];
         let op = x.op;
-        work = undo_operation(src, work, op);
+        work = undo_operation(src, tree, staging, work, op);
     }
     work
 }
 
 // Removes a file, if it stands.
-fn clear_file(src: &[u8], run: Run, dir: NameRef, file: NameRef) -> Run
-    requires { ⌜ SoundRun (now src) run × (Sound (now src) dir × Sound (now src) file) ⌝ }
-    ensures { λ r. ⌜ Follows plain (now (src .entry)) (clearFile (nameOf (now (src .entry)) dir) (nameOf (now (src .entry)) file)) run r ⌝ }
+fn clear_file(
+    src: &[u8],
+    tree: &mut Nodes,
+    staging: &mut Nodes,
+    run: Run,
+    dir: NameRef,
+    file: NameRef,
+) -> Run
+    requires { ⌜ SoundRun (now src) (runIn (now tree) (now staging) run) × (Sound (now src) dir × Sound (now src) file) ⌝ }
+    ensures { λ r. ⌜ Follows plain (now (src .entry)) (clearFile (nameOf (now (src .entry)) dir) (nameOf (now (src .entry)) file)) (runIn (now (tree .entry)) (now (staging .entry)) run) (runIn (now (tree .exit)) (now (staging .exit)) r) ⌝ }
 {
     let s = run.store;
-    let t = s.tree;
-    if store::exists(src, t, dir, file) {
-        return steps::advance(src, run, Step::RemoveFile(dir, file));
+    let n = s.tree;
+    if store::exists(src, tree, n, dir, file) {
+        return steps::advance(src, tree, staging, run, Step::RemoveFile(dir, file));
     }
     run
 }
 
 // Removes a directory with its files, if it stands.
-fn clear_dir(src: &[u8], run: Run, dir: NameRef) -> Run
-    requires { ⌜ SoundRun (now src) run × Sound (now src) dir ⌝ }
-    ensures { λ r. ⌜ Follows plain (now (src .entry)) (clearDir (nameOf (now (src .entry)) dir)) run r ⌝ }
+fn clear_dir(src: &[u8], tree: &mut Nodes, staging: &mut Nodes, run: Run, dir: NameRef) -> Run
+    requires { ⌜ SoundRun (now src) (runIn (now tree) (now staging) run) × Sound (now src) dir ⌝ }
+    ensures { λ r. ⌜ Follows plain (now (src .entry)) (clearDir (nameOf (now (src .entry)) dir)) (runIn (now (tree .entry)) (now (staging .entry)) run) (runIn (now (tree .exit)) (now (staging .exit)) r) ⌝ }
 {
     let s = run.store;
-    let t = s.tree;
-    if store::dir_exists(src, t, dir) {
-        return steps::advance(src, run, Step::RemoveDirectory(dir));
+    let n = s.tree;
+    if store::dir_exists(src, tree, n, dir) {
+        return steps::advance(src, tree, staging, run, Step::RemoveDirectory(dir));
     }
     run
 }
 
 // A backup takes the place of its original; a file with the extension of staging files goes.
-fn restore_file(src: &[u8], run: Run, dir: NameRef, file: NameRef) -> Run
-    requires { ⌜ SoundRun (now src) run × (Sound (now src) dir × Sound (now src) file) ⌝ }
-    ensures { λ r. ⌜ Follows plain (now (src .entry)) (restoreFile (nameOf (now (src .entry)) dir) (nameOf (now (src .entry)) file)) run r ⌝ }
+fn restore_file(
+    src: &[u8],
+    tree: &mut Nodes,
+    staging: &mut Nodes,
+    run: Run,
+    dir: NameRef,
+    file: NameRef,
+) -> Run
+    requires { ⌜ SoundRun (now src) (runIn (now tree) (now staging) run) × (Sound (now src) dir × Sound (now src) file) ⌝ }
+    ensures { λ r. ⌜ Follows plain (now (src .entry)) (restoreFile (nameOf (now (src .entry)) dir) (nameOf (now (src .entry)) file)) (runIn (now (tree .entry)) (now (staging .entry)) run) (runIn (now (tree .exit)) (now (staging .exit)) r) ⌝ }
 {
     let o = spans::original(src, file);
     match o {
         OriginalName::Is(original) => {
-            let cleared = clear_file(src, run, dir, original);
-            steps::advance(src, cleared, Step::RenameFile(dir, file, original))
+            let cleared = clear_file(src, tree, staging, run, dir, original);
+            steps::advance(
+                src,
+                tree,
+                staging,
+                cleared,
+                Step::RenameFile(dir, file, original),
+            )
         }
         OriginalName::NotABackup => {
             if spans::is_tmp(src, file) {
-                return steps::advance(src, run, Step::RemoveFile(dir, file));
+                return steps::advance(src, tree, staging, run, Step::RemoveFile(dir, file));
             }
             run
         }
@@ -282,165 +321,204 @@ fn restore_file(src: &[u8], run: Run, dir: NameRef, file: NameRef) -> Run
 }
 
 // Restores the backups in one directory.
-fn restore_bak_files_in_dir(src: &[u8], run: Run, dir: NameRef) -> Run
-    requires { ⌜ SoundRun (now src) run × Sound (now src) dir ⌝ }
-    ensures { λ r. ⌜ Follows plain (now (src .entry)) (overFiles restoreFile (nameOf (now (src .entry)) dir)) run r ⌝ }
+fn restore_bak_files_in_dir(
+    src: &[u8],
+    tree: &mut Nodes,
+    staging: &mut Nodes,
+    run: Run,
+    dir: NameRef,
+) -> Run
+    requires { ⌜ SoundRun (now src) (runIn (now tree) (now staging) run) × Sound (now src) dir ⌝ }
+    ensures { λ r. ⌜ Follows plain (now (src .entry)) (overFiles restoreFile (nameOf (now (src .entry)) dir)) (runIn (now (tree .entry)) (now (staging .entry)) run) (runIn (now (tree .exit)) (now (staging .exit)) r) ⌝ }
 {
     let s = run.store;
-    let t = s.tree;
-    let n = t.len;
+    let mut listing = [0u32; store::ROOM];
+    let n = store::list_files(src, tree, s.tree, dir, &mut listing);
     let mut work = run;
     let mut i: usize = 0;
     while i < n {
-        let x = t.nodes[i];
-        if store::is_file_of(src, x, dir) {
-            let file = x.file;
-            work = restore_file(src, work, dir, file);
-        }
+        let file = store::name_at(&listing, i);
+        work = restore_file(src, tree, staging, work, dir, file);
         i += 1;
     }
     work
 }
 
 // A directory that is a backup takes its original's place; in any other the files are restored.
-fn restore_directory(src: &[u8], run: Run, dir: NameRef) -> Run
-    requires { ⌜ SoundRun (now src) run × Sound (now src) dir ⌝ }
-    ensures { λ r. ⌜ Follows plain (now (src .entry)) (restoreDirectory (nameOf (now (src .entry)) dir)) run r ⌝ }
+fn restore_directory(
+    src: &[u8],
+    tree: &mut Nodes,
+    staging: &mut Nodes,
+    run: Run,
+    dir: NameRef,
+) -> Run
+    requires { ⌜ SoundRun (now src) (runIn (now tree) (now staging) run) × Sound (now src) dir ⌝ }
+    ensures { λ r. ⌜ Follows plain (now (src .entry)) (restoreDirectory (nameOf (now (src .entry)) dir)) (runIn (now (tree .entry)) (now (staging .entry)) run) (runIn (now (tree .exit)) (now (staging .exit)) r) ⌝ }
 {
+    if run.stopped {
+        return run;
+    }
     let o = spans::original(src, dir);
     match o {
         OriginalName::Is(original) => {
-            let cleared = clear_dir(src, run, original);
-            steps::advance(src, cleared, Step::RenameDirectory(dir, original))
+            let cleared = clear_dir(src, tree, staging, run, original);
+            steps::advance(
+                src,
+                tree,
+                staging,
+                cleared,
+                Step::RenameDirectory(dir, original),
+            )
         }
-        OriginalName::NotABackup => restore_bak_files_in_dir(src, run, dir),
+        OriginalName::NotABackup => restore_bak_files_in_dir(src, tree, staging, run, dir),
     }
 }
 
 // Restores every backup.
-pub fn rollback_partial_commit(src: &[u8], run: Run) -> Run
-    requires { ⌜ SoundRun (now src) run ⌝ }
-    ensures { λ r. ⌜ Follows plain (now (src .entry)) restoreBackups run r ⌝ }
+pub fn rollback_partial_commit(src: &[u8], tree: &mut Nodes, staging: &mut Nodes, run: Run) -> Run
+    requires { ⌜ SoundRun (now src) (runIn (now tree) (now staging) run) ⌝ }
+    ensures { λ r. ⌜ Follows plain (now (src .entry)) restoreBackups (runIn (now (tree .entry)) (now (staging .entry)) run) (runIn (now (tree .exit)) (now (staging .exit)) r) ⌝ }
 {
+    if run.stopped {
+        return run;
+    }
     let s = run.store;
-    let t = s.tree;
-    let n = t.len;
+    let mut listing = [0u32; store::ROOM];
+    let n = store::list_dirs(src, tree, s.tree, &mut listing);
     let mut work = run;
     let mut i: usize = 0;
     while i < n {
-        let x = t.nodes[i];
-        if store::is_dir(src, x) {
-            let dir = x.dir;
-            work = restore_directory(src, work, dir);
-        }
+        let dir = store::name_at(&listing, i);
+        work = restore_directory(src, tree, staging, work, dir);
         i += 1;
     }
     work
 }
 
 // Removes a file that is a backup.
-fn delete_backup_file(src: &[u8], run: Run, dir: NameRef, file: NameRef) -> Run
-    requires { ⌜ SoundRun (now src) run × (Sound (now src) dir × Sound (now src) file) ⌝ }
-    ensures { λ r. ⌜ Follows plain (now (src .entry)) (removeBackupFile (nameOf (now (src .entry)) dir) (nameOf (now (src .entry)) file)) run r ⌝ }
+fn delete_backup_file(
+    src: &[u8],
+    tree: &mut Nodes,
+    staging: &mut Nodes,
+    run: Run,
+    dir: NameRef,
+    file: NameRef,
+) -> Run
+    requires { ⌜ SoundRun (now src) (runIn (now tree) (now staging) run) × (Sound (now src) dir × Sound (now src) file) ⌝ }
+    ensures { λ r. ⌜ Follows plain (now (src .entry)) (removeBackupFile (nameOf (now (src .entry)) dir) (nameOf (now (src .entry)) file)) (runIn (now (tree .entry)) (now (staging .entry)) run) (runIn (now (tree .exit)) (now (staging .exit)) r) ⌝ }
 {
     if spans::is_backup(src, file) {
-        return steps::advance(src, run, Step::RemoveFile(dir, file));
+        return steps::advance(src, tree, staging, run, Step::RemoveFile(dir, file));
     }
     run
 }
 
 // Removes the backups among a directory's files.
-fn delete_backup_files_in_dir(src: &[u8], run: Run, dir: NameRef) -> Run
-    requires { ⌜ SoundRun (now src) run × Sound (now src) dir ⌝ }
-    ensures { λ r. ⌜ Follows plain (now (src .entry)) (overFiles removeBackupFile (nameOf (now (src .entry)) dir)) run r ⌝ }
+fn delete_backup_files_in_dir(
+    src: &[u8],
+    tree: &mut Nodes,
+    staging: &mut Nodes,
+    run: Run,
+    dir: NameRef,
+) -> Run
+    requires { ⌜ SoundRun (now src) (runIn (now tree) (now staging) run) × Sound (now src) dir ⌝ }
+    ensures { λ r. ⌜ Follows plain (now (src .entry)) (overFiles removeBackupFile (nameOf (now (src .entry)) dir)) (runIn (now (tree .entry)) (now (staging .entry)) run) (runIn (now (tree .exit)) (now (staging .exit)) r) ⌝ }
 {
     let s = run.store;
-    let t = s.tree;
-    let n = t.len;
+    let mut listing = [0u32; store::ROOM];
+    let n = store::list_files(src, tree, s.tree, dir, &mut listing);
     let mut work = run;
     let mut i: usize = 0;
     while i < n {
-        let x = t.nodes[i];
-        if store::is_file_of(src, x, dir) {
-            let file = x.file;
-            work = delete_backup_file(src, work, dir, file);
-        }
+        let file = store::name_at(&listing, i);
+        work = delete_backup_file(src, tree, staging, work, dir, file);
         i += 1;
     }
     work
 }
 
 // Removes a directory that is a backup; in any other the backups among its files.
-fn delete_backups_in(src: &[u8], run: Run, dir: NameRef) -> Run
-    requires { ⌜ SoundRun (now src) run × Sound (now src) dir ⌝ }
-    ensures { λ r. ⌜ Follows plain (now (src .entry)) (removeBackupsIn (nameOf (now (src .entry)) dir)) run r ⌝ }
+fn delete_backups_in(
+    src: &[u8],
+    tree: &mut Nodes,
+    staging: &mut Nodes,
+    run: Run,
+    dir: NameRef,
+) -> Run
+    requires { ⌜ SoundRun (now src) (runIn (now tree) (now staging) run) × Sound (now src) dir ⌝ }
+    ensures { λ r. ⌜ Follows plain (now (src .entry)) (removeBackupsIn (nameOf (now (src .entry)) dir)) (runIn (now (tree .entry)) (now (staging .entry)) run) (runIn (now (tree .exit)) (now (staging .exit)) r) ⌝ }
 {
-    if spans::is_backup(src, dir) {
-        return steps::advance(src, run, Step::RemoveDirectory(dir));
+    if run.stopped {
+        return run;
     }
-    delete_backup_files_in_dir(src, run, dir)
+    if spans::is_backup(src, dir) {
+        return steps::advance(src, tree, staging, run, Step::RemoveDirectory(dir));
+    }
+    delete_backup_files_in_dir(src, tree, staging, run, dir)
 }
 
 // Removes every backup.
-pub fn delete_all_backup_files(src: &[u8], run: Run) -> Run
-    requires { ⌜ SoundRun (now src) run ⌝ }
-    ensures { λ r. ⌜ Follows plain (now (src .entry)) removeBackups run r ⌝ }
+pub fn delete_all_backup_files(src: &[u8], tree: &mut Nodes, staging: &mut Nodes, run: Run) -> Run
+    requires { ⌜ SoundRun (now src) (runIn (now tree) (now staging) run) ⌝ }
+    ensures { λ r. ⌜ Follows plain (now (src .entry)) removeBackups (runIn (now (tree .entry)) (now (staging .entry)) run) (runIn (now (tree .exit)) (now (staging .exit)) r) ⌝ }
 {
+    if run.stopped {
+        return run;
+    }
     let s = run.store;
-    let t = s.tree;
-    let n = t.len;
+    let mut listing = [0u32; store::ROOM];
+    let n = store::list_dirs(src, tree, s.tree, &mut listing);
     let mut work = run;
     let mut i: usize = 0;
     while i < n {
-        let x = t.nodes[i];
-        if store::is_dir(src, x) {
-            let dir = x.dir;
-            work = delete_backups_in(src, work, dir);
-        }
+        let dir = store::name_at(&listing, i);
+        work = delete_backups_in(src, tree, staging, work, dir);
         i += 1;
     }
     work
 }
 
 // Removes every staging file.
-pub fn cleanup_staging_dir(src: &[u8], run: Run) -> Run
-    requires { ⌜ SoundRun (now src) run ⌝ }
-    ensures { λ r. ⌜ Follows plain (now (src .entry)) removeStagingFiles run r ⌝ }
+pub fn cleanup_staging_dir(src: &[u8], tree: &mut Nodes, staging: &mut Nodes, run: Run) -> Run
+    requires { ⌜ SoundRun (now src) (runIn (now tree) (now staging) run) ⌝ }
+    ensures { λ r. ⌜ Follows plain (now (src .entry)) removeStagingFiles (runIn (now (tree .entry)) (now (staging .entry)) run) (runIn (now (tree .exit)) (now (staging .exit)) r) ⌝ }
 {
+    if run.stopped {
+        return run;
+    }
     let s = run.store;
-    let t = s.staging;
-    let n = t.len;
+    let mut listing = [0u32; store::ROOM];
+    let n = store::list_staging(staging, s.staging, &mut listing);
     let mut work = run;
     let mut i: usize = 0;
     while i < n {
-        let x = t.nodes[i];
-        let file = x.file;
-        work = steps::advance(src, work, Step::RemoveStaging(file));
+        let file = store::name_at(&listing, i);
+        work = steps::advance(src, tree, staging, work, Step::RemoveStaging(file));
         i += 1;
     }
     work
 }
 
 // Removes the log, where one stands.
-pub fn remove_log(src: &[u8], run: Run) -> Run
-    requires { ⌜ SoundRun (now src) run ⌝ }
-    ensures { λ r. ⌜ Follows plain (now (src .entry)) removeStandingLog run r ⌝ }
+pub fn remove_log(src: &[u8], tree: &mut Nodes, staging: &mut Nodes, run: Run) -> Run
+    requires { ⌜ SoundRun (now src) (runIn (now tree) (now staging) run) ⌝ }
+    ensures { λ r. ⌜ Follows plain (now (src .entry)) removeStandingLog (runIn (now (tree .entry)) (now (staging .entry)) run) (runIn (now (tree .exit)) (now (staging .exit)) r) ⌝ }
 {
     let s = run.store;
     let log = s.log;
     if log.stands {
-        return steps::advance(src, run, Step::RemoveLog);
+        return steps::advance(src, tree, staging, run, Step::RemoveLog);
     }
     run
 }
 
 // Undoes the operations that were read. New artifacts go first: restoring a backup could make a file look like a new one.
-pub fn undo_all(src: &[u8], run: Run, w: WalRead) -> Run
-    requires { ⌜ SoundRun (now src) run × SoundRead (now src) w ⌝ }
-    ensures { λ r. ⌜ Follows plain (now (src .entry)) (undoAll (opsRead (now (src .entry)) w)) run r ⌝ }
+pub fn undo_all(src: &[u8], tree: &mut Nodes, staging: &mut Nodes, run: Run, w: WalRead) -> Run
+    requires { ⌜ SoundRun (now src) (runIn (now tree) (now staging) run) × SoundRead (now src) w ⌝ }
+    ensures { λ r. ⌜ Follows plain (now (src .entry)) (undoAll (opsRead (now (src .entry)) w)) (runIn (now (tree .entry)) (now (staging .entry)) run) (runIn (now (tree .exit)) (now (staging .exit)) r) ⌝ }
 {
-    let undone = remove_new_artifacts(src, run, w);
-    rollback_partial_commit(src, undone)
+    let undone = remove_new_artifacts(src, tree, staging, run, w);
+    rollback_partial_commit(src, tree, staging, undone)
 }
 
 // The status of a store's log.
@@ -468,18 +546,18 @@ fn read_log(src: &[u8], log: LogRef) -> WalRead
 
 // The number that recovery from a Committing log is refused with, 0 for none. 01, Corners, recovery.rs: "Truncated Committing log and
 // any backup, or any new artifact by `has_new_artifacts`: refusal 13."
-fn refusal_of(src: &[u8], t: Table, w: WalRead) -> u32
-    requires { ⌜ SoundTable (now src) t × SoundRead (now src) w ⌝ }
-    ensures { λ r. ⌜ r ≡ refusalOf (recoverFault (committing (opsRead (now (src .entry)) w) (endingOf (w .ending))) (mapOf (now (src .entry)) t)) ⌝ }
+fn refusal_of(src: &[u8], t: &Nodes, n: usize, w: WalRead) -> u32
+    requires { ⌜ SoundTable (now src) (tableOf (now t) n) × SoundRead (now src) w ⌝ }
+    ensures { λ r. ⌜ r ≡ refusalOf (recoverFault (committing (opsRead (now (src .entry)) w) (endingOf (w .ending))) (mapOf (now (src .entry)) (tableOf (now (t .entry)) n))) ⌝ }
 {
     let ending = w.ending;
     match ending {
         Ending::Whole => 0,
         Ending::Truncated => {
-            if has_backup_files(src, t) {
+            if has_backup_files(src, t, n) {
                 return 13;
             }
-            if has_new_artifacts(src, t, w) {
+            if has_new_artifacts(src, t, n, w) {
                 return 13;
             }
             0
@@ -490,36 +568,47 @@ fn refusal_of(src: &[u8], t: Table, w: WalRead) -> u32
 }
 
 // Removes the log and the staging files.
-fn clean_up(src: &[u8], run: Run) -> Run
-    requires { ⌜ SoundRun (now src) run ⌝ }
-    ensures { λ r. ⌜ Follows plain (now (src .entry)) cleanUp run r ⌝ }
+fn clean_up(src: &[u8], tree: &mut Nodes, staging: &mut Nodes, run: Run) -> Run
+    requires { ⌜ SoundRun (now src) (runIn (now tree) (now staging) run) ⌝ }
+    ensures { λ r. ⌜ Follows plain (now (src .entry)) cleanUp (runIn (now (tree .entry)) (now (staging .entry)) run) (runIn (now (tree .exit)) (now (staging .exit)) r) ⌝ }
 {
-    let removed = steps::advance(src, run, Step::RemoveLog);
-    cleanup_staging_dir(src, removed)
+    let removed = steps::advance(src, tree, staging, run, Step::RemoveLog);
+    cleanup_staging_dir(src, tree, staging, removed)
 }
 
 // Recovery without a valid log: backups are left over from a commit that was done.
-fn recover_absent(src: &[u8], run: Run) -> Run
-    requires { ⌜ SoundRun (now src) run ⌝ }
-    ensures { λ r. ⌜ Follows plain (now (src .entry)) (inSequence (recoverParts absent)) run r ⌝ }
+fn recover_absent(src: &[u8], tree: &mut Nodes, staging: &mut Nodes, run: Run) -> Run
+    requires { ⌜ SoundRun (now src) (runIn (now tree) (now staging) run) ⌝ }
+    ensures { λ r. ⌜ Follows plain (now (src .entry)) (inSequence (recoverParts absent)) (runIn (now (tree .entry)) (now (staging .entry)) run) (runIn (now (tree .exit)) (now (staging .exit)) r) ⌝ }
 {
-    let deleted = delete_all_backup_files(src, run);
-    let removed = remove_log(src, deleted);
-    cleanup_staging_dir(src, removed)
+    let deleted = delete_all_backup_files(src, tree, staging, run);
+    let removed = remove_log(src, tree, staging, deleted);
+    cleanup_staging_dir(src, tree, staging, removed)
 }
 
 // Recovery from a Committing log. Only a whole log is undone.
-fn recover_committing(src: &[u8], run: Run, w: WalRead) -> Run
-    requires { ⌜ SoundRun (now src) run × SoundRead (now src) w ⌝ }
-    ensures { λ r. ⌜ Follows plain (now (src .entry)) (inSequence (recoverParts (committing (opsRead (now (src .entry)) w) (endingOf (w .ending))))) run r ⌝ }
+fn recover_committing(
+    src: &[u8],
+    tree: &mut Nodes,
+    staging: &mut Nodes,
+    run: Run,
+    w: WalRead,
+) -> Run
+    requires { ⌜ SoundRun (now src) (runIn (now tree) (now staging) run) × SoundRead (now src) w ⌝ }
+    ensures { λ r. ⌜ Follows plain (now (src .entry)) (inSequence (recoverParts (committing (opsRead (now (src .entry)) w) (endingOf (w .ending))))) (runIn (now (tree .entry)) (now (staging .entry)) run) (runIn (now (tree .exit)) (now (staging .exit)) r) ⌝ }
 {
     let ending = w.ending;
     match ending {
         Ending::Whole => {
-            let undone = undo_all(src, run, w);
-            clean_up(src, undone)
+            let undone = undo_all(src, tree, staging, run, w);
+            clean_up(src, tree, staging, undone)
         }
-        Ending::Truncated | Ending::Undecodable | Ending::TooMany => clean_up(src, run),
+        Ending::Truncated | Ending::Undecodable | Ending::TooMany => clean_up(
+            src,
+            tree,
+            staging,
+            run,
+        ),
     }
 }
 
@@ -539,9 +628,16 @@ pub struct Recovered {
 }
 
 // Startup recovery: all its steps, or where `limited` the first n.
-pub fn recover(src: &[u8], s: Store, limited: bool, n: u64) -> Recovered
-    requires { ⌜ Fits (now src) s × ((s .log .marked ≡ false) × (length (now src) ≤ 0xFFFF)) ⌝ }
-    ensures { λ r. ⌜ Recovers (now (src .entry)) s limited n r ⌝ }
+pub fn recover(
+    src: &[u8],
+    tree: &mut Nodes,
+    staging: &mut Nodes,
+    s: Store,
+    limited: bool,
+    n: u64,
+) -> Recovered
+    requires { ⌜ Fits (now src) (storeIn (now tree) (now staging) s) × ((s .log .marked ≡ false) × (length (now src) ≤ 0xFFFF)) ⌝ }
+    ensures { λ r. ⌜ Recovers (now (src .entry)) (storeIn (now (tree .entry)) (now (staging .entry)) s) limited n (now (tree .exit)) (now (staging .exit)) r ⌝ }
 {
     let run = steps::start(without_mark(s), limited, n);
     let log = s.log;
@@ -549,15 +645,15 @@ pub fn recover(src: &[u8], s: Store, limited: bool, n: u64) -> Recovered
     match status {
         Status::Absent => Recovered {
             number: 0,
-            run: recover_absent(src, run),
+            run: recover_absent(src, tree, staging, run),
         },
         Status::Recording => Recovered {
             number: 0,
-            run: clean_up(src, run),
+            run: clean_up(src, tree, staging, run),
         },
         Status::Committing => {
             let w = read_log(src, log);
-            let number = refusal_of(src, s.tree, w);
+            let number = refusal_of(src, tree, s.tree, w);
             if number != 0 {
                 return Recovered {
                     number: number,
@@ -566,7 +662,7 @@ pub fn recover(src: &[u8], s: Store, limited: bool, n: u64) -> Recovered
             }
             Recovered {
                 number: 0,
-                run: recover_committing(src, run, w),
+                run: recover_committing(src, tree, staging, run, w),
             }
         }
     }

@@ -6,11 +6,12 @@ use Prim.Native.Nat.{ℕ, zero, suc, _+_, _*_, _-_, _%_, _≤_, _<_}
 use native.Mathlib.Omega.{arith}
 use lib.ListN.{length, take, drop, getD, length-append, length-drop, List·getD-append}
 use lib.Dec.{ltb}
-use lib.Seq.{length-take-le, take-take, take-append-le, getD-take, getD-drop, getD-append-add}
+use lib.Seq.{length-take-le, take-take, take-append-le, getD-take, getD-drop, getD-append-add, drop-drop}
 use borrow.Author.Tests.{ltb-true, ltb-false}
 use Rattle.model.specs.Order.{Name}
 use Rattle.model.specs.Base.{Bytes}
 use Rattle.model.specs.Name.{backupName, backupExtension}
+use Rattle.laws.specs.ListLaws.{drop-take}
 use Rattle.spans.specs.Spans.{backups, nameOf, lengthOf, Sound}
 use Rattle.spans.specs.declared.NameRef.{NameRef}
 
@@ -76,7 +77,13 @@ module _ {src : Bytes} {r : NameRef} (s : Sound src r) where
       let l : n ≡ length (take (r .len) (drop (r .start) src)) = e ∙ sym span in
       rw l (sym (last-bytes (r .baks) (take (r .len) (drop (r .start) src)) i (omega arith) (omega arith)))
 
-  -- The name's first bytes are the span's.
-  pub front : (p i : ℕ) → p ≡ r .start → i ≤ r .len → take i (nameOf src r) ≡ take i (drop p src)
+  front : (i : ℕ) → i ≤ r .len → take i (nameOf src r) ≡ take i (drop (r .start) src)
   unfolding nameOf
-  front p i e h = rw e (take-backups (r .baks) (take (r .len) (drop (r .start) src)) i (omega (arith, span)) ∙ take-take i (r .len) (drop (r .start) src) h)
+  front i h = take-backups (r .baks) (take (r .len) (drop (r .start) src)) i (omega (arith, span)) ∙ take-take i (r .len) (drop (r .start) src) h
+
+  -- A part of the name that lies in the span.
+  pub part-in-span : (p i k : ℕ) → p ≡ r .start → i + k ≤ r .len → take k (drop i (nameOf src r)) ≡ take k (drop (p + i) src)
+  part-in-span p i k e h =
+      let z : i + k - i ≡ k = omega arith in
+      let cut : (l : Bytes) → drop i (take (i + k) l) ≡ take k (drop i l) = λ l. rw z at (drop-take i (i + k) l) in
+      rw (e, ← (drop-drop i (r .start) src)) (sym (cut (nameOf src r)) ∙ ap (drop i) (front (i + k) h) ∙ cut (drop (r .start) src))

@@ -1,5 +1,6 @@
 -- What a `NameRef` stands for: a part of the lent bytes with ".bak" behind it some times.
 use mathlib.Core.Path.{_≡_}
+use mathlib.Core.List.{[], _∷_}
 use Prim.Native.Nat.{ℕ, zero, suc, _+_, _*_, _≤_, _<_}
 use mathlib.Core.Option.{none, some}
 use mathlib.Core.Bool.{Bool, true, false}
@@ -46,6 +47,14 @@ abbrev pub orderOf : Order → Cmp
 orderOf Less = lt
 orderOf Equal = eq
 orderOf Greater = gt
+
+-- The number of some bytes, the most significant first, where n is the number of those before them.
+unfoldable pub onto : ℕ → Bytes → ℕ
+onto n [] = n
+onto n (b ∷ r) = onto (256 * n + b) r
+
+unfoldable pub fromBigEndian : Bytes → ℕ
+fromBigEndian s = onto 0 s
 
 -- 01, Sixteen numbers, 14: "backup name over 64 bytes".
 abbrev pub Backup : Bytes → NameRef → BackupName → Type 0

@@ -6,9 +6,8 @@ ghost use Rattle.model.specs.Limits.{nameLimit};
 ghost use Rattle.model.specs.Order.{cmpName};
 ghost use Rattle.model.specs.Base.{sameBytes};
 ghost use Rattle.model.specs.Name.{isBackup, isTmp};
-ghost use Rattle.model.specs.Field.{fromLittleEndian};
 ghost use Rattle.laws.specs.NameLaws.{endsIn};
-ghost use Rattle.spans.specs.Spans.{nameOf, lengthOf, orderOf, Sound, Decides, Names, Backup, Original};
+ghost use Rattle.spans.specs.Spans.{nameOf, lengthOf, orderOf, fromBigEndian, Sound, Decides, Names, Backup, Original};
 
 // A name that stands in the lent bytes, with ".bak" behind it some times: `nameOf` (specs/Spans.antt).
 pub struct NameRef {
@@ -117,37 +116,22 @@ pub fn byte_at(src: &[u8], r: NameRef, i: usize) -> u8
     }
 }
 
-// The number of the four bytes at `at`, and of the eight.
+// The number of the four bytes at `at`, and of the eight, the most significant first: the order of the numbers is that of the bytes.
 fn four_at(src: &[u8], at: usize) -> u32
     requires { ⌜ at + 4 ≤ length (now src) ⌝ }
-    ensures { λ r. ⌜ r ≡ fromLittleEndian (take 4 (drop at (now (src .entry)))) ⌝ }
+    ensures { λ r. ⌜ r ≡ fromBigEndian (take 4 (drop at (now (src .entry)))) ⌝ }
 {
-    field::le32(src[at], src[at + 1], src[at + 2], src[at + 3])
+    field::le32(src[at + 3], src[at + 2], src[at + 1], src[at])
 }
 
 fn eight_at(src: &[u8], at: usize) -> u64
     requires { ⌜ at + 8 ≤ length (now src) ⌝ }
-    ensures { λ r. ⌜ r ≡ fromLittleEndian (take 8 (drop at (now (src .entry)))) ⌝ }
+    ensures { λ r. ⌜ r ≡ fromBigEndian (take 8 (drop at (now (src .entry)))) ⌝ }
 {
-    four_at(src, at) as u64 + 0x1_0000_0000 * (four_at(src, at + 4) as u64)
+    four_at(src, at + 4) as u64 + 0x1_0000_0000 * (four_at(src, at) as u64)
 }
 
-// How many of `m` bytes from `p` and from `q` on are the same, by eights.
-fn common_eights(src: &[u8], p: usize, q: usize, m: usize) -> usize
-    requires { ⌜ (p + m ≤ length (now src)) × (q + m ≤ length (now src)) ⌝ }
-    ensures { λ r. ⌜ (r ≤ m) × (take r (drop p (now (src .entry))) ≡ take r (drop q (now (src .entry)))) ⌝ }
-{
-    let mut i: usize = 0;
-    while 8 <= m - i {
-        if eight_at(src, p + i) != eight_at(src, q + i) {
-            return i;
-        }
-        i += 8;
-    }
-    i
-}
-
-// 01, Listings and file steps: "in ascending byte order, a shorter name before a longer one that begins with it". First the bytes that both have in their spans, by eights and one by one, then those behind.
+// 01, Listings and file steps: "in ascending byte order, a shorter name before a longer one that begins with it". First the bytes that both have in their spans, by eights, by four and one by one, then those behind.
 pub fn compare(src: &[u8], a: NameRef, b: NameRef) -> Order
     requires { ⌜ Sound (now src) a × Sound (now src) b ⌝ }
     ensures { λ r. ⌜ orderOf r ≡ cmpName (nameOf (now (src .entry)) a) (nameOf (now (src .entry)) b) ⌝ }
@@ -155,7 +139,41 @@ pub fn compare(src: &[u8], a: NameRef, b: NameRef) -> Order
     let p = wider(a.start);
     let q = wider(b.start);
     let m = fewer(wide(a.len), wide(b.len));
-    let mut i: usize = common_eights(src, p, q, m);
+    let mut i: usize = 0;
+    while i + 8 <= m {
+        let x = eight_at(src, p + i);
+        let y = eight_at(src, q + i);
+        if x != y {
+            if x < y {
+                return Order::Less;
+            }
+            return Order::Greater;
+        }
+        i += 8;
+    }
+    compare_spans(src, a, b, i)
+}
+
+// The order of two names whose bytes before `at` are equal, where both spans have these.
+fn compare_spans(src: &[u8], a: NameRef, b: NameRef, at: usize) -> Order
+    requires { ⌜ (Sound (now src) a × Sound (now src) b) × ((at ≤ a .len) × (at ≤ b .len)) ⌝ }
+    ensures { λ r. ⌜ orderOf r ≡ cmpName (drop at (nameOf (now (src .entry)) a)) (drop at (nameOf (now (src .entry)) b)) ⌝ }
+{
+    let p = wider(a.start);
+    let q = wider(b.start);
+    let m = fewer(wide(a.len), wide(b.len));
+    let mut i = at;
+    if i + 4 <= m {
+        let x = four_at(src, p + i);
+        let y = four_at(src, q + i);
+        if x != y {
+            if x < y {
+                return Order::Less;
+            }
+            return Order::Greater;
+        }
+        i += 4;
+    }
     while i < m {
         let x = src[p + i];
         let y = src[q + i];

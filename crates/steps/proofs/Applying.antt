@@ -17,9 +17,9 @@ use Rattle.model.specs.Step.{withTree, removeDir, renameDir, apply}
 use Rattle.spans.specs.Spans.{nameOf, Names}
 use Rattle.spans.specs.declared.NameRef.{NameRef}
 use Rattle.store.specs.Tables.{mapOf, Holds}
-use Rattle.store.specs.Stores.{logBytes, storeOf, SoundStore, SoundLog}
-use Rattle.store.specs.declared.Table.{Table}
+use Rattle.store.specs.Stores.{LentStore, logBytes, storeOf, SoundStore, SoundLog}
 use Rattle.store.specs.declared.LogRef.{LogRef}
+use Rattle.store.specs.declared.Node.{Node}
 use Rattle.store.specs.declared.Store.{Store}
 use Rattle.steps.specs.declared.Step.{Step}
 use Rattle.steps.specs.declared.Step.the-variants as code
@@ -30,7 +30,7 @@ use Rattle.steps.proofs.Room.{Named, kept}
 use Rattle.steps.proofs.Arms.{not-here}
 
 -- What `apply` requires.
-abbrev pub Ready : Bytes → Step → Store → Type 0
+abbrev pub Ready : Bytes → Step → LentStore → Type 0
 Ready src x s = (Fits src s × SoundStep src x) × Allowed (stepOf src x) (storeOf src s)
 
 -- The files that a step makes have names.
@@ -52,7 +52,7 @@ named (code.RemoveDirectory d) s = tt
 named (code.RemoveStaging f) s = tt
 named (code.SyncDirectory d) s = tt
 
-module _ {src : Bytes} {x : Step} {s r : Store} (p : Ready src x s) where
+module _ {src : Bytes} {x : Step} {s r : LentStore} (p : Ready src x s) where
   applied : SoundStore src r → storeOf src r ≡ apply (stepOf src x) (storeOf src s) → Applied src x s r
   applied t e = record {
     fits = record {
@@ -63,27 +63,32 @@ module _ {src : Bytes} {x : Step} {s r : Store} (p : Ready src x s) where
   }
 
   -- In the arm of y, where the code made the store u.
-  module _ {y : Step} (e : x ≡ y) {u : Store} (f : r ≡ u) where
+  module _ {y : Step} (e : x ≡ y) {u : LentStore} (f : r ≡ u) where
     in-arm : SoundStore src u → storeOf src u ≡ apply (stepOf src y) (storeOf src s) → Applied src x s r
     in-arm t q = applied (subst (SoundStore src) (sym f) t) (ap (storeOf src) f ∙ q ∙ ap (λ (z : Step). apply (stepOf src z) (storeOf src s)) (sym e))
 
+-- The store w with these places of its tables: `storeIn`, so that its arguments are read off.
+abbrev pub placed : List Node → List Node → Store → LentStore
+placed tree staging w = record { tree = record { nodes = tree; len = w .tree }; staging = record { nodes = staging; len = w .staging }; log = w .log; open_mark = w .open_mark }
+
 -- The tree, the staging files or the log changed.
-module _ {src : Bytes} {x y : Step} {s r : Store} (p : Ready src x s) (e : x ≡ y) where
-  tree-arm : {t : Table} (m : Map) → apply (stepOf src y) (storeOf src s) ≡ withTree m (storeOf src s) → Holds src t m → r ≡ record { tree = t; staging = s .staging; log = s .log; open_mark = s .open_mark } → Applied src x s r
-  tree-arm m q h f =
-      in-arm p e f (record { tree = h .sound; staging = p .0 .0 .sound .staging; log = p .0 .0 .sound .log })
+module _ {src : Bytes} {x y : Step} {s : LentStore} {w : Store} (p : Ready src x s) (e : x ≡ y) where
+  tree-arm : {ns : List Node} {n : ℕ} (m : Map) → apply (stepOf src y) (storeOf src s) ≡ withTree m (storeOf src s) → Holds src (record { nodes = ns; len = n }) m
+      → w ≡ record { tree = n; staging = s .staging .len; log = s .log; open_mark = s .open_mark } → Applied src x s (placed ns (s .staging .nodes) w)
+  tree-arm {ns} m q h f =
+      in-arm p e (ap (placed ns (s .staging .nodes)) f) (record { tree = h .sound; staging = p .0 .0 .sound .staging; log = p .0 .0 .sound .log })
       ((λ i. record { tree = h .same i; staging = mapOf src (s .staging); log = logBytes src (s .log); openMark = s .open_mark }) ∙ sym q)
 
-  staging-arm : {t : Table} (m : Map) → apply (stepOf src y) (storeOf src s) ≡ record { tree = mapOf src (s .tree); staging = m; log = logBytes src (s .log); openMark = s .open_mark } → Holds src t m
-      → r ≡ record { tree = s .tree; staging = t; log = s .log; open_mark = s .open_mark } → Applied src x s r
-  staging-arm m q h f =
-      in-arm p e f (record { tree = p .0 .0 .sound .tree; staging = h .sound; log = p .0 .0 .sound .log })
+  staging-arm : {ns : List Node} {n : ℕ} (m : Map) → apply (stepOf src y) (storeOf src s) ≡ record { tree = mapOf src (s .tree); staging = m; log = logBytes src (s .log); openMark = s .open_mark } → Holds src (record { nodes = ns; len = n }) m
+      → w ≡ record { tree = s .tree .len; staging = n; log = s .log; open_mark = s .open_mark } → Applied src x s (placed (s .tree .nodes) ns w)
+  staging-arm {ns} m q h f =
+      in-arm p e (ap (placed (s .tree .nodes) ns) f) (record { tree = p .0 .0 .sound .tree; staging = h .sound; log = p .0 .0 .sound .log })
       ((λ i. record { tree = mapOf src (s .tree); staging = h .same i; log = logBytes src (s .log); openMark = s .open_mark }) ∙ sym q)
 
   log-arm : {l : LogRef} (o : Option Bytes) → apply (stepOf src y) (storeOf src s) ≡ record { tree = mapOf src (s .tree); staging = mapOf src (s .staging); log = o; openMark = s .open_mark } → SoundLog src l → logBytes src l ≡ o
-      → r ≡ record { tree = s .tree; staging = s .staging; log = l; open_mark = s .open_mark } → Applied src x s r
+      → w ≡ record { tree = s .tree .len; staging = s .staging .len; log = l; open_mark = s .open_mark } → Applied src x s (placed (s .tree .nodes) (s .staging .nodes) w)
   log-arm o q t h f =
-      in-arm p e f (record { tree = p .0 .0 .sound .tree; staging = p .0 .0 .sound .staging; log = t })
+      in-arm p e (ap (placed (s .tree .nodes) (s .staging .nodes)) f) (record { tree = p .0 .0 .sound .tree; staging = p .0 .0 .sound .staging; log = t })
       ((λ i. record { tree = mapOf src (s .tree); staging = mapOf src (s .staging); log = h i; openMark = s .open_mark }) ∙ sym q)
 
 -- The header rewritten once more is the same.
@@ -100,59 +105,61 @@ marked-log src l = go (l .stands) (l .marked)
     go true true = refl
 
 -- The steps, one by one.
-module _ {src : Bytes} {x : Step} {s r : Store} (p : Ready src x s) where
-  module _ {l : LogRef} (f : r ≡ record { tree = s .tree; staging = s .staging; log = l; open_mark = s .open_mark }) where
-    pub marks : x ≡ code.RewriteHeader → l ≡ record { start = s .log .start; len = s .log .len; stands = s .log .stands; marked = true } → Applied src x s r
+module _ {src : Bytes} {x : Step} {s : LentStore} {w : Store} (p : Ready src x s) where
+  module _ {l : LogRef} (f : w ≡ record { tree = s .tree .len; staging = s .staging .len; log = l; open_mark = s .open_mark }) where
+    pub marks : x ≡ code.RewriteHeader → l ≡ record { start = s .log .start; len = s .log .len; stands = s .log .stands; marked = true } → Applied src x s (placed (s .tree .nodes) (s .staging .nodes) w)
     unfolding apply stepOf
     marks e q =
         log-arm p e (step.marked (logBytes src (s .log))) refl (subst (SoundLog src) (sym q) (record { inside = p .0 .0 .sound .log .inside }))
         (ap (logBytes src) q ∙ marked-log src (s .log)) f
 
-    pub unlogs : x ≡ code.RemoveLog → l ≡ record { start = s .log .start; len = s .log .len; stands = false; marked = s .log .marked } → Applied src x s r
+    pub unlogs : x ≡ code.RemoveLog → l ≡ record { start = s .log .start; len = s .log .len; stands = false; marked = s .log .marked } → Applied src x s (placed (s .tree .nodes) (s .staging .nodes) w)
     unfolding apply stepOf logBytes
     unlogs e q = log-arm p e none refl (subst (SoundLog src) (sym q) (record { inside = p .0 .0 .sound .log .inside })) (ap (logBytes src) q) f
 
-  module _ {t : Table} (f : r ≡ record { tree = t; staging = s .staging; log = s .log; open_mark = s .open_mark }) where
-    pub makes : {d z : NameRef} → x ≡ code.MakeDirectory d → Names src z [] → Holds src t (put (nameOf src d, nameOf src z) 0 (mapOf src (s .tree))) → Applied src x s r
+  module _ {ns : List Node} {n : ℕ} (f : w ≡ record { tree = n; staging = s .staging .len; log = s .log; open_mark = s .open_mark }) where
+    pub makes : {d z : NameRef} → x ≡ code.MakeDirectory d → Names src z [] → Holds src (record { nodes = ns; len = n }) (put (nameOf src d, nameOf src z) 0 (mapOf src (s .tree))) → Applied src x s (placed ns (s .staging .nodes) w)
     unfolding apply stepOf
     makes e z h = tree-arm p e _ refl (rw (z .same) at h) f
 
     pub renames : {d a b : NameRef} → x ≡ code.RenameFile d a b
-        → Holds src t (caseOption (look (nameOf src d, nameOf src a) (mapOf src (s .tree))) (mapOf src (s .tree)) (λ v. put (nameOf src d, nameOf src b) v (del (nameOf src d, nameOf src a) (mapOf src (s .tree))))) → Applied src x s r
+        → Holds src (record { nodes = ns; len = n }) (caseOption (look (nameOf src d, nameOf src a) (mapOf src (s .tree))) (mapOf src (s .tree)) (λ v. put (nameOf src d, nameOf src b) v (del (nameOf src d, nameOf src a) (mapOf src (s .tree)))))
+        → Applied src x s (placed ns (s .staging .nodes) w)
     unfolding apply stepOf
     renames e h = tree-arm p e _ refl h f
 
-    pub renames-dir : {a b : NameRef} → x ≡ code.RenameDirectory a b → Holds src t (renameDir (nameOf src a) (nameOf src b) (mapOf src (s .tree)) (mapOf src (s .tree))) → Applied src x s r
+    pub renames-dir : {a b : NameRef} → x ≡ code.RenameDirectory a b → Holds src (record { nodes = ns; len = n }) (renameDir (nameOf src a) (nameOf src b) (mapOf src (s .tree)) (mapOf src (s .tree))) → Applied src x s (placed ns (s .staging .nodes) w)
     unfolding apply stepOf
     renames-dir e h = tree-arm p e _ refl h f
 
-    pub copies : {a b g : NameRef} → x ≡ code.CopyFile a b g
-        → Holds src t (caseOption (look (nameOf src a, nameOf src g) (mapOf src (s .tree))) (mapOf src (s .tree)) (λ v. put (nameOf src b, nameOf src g) v (mapOf src (s .tree)))) → Applied src x s r
+    pub copies : {a b g : NameRef} {o : Option ℕ} → x ≡ code.CopyFile a b g → o ≡ look (nameOf src a, nameOf src g) (mapOf src (s .tree))
+        → Holds src (record { nodes = ns; len = n }) (caseOption o (mapOf src (s .tree)) (λ v. put (nameOf src b, nameOf src g) v (mapOf src (s .tree)))) → Applied src x s (placed ns (s .staging .nodes) w)
     unfolding apply stepOf
-    copies e h = tree-arm p e _ refl h f
+    copies e l h = tree-arm p e _ refl (rw l at h) f
 
-    pub removes : {d g : NameRef} → x ≡ code.RemoveFile d g → Holds src t (del (nameOf src d, nameOf src g) (mapOf src (s .tree))) → Applied src x s r
+    pub removes : {d g : NameRef} → x ≡ code.RemoveFile d g → Holds src (record { nodes = ns; len = n }) (del (nameOf src d, nameOf src g) (mapOf src (s .tree))) → Applied src x s (placed ns (s .staging .nodes) w)
     unfolding apply stepOf
     removes e h = tree-arm p e _ refl h f
 
-    pub removes-dir : {d : NameRef} → x ≡ code.RemoveDirectory d → Holds src t (removeDir (nameOf src d) (mapOf src (s .tree))) → Applied src x s r
+    pub removes-dir : {d : NameRef} → x ≡ code.RemoveDirectory d → Holds src (record { nodes = ns; len = n }) (removeDir (nameOf src d) (mapOf src (s .tree))) → Applied src x s (placed ns (s .staging .nodes) w)
     unfolding apply stepOf
     removes-dir e h = tree-arm p e _ refl h f
 
-  pub unstages : {t : Table} {g z : NameRef} → r ≡ record { tree = s .tree; staging = t; log = s .log; open_mark = s .open_mark } → x ≡ code.RemoveStaging g → Names src z [] → Holds src t (del (nameOf src z, nameOf src g) (mapOf src (s .staging))) → Applied src x s r
+  pub unstages : {ns : List Node} {n : ℕ} {g z : NameRef} → w ≡ record { tree = s .tree .len; staging = n; log = s .log; open_mark = s .open_mark } → x ≡ code.RemoveStaging g → Names src z []
+      → Holds src (record { nodes = ns; len = n }) (del (nameOf src z, nameOf src g) (mapOf src (s .staging))) → Applied src x s (placed (s .tree .nodes) ns w)
   unfolding apply stepOf
   unstages f e z h = staging-arm p e _ refl (rw (z .same) at h) f
 
   -- A staging file moved: first the tree, then the staging files.
-  pub moves : {t u : Table} {q : Store} {g d k z w : NameRef} → q ≡ record { tree = t; staging = s .staging; log = s .log; open_mark = s .open_mark } → r ≡ record { tree = q .tree; staging = u; log = q .log; open_mark = q .open_mark }
-      → x ≡ code.MoveStaged g d k → Names src z [] → Names src w []
-      → Holds src t (caseOption (look (nameOf src z, nameOf src g) (mapOf src (s .staging))) (mapOf src (s .tree)) (λ v. put (nameOf src d, nameOf src k) v (mapOf src (s .tree))))
-      → Holds src u (del (nameOf src w, nameOf src g) (mapOf src (s .staging))) → Applied src x s r
+  pub moves : {ns ms : List Node} {n m : ℕ} {v : Store} {g d k z y : NameRef} {o : Option ℕ} → v ≡ record { tree = n; staging = s .staging .len; log = s .log; open_mark = s .open_mark }
+      → w ≡ record { tree = v .tree; staging = m; log = v .log; open_mark = v .open_mark } → x ≡ code.MoveStaged g d k → Names src z [] → Names src y [] → o ≡ look (nameOf src z, nameOf src g) (mapOf src (s .staging))
+      → Holds src (record { nodes = ns; len = n }) (caseOption o (mapOf src (s .tree)) (λ v. put (nameOf src d, nameOf src k) v (mapOf src (s .tree))))
+      → Holds src (record { nodes = ms; len = m }) (del (nameOf src y, nameOf src g) (mapOf src (s .staging))) → Applied src x s (placed ns ms w)
   unfolding apply stepOf
-  moves {t} {u} {q} f₁ f₂ e z w h k =
-      in-arm p e (f₂ ∙ ap (λ (v : Store). record { tree = v .tree; staging = u; log = v .log; open_mark = v .open_mark }) f₁)
+  moves {ns} {ms} {m = m} f₁ f₂ e z y l h k =
+      in-arm p e (ap (placed ns ms) (f₂ ∙ ap (λ (v : Store). record { tree = v .tree; staging = m; log = v .log; open_mark = v .open_mark }) f₁))
       (record { tree = h .sound; staging = k .sound; log = p .0 .0 .sound .log })
-      (λ i. record { tree = (rw (z .same) at (h .same)) i; staging = (rw (w .same) at (k .same)) i; log = logBytes src (s .log); openMark = s .open_mark })
+      (λ i. record { tree = (rw (l, z .same) at (h .same)) i; staging = (rw (y .same) at (k .same)) i; log = logBytes src (s .log); openMark = s .open_mark })
 
 -- The others: "Syncs change nothing here."
 abbrev syncs : List ℕ
@@ -176,5 +183,5 @@ sync-idle src u (code.RemoveDirectory d) h = not-here syncs 12 refl h
 sync-idle src u (code.RemoveStaging f) h = not-here syncs 13 refl h
 sync-idle src u (code.SyncDirectory d) h = refl
 
-pub idles : {src : Bytes} {s : Store} (x : Step) → Ready src x s → OneOf (1 ∷ 2 ∷ 4 ∷ 5 ∷ 14 ∷ []) (tagOf the-type x) → Applied src x s s
+pub idles : {src : Bytes} {s : LentStore} (x : Step) → Ready src x s → OneOf (1 ∷ 2 ∷ 4 ∷ 5 ∷ 14 ∷ []) (tagOf the-type x) → Applied src x s s
 idles {src} {s} x p h = applied p (p .0 .0 .sound) (sync-idle src (storeOf src s) x h)

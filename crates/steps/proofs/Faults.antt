@@ -1,7 +1,7 @@
 -- Each arm of `fault`: 01, Sixteen numbers, 14 and 15.
 use mathlib.Core.Path.{_≡_, refl, sym, ap, _∙_}
 use mathlib.Core.List.{List, [], _∷_}
-use mathlib.Core.Option.{none, some}
+use mathlib.Core.Option.{Option, none, some}
 use mathlib.Core.Bool.{Bool, true, false}
 use Prim.Native.Nat.{ℕ, _≤_, _<_}
 use native.Mathlib.Omega.{arith}
@@ -20,14 +20,15 @@ use Rattle.model.specs.Answers.{commitNumber}
 use Rattle.spans.specs.Spans.{nameOf, Sound, Names}
 use Rattle.spans.specs.declared.NameRef.{NameRef}
 use Rattle.spans.proofs.Parts.{length-name}
-use Rattle.store.specs.Tables.{Counted}
+use Rattle.store.specs.Tables.{mapOf, Counted}
+use Rattle.store.specs.Stores.{LentStore, storeOf, SoundStore}
 use Rattle.store.specs.declared.Counts.{Counts}
 use Rattle.plans.specs.ModelPlans.{fault}
 use Rattle.steps.specs.declared.Step.{Step}
 use Rattle.steps.specs.declared.Step.the-variants as code
 use Rattle.steps.specs.Steps.{stepOf, SoundStep}
 use Rattle.steps.proofs.Step.{the-type}
-use Rattle.steps.proofs.Arms.{not-here}
+use Rattle.steps.proofs.Arms.{names-of, not-here}
 
 -- A name that the code holds is not too long.
 fitting : {src : Bytes} {r : NameRef} → Sound src r → nameTooLong (nameOf src r) ≡ none
@@ -37,53 +38,58 @@ fitting {src} {r} s = let l = length-name s in let k = s .room in rw (le-ltb nam
 abbrev sure : List ℕ
 sure = 0 ∷ 1 ∷ 2 ∷ 3 ∷ 4 ∷ 5 ∷ 7 ∷ 11 ∷ 12 ∷ 13 ∷ 14 ∷ []
 
-module _ (src : Bytes) (u : model.Store) where
+module _ {src : Bytes} {s : LentStore} {x : Step} (p : SoundStore src s × SoundStep src x) where
   -- The number for a step in its arm.
-  by-arm : {x y : Step} {n : ℕ} → x ≡ y → n ≡ fault (stepOf src y) u → n ≡ fault (stepOf src x) u
-  by-arm e h = h ∙ ap (λ (z : Step). fault (stepOf src z) u) (sym e)
+  by-arm : {y : Step} {n : ℕ} → x ≡ y → n ≡ fault (stepOf src y) (storeOf src s) → n ≡ fault (stepOf src x) (storeOf src s)
+  by-arm e h = h ∙ ap (λ (z : Step). fault (stepOf src z) (storeOf src s)) (sym e)
 
-  module _ {x : Step} {c : Counts} {d : NameRef} (e : x ≡ code.MakeDirectory d) (k : Counted (u .tree) c) where
-    pub few-dirs : c .dirs < dirLimit → 0 ≡ fault (stepOf src x) u
+  module _ {c : Counts} {d : NameRef} (e : x ≡ code.MakeDirectory d) (k : Counted (mapOf src (s .tree)) c) where
+    pub few-dirs : c .dirs < dirLimit → 0 ≡ fault (stepOf src x) (storeOf src s)
     unfolding stepOf stepFault
-    few-dirs l = let f = k .dirs in by-arm e (rw (lt-ltb (length (dirs (u .tree))) dirLimit (omega arith)))
+    few-dirs l = let f = k .dirs in by-arm e (rw (lt-ltb (length (dirs (mapOf src (s .tree)))) dirLimit (omega arith)))
 
-    pub many-dirs : dirLimit ≤ c .dirs → 15 ≡ fault (stepOf src x) u
+    pub many-dirs : dirLimit ≤ c .dirs → 15 ≡ fault (stepOf src x) (storeOf src s)
     unfolding stepOf stepFault
-    many-dirs l = let f = k .dirs in by-arm e (rw (le-ltb (length (dirs (u .tree))) dirLimit (omega arith)))
+    many-dirs l = let f = k .dirs in by-arm e (rw (le-ltb (length (dirs (mapOf src (s .tree)))) dirLimit (omega arith)))
 
-  pub target : {x : Step} {a b : NameRef} {q : Bool} → x ≡ code.RenameDirectory a b → Sound src b → q ≡ ifEmpty (files (nameOf src b) (u .tree)) true false → (if q then 0 else 14) ≡ fault (stepOf src x) u
+  pub target : {a b : NameRef} {q : Bool} → x ≡ code.RenameDirectory a b → q ≡ ifEmpty (files (nameOf src b) (mapOf src (s .tree))) true false → (if q then 0 else 14) ≡ fault (stepOf src x) (storeOf src s)
   unfolding stepOf stepFault
-  target {b = b} e s h = by-arm e (rw (h, fitting s) (go (files (nameOf src b) (u .tree))))
+  target {b = b} e h = by-arm e (rw (h, fitting (names-of (p .1) e .1)) (go (files (nameOf src b) (mapOf src (s .tree)))))
     where
       go : (l : List Name) → (if ifEmpty l true false then 0 else 14) ≡ commitNumber (ifEmpty l none (some fails))
       go [] = refl
       go (f ∷ l) = refl
 
-  pub copies : {x : Step} {a b f : NameRef} {n : ℕ} → x ≡ code.CopyFile a b f
-      → n ≡ commitNumber (caseOption (look (nameOf src a, nameOf src f) (u .tree)) (some fails) (λ y. newFile (nameOf src b, nameOf src f) (u .tree))) → n ≡ fault (stepOf src x) u
-  unfolding stepOf stepFault
-  copies e h = by-arm e h
+  -- Where the look found o.
+  module _ {o : Option ℕ} {n : ℕ} where
+    pub copies : {a b f : NameRef} → x ≡ code.CopyFile a b f → o ≡ look (nameOf src a, nameOf src f) (mapOf src (s .tree))
+        → n ≡ commitNumber (caseOption o (some fails) (λ y. newFile (nameOf src b, nameOf src f) (mapOf src (s .tree)))) → n ≡ fault (stepOf src x) (storeOf src s)
+    unfolding stepOf stepFault
+    copies e l q = by-arm e (rw l at q)
 
-  pub moves : {x : Step} {f d k z : NameRef} {n : ℕ} → x ≡ code.MoveStaged f d k → Names src z []
-      → n ≡ commitNumber (caseOption (look (nameOf src z, nameOf src f) (u .staging)) (some fails) (λ y. newFile (nameOf src d, nameOf src k) (u .tree))) → n ≡ fault (stepOf src x) u
-  unfolding stepOf stepFault
-  moves e z h = by-arm e (rw (z .same) at h)
+    pub moves : {f d k z : NameRef} → x ≡ code.MoveStaged f d k → Names src z [] → o ≡ look (nameOf src z, nameOf src f) (mapOf src (s .staging))
+        → n ≡ commitNumber (caseOption o (some fails) (λ y. newFile (nameOf src d, nameOf src k) (mapOf src (s .tree)))) → n ≡ fault (stepOf src x) (storeOf src s)
+    unfolding stepOf stepFault
+    moves e z l q = by-arm e (rw (l, z .same) at q)
 
-  -- The other steps do not fail.
-  pub never : (x : Step) → SoundStep src x → OneOf (0 ∷ 1 ∷ 2 ∷ 3 ∷ 4 ∷ 5 ∷ 7 ∷ 11 ∷ 12 ∷ 13 ∷ 14 ∷ []) (tagOf the-type x) → 0 ≡ fault (stepOf src x) u
-  unfolding stepOf stepFault
-  never code.RewriteHeader s h = refl
-  never code.SyncStaging s h = refl
-  never code.SyncLog s h = refl
-  never code.RemoveLog s h = refl
-  never code.SyncJournal s h = refl
-  never code.SyncCollections s h = refl
-  never (code.MakeDirectory d) s h = not-here sure 6 refl h
-  never (code.RenameFile d a b) s h = rw (fitting (s .names .1 .1 .sound))
-  never (code.MoveStaged f d k) s h = not-here sure 8 refl h
-  never (code.RenameDirectory a b) s h = not-here sure 9 refl h
-  never (code.CopyFile a b f) s h = not-here sure 10 refl h
-  never (code.RemoveFile d f) s h = refl
-  never (code.RemoveDirectory d) s h = refl
-  never (code.RemoveStaging f) s h = refl
-  never (code.SyncDirectory d) s h = refl
+-- The other steps do not fail.
+cannot : (src : Bytes) (u : model.Store) (x : Step) → SoundStep src x → OneOf sure (tagOf the-type x) → 0 ≡ fault (stepOf src x) u
+unfolding stepOf stepFault
+cannot src u code.RewriteHeader s h = refl
+cannot src u code.SyncStaging s h = refl
+cannot src u code.SyncLog s h = refl
+cannot src u code.RemoveLog s h = refl
+cannot src u code.SyncJournal s h = refl
+cannot src u code.SyncCollections s h = refl
+cannot src u (code.MakeDirectory d) s h = not-here sure 6 refl h
+cannot src u (code.RenameFile d a b) s h = rw (fitting (s .names .1 .1 .sound))
+cannot src u (code.MoveStaged f d k) s h = not-here sure 8 refl h
+cannot src u (code.RenameDirectory a b) s h = not-here sure 9 refl h
+cannot src u (code.CopyFile a b f) s h = not-here sure 10 refl h
+cannot src u (code.RemoveFile d f) s h = refl
+cannot src u (code.RemoveDirectory d) s h = refl
+cannot src u (code.RemoveStaging f) s h = refl
+cannot src u (code.SyncDirectory d) s h = refl
+
+pub never : {src : Bytes} {s : LentStore} (x : Step) → SoundStore src s × SoundStep src x → OneOf (0 ∷ 1 ∷ 2 ∷ 3 ∷ 4 ∷ 5 ∷ 7 ∷ 11 ∷ 12 ∷ 13 ∷ 14 ∷ []) (tagOf the-type x) → 0 ≡ fault (stepOf src x) (storeOf src s)
+never {src} {s} x p h = cannot src (storeOf src s) x (p .1) h

@@ -12,15 +12,14 @@ use Rattle.model.specs.Base.{Bytes, caseOption}
 use Rattle.model.specs.Store.{fileCount}
 use Rattle.model.specs.Step.{newFile, Fault}
 use Rattle.model.specs.Answers.{commitNumber}
+use Rattle.laws.specs.MapLaws.{Sorted, del-absent}
+use Rattle.laws.specs.TreeLaws.{one, length-size, size-del-le}
 use Rattle.store.specs.Places.{tableRoom, putIn}
-use Rattle.store.specs.Tables.{mapOf, SoundTable, Holds, heldOf, Counted}
-use Rattle.store.specs.declared.Table.{Table}
+use Rattle.store.specs.Tables.{Table, mapOf, SoundTable, Holds, heldOf, Counted}
 use Rattle.store.specs.declared.Counts.{Counts}
 use Rattle.store.specs.declared.Held.{Held}
 use Rattle.store.specs.declared.Held.the-variants.{Nothing, Number}
 use Rattle.store.proofs.Room.{room-put}
-use Rattle.store.proofs.Live.{length-table}
-use Rattle.steps.proofs.Room.{del-room}
 
 -- A table that holds a map holds an equal one.
 pub holds-as : {src : Bytes} {t : Table} {m n : Map} → Holds src t m → m ≡ n → Holds src t n
@@ -29,9 +28,7 @@ holds-as h e = record { sound = h .sound; same = h .same ∙ e }
 pub put-as : {src : Bytes} {r : Table} (k : Key) (v : ℕ) (m : Map) → length m < tableRoom → Holds src r (putIn k v m) → Holds src r (put k v m)
 put-as k v m l h = holds-as h (room-put k v m l)
 
-pub put-on : {src : Bytes} {r u : Table} {m : Map} (k : Key) (v : ℕ) → Holds src u m → Holds src r (put k v (mapOf src u)) → Holds src r (put k v m)
-put-on k v q h = holds-as h (ap (put k v) (q .same))
-
+-- What a look found.
 module _ {h : Held} {o : Option ℕ} (e : heldOf h ≡ o) where
   pub nothing : h ≡ Nothing → o ≡ none
   nothing p = sym e ∙ ap heldOf p
@@ -39,28 +36,38 @@ module _ {h : Held} {o : Option ℕ} (e : heldOf h ≡ o) where
   pub number : {n : ℕ} → h ≡ Number n → o ≡ some n
   number p = sym e ∙ ap heldOf p
 
+module _ {h : Held} where
   -- The table stays as it is, or becomes what the number makes of it.
-  pub unchanged : {src : Bytes} {t : Table} (f : ℕ → Map) → SoundTable src t → h ≡ Nothing → Holds src t (caseOption o (mapOf src t) f)
-  unchanged f s p = rw (nothing p) record { sound = s; same = refl }
+  pub unchanged : {src : Bytes} {t : Table} (f : ℕ → Map) → SoundTable src t → h ≡ Nothing → Holds src t (caseOption (heldOf h) (mapOf src t) f)
+  unchanged f s p = rw p record { sound = s; same = refl }
 
-  pub changed : {src : Bytes} {r : Table} {n : ℕ} (m : Map) (f : ℕ → Map) → h ≡ Number n → Holds src r (f n) → Holds src r (caseOption o m f)
-  changed m f p q = rw (number p) q
+  pub changed : {src : Bytes} {r : Table} {n : ℕ} (m : Map) (f : ℕ → Map) → h ≡ Number n → Holds src r (f n) → Holds src r (caseOption (heldOf h) m f)
+  changed m f p q = rw p q
 
   -- The fault is the one for nothing, or the one that follows.
-  pub no-source : (f g : Option Fault) → h ≡ Nothing → commitNumber f ≡ commitNumber (caseOption o f (λ x. g))
-  no-source f g p = rw (nothing p)
+  pub no-source : (f g : Option Fault) → h ≡ Nothing → commitNumber f ≡ commitNumber (caseOption (heldOf h) f (λ x. g))
+  no-source f g p = rw p
 
-  pub source : {n r : ℕ} (f g : Option Fault) → h ≡ Number n → r ≡ commitNumber g → r ≡ commitNumber (caseOption o f (λ x. g))
-  source f g p q = rw (number p) q
+  pub source : {n r : ℕ} (f g : Option Fault) → h ≡ Number n → r ≡ commitNumber g → r ≡ commitNumber (caseOption (heldOf h) f (λ x. g))
+  source f g p q = rw p q
 
--- A table that lost a node has room.
-pub after-del : {src : Bytes} {t u : Table} (k : Key) {n : ℕ} → SoundTable src t → Holds src u (del k (mapOf src t)) → look k (mapOf src t) ≡ some n → length (mapOf src u) < tableRoom
-after-del {src} {t} {u} k {n} s h e =
-    let l = length-table src (s .sized) in
-    let r = s .sized .room in
-    let d = del-room k (mapOf src t) (n, e) (omega arith) in
-    let z : length (mapOf src u) ≡ length (del k (mapOf src t)) = ap length (h .same) in
-    omega arith
+-- A file renamed: it is taken out, then what was found is put at the other place.
+module _ {src : Bytes} {u : Table} (k : Key) (m : Map) (d : Holds src u (del k m)) where
+  pub after-del : length m < tableRoom → length (mapOf src u) < tableRoom
+  after-del l =
+      let z = ap length (d .same) in
+      let a = length-size m in
+      let b = length-size (del k m) in
+      let c = size-del-le one k m in
+      omega arith
+
+  pub put-back : {r : Table} {o : Option ℕ} (j : Key) → Sorted m → o ≡ look k m → Holds src r (caseOption o (mapOf src u) (λ x. put j x (mapOf src u)))
+      → Holds src r (caseOption (look k m) m (λ x. put j x (del k m)))
+  put-back j s e q = holds-as (rw (e, d .same) at q) (go (look k m) refl)
+    where
+      go : (o : Option ℕ) → look k m ≡ o → caseOption o (del k m) (λ x. put j x (del k m)) ≡ caseOption o m (λ x. put j x (del k m))
+      go none n = del-absent k m s n
+      go (some x) n = refl
 
 -- Whether there is room for a file more.
 pub no-new-file : (k : Key) (m : Map) {n : ℕ} → look k m ≡ some n → 0 ≡ commitNumber (newFile k m)

@@ -8,15 +8,15 @@ use lib.ListN.{length}
 use lib.Dec.{ltb}
 use borrow.Author.Tests.{ltb-true}
 use Rattle.model.specs.Limits.{dirLimit, fileLimit}
-use Rattle.model.specs.Order.{Name, Key}
-use Rattle.model.specs.Map.{Map, look, put, del, Has}
+use Rattle.model.specs.Order.{Name}
+use Rattle.model.specs.Map.{Map, look, put, del}
 use Rattle.model.specs.Base.{if_then_else_, caseOption}
 use Rattle.model.specs.Store as model
 use Rattle.model.specs.Store.{dirs, fileCount, stagingKey}
 use Rattle.model.specs.Step as step
 use Rattle.model.specs.Step.{Step, apply, stepFault, newFile, fails, full}
 use Rattle.laws.specs.MapLaws.{Sorted}
-use Rattle.laws.specs.TreeLaws.{size, isFile, isDir, one, file-size, dir-size, length-size, size-put-le, size-put-has, size-del-le, size-del-has}
+use Rattle.laws.specs.TreeLaws.{size, isFile, isDir, file-size, dir-size, size-put-le, size-put-has, size-del-le, size-del-has}
 use Rattle.laws.specs.StoreLaws.{Good, size-drop-le, size-rename-le}
 use Rattle.laws.specs.StepLaws.{not-full, file-weight}
 use Rattle.store.specs.Places.{tableRoom}
@@ -32,14 +32,6 @@ of-good {s} g = record {
 
 pub room : {t : Map} → Within t → length t < tableRoom
 room {t} w = let b = dirs-files t in let d = w .dirs in let f = w .files in omega arith
-
--- A removal makes room.
-pub del-room : (k : Key) (m : Map) → Has k m → length m ≤ tableRoom → length (del k m) < tableRoom
-del-room k m h l =
-    let d = size-del-has one k m h in
-    let a = length-size m in
-    let b = length-size (del k m) in
-    omega arith
 
 -- By the weights of directories and of files.
 by-size : {t : Map} → Within t → (u : Map) → size isDir u ≤ size isDir t → size isFile u ≤ size isFile t → Within u

@@ -6,26 +6,19 @@ use mathlib.Core.Logic.{_⊎_, ⊎-elim}
 use Prim.Native.Nat.{ℕ, _-_}
 use native.Mathlib.Omega.{arith}
 use Rattle.model.specs.Base.{Bytes}
-use Rattle.model.specs.Step as step
 use Rattle.model.specs.Step.{apply, Fault, fails, full, stepFault}
 use Rattle.model.specs.Answers.{commitNumber}
-use Rattle.store.specs.Stores.{storeOf}
-use Rattle.store.specs.declared.Store.{Store}
+use Rattle.store.specs.Stores.{LentStore, storeOf}
 use Rattle.plans.specs.Machine.{single}
-use Rattle.plans.specs.Runs.{Run}
 use Rattle.plans.specs.MachineLaws as laws
 use Rattle.plans.specs.RunLaws.{plain-lawful, careful-lawful, over-stopped, over-refused, not-over, halts, steps, refuses, passes}
 use Rattle.plans.specs.ModelPlans.{plain, careful, fault}
-use Rattle.steps.specs.declared.Run as code
 use Rattle.steps.specs.declared.Step.{Step}
 use Rattle.steps.specs.Steps.{stepOf, SoundStep, Allowed, Applied}
-use Rattle.steps.specs.CodeRuns.{runOf, SoundRun, Follows, Refuses}
+use Rattle.steps.specs.CodeRuns.{LentRun, runOf, SoundRun, Follows, Refuses}
 use Rattle.steps.proofs.Room.{allowed}
 
-abbrev Code : Type 0
-Code = code.Run
-
-module _ {src : Bytes} {run : Code} {x : Step} (s : SoundRun src run) (q : SoundStep src x) where
+module _ {src : Bytes} {run : LentRun} {x : Step} (s : SoundRun src run) (q : SoundStep src x) where
   -- The plain machine: stopped; due with none left; done.
   pub stopped : run .stopped ≡ true → Follows plain src (single (stepOf src x)) run run
   stopped h = record { sound = s; does = laws.stays (plain-lawful apply) h }
@@ -35,7 +28,7 @@ module _ {src : Bytes} {run : Code} {x : Step} (s : SoundRun src run) (q : Sound
         → Follows plain src (single (stepOf src x)) run (record { store = run .store; limited = run .limited; left = run .left; stopped = true; refusal = run .refusal; last = run .last })
     halted l z = record { sound = record { fits = s .fits; last = s .last }; does = laws.step (plain-lawful apply) (stepOf src x) (halts apply (stepOf src x) (runOf src run) h l z) }
 
-    pub done : {next : Store} {n : ℕ} → Applied src x (run .store) next → n ≡ run .left - 1 → ((run .limited ≡ true) × (run .left ≡ 0 → ⊥)) ⊎ (run .limited ≡ false)
+    pub done : {next : LentStore} {n : ℕ} → Applied src x (run .store) next → n ≡ run .left - 1 → ((run .limited ≡ true) × (run .left ≡ 0 → ⊥)) ⊎ (run .limited ≡ false)
         → Follows plain src (single (stepOf src x)) run (record { store = next; limited = run .limited; left = n; stopped = false; refusal = run .refusal; last = x })
     done a e l = record {
       sound = record { fits = a .fits; last = q };
@@ -68,14 +61,14 @@ module _ {src : Bytes} {run : Code} {x : Step} (s : SoundRun src run) (q : Sound
         go (some fails) w = absurd (omega arith)
         go (some full) w = absurd (omega arith)
 
-    pub goes : {r : Code} → n ≡ 0 → Follows plain src (single (stepOf src x)) run r → Follows careful src (single (stepOf src x)) run r
+    pub goes : {r : LentRun} → n ≡ 0 → Follows plain src (single (stepOf src x)) run r → Follows careful src (single (stepOf src x)) run r
     goes k f = record {
       sound = f .sound;
       does = laws.step (careful-lawful apply fault) (stepOf src x) (f .does .ran ∙ passes apply fault (stepOf src x) (runOf src run) (not-over (runOf src run) h z) (sym e ∙ k));
     }
 
 -- `refuse`: over before, or refused with 14.
-module _ {src : Bytes} {run : Code} where
+module _ {src : Bytes} {run : LentRun} where
   pub refused-before : (run .stopped ≡ true) ⊎ (run .refusal ≡ 0 → ⊥) → Refuses src run run
   refused-before h = record { sound = λ s. s; does = λ x e. laws.stays (careful-lawful apply fault) (⊎-elim (over-stopped (runOf src run)) (over-refused (runOf src run)) h) }
 

@@ -13,8 +13,7 @@ use Rattle.model.specs.Step.{stepFault, apply}
 use Rattle.spans.specs.Spans.{nameOf, lengthOf, Sound}
 use Rattle.spans.specs.declared.NameRef.{NameRef}
 use Rattle.store.specs.Tables.{mapOf}
-use Rattle.store.specs.Stores.{storeOf, SoundStore}
-use Rattle.store.specs.declared.Store.{Store}
+use Rattle.store.specs.Stores.{LentStore, storeOf, SoundStore}
 use Rattle.steps.specs.declared.Step.{Step}
 use Rattle.steps.specs.declared.Step.the-variants as code
 
@@ -67,7 +66,7 @@ pub record Within (t : Map) : Type 0 where
   pub files : fileCount t ≤ fileLimit
 
 -- What every store that steps are done on meets: so there is room for one node more.
-pub record Fits (src : Bytes) (s : Store) : Type 0 where
+pub record Fits (src : Bytes) (s : LentStore) : Type 0 where
   pub sound : SoundStore src s
   pub within : Within (mapOf src (s .tree))
 
@@ -90,6 +89,6 @@ Allowed (step.removeStaging f) s = Unit {0}
 Allowed (step.syncDirectory d) s = Unit {0}
 
 -- What `apply` answers.
-pub record Applied (src : Bytes) (x : Step) (s r : Store) : Type 0 where
+pub record Applied (src : Bytes) (x : Step) (s r : LentStore) : Type 0 where
   pub fits : Fits src r
   pub same : storeOf src r ≡ apply (stepOf src x) (storeOf src s)

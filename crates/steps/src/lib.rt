@@ -1,4 +1,4 @@
-// The file steps on a store by value, and runs of them with a budget: 01, Listings and file steps.
+// The file steps on a store, and runs of them with a budget: 01, Listings and file steps.
 ghost use mathlib.Core.Path.{_≡_};
 ghost use mathlib.Core.Option.{some};
 ghost use mathlib.Core.Bool.{true, false};
@@ -13,18 +13,19 @@ ghost use Rattle.model.specs.Answers.{commitNumber};
 ghost use Rattle.field.specs.Writing.{written, Writes, field};
 ghost use Rattle.spans.specs.Spans.{nameOf, lengthOf, Sound};
 ghost use Rattle.store.specs.Places.{tableRoom};
-ghost use Rattle.store.specs.Tables.{keyOf, mapOf, SoundTable, Holds};
-ghost use Rattle.store.specs.Stores.{storeOf, SoundStore};
+ghost use Rattle.store.specs.Words.{Words};
+ghost use Rattle.store.specs.Tables.{keyOf, tableOf, mapOf, SoundTable, Holds, heldOf};
+ghost use Rattle.store.specs.Stores.{storeIn, storeOf, SoundStore};
 ghost use Rattle.plans.specs.Machine.{single};
 ghost use Rattle.plans.specs.ModelPlans.{plain, careful, fault};
 ghost use Rattle.steps.specs.Steps.{stepOf, SoundStep, Fits, Allowed, Applied};
-ghost use Rattle.steps.specs.CodeRuns.{SoundRun, Fresh, Follows, Refuses};
+ghost use Rattle.steps.specs.CodeRuns.{runIn, SoundRun, Fresh, Follows, Refuses};
 use spans::NameRef;
 use store::Held;
 use store::LogRef;
 use store::Node;
+use store::Nodes;
 use store::Store;
-use store::Table;
 
 // 01, How a store is handed over: "At most 16 directories, 128 files".
 const DIR_LIMIT: usize = 16;
@@ -66,14 +67,15 @@ pub struct Run {
     pub last: Step,
 }
 
-// The tree with a file or a directory, in place of one at the same place.
-fn put_in(src: &[u8], t: Table, dir: NameRef, file: NameRef, number: u32) -> Table
-    requires { ⌜ (SoundTable (now src) t × (Sound (now src) dir × Sound (now src) file)) × (length (mapOf (now src) t) < tableRoom) ⌝ }
-    ensures { λ r. ⌜ Holds (now (src .entry)) r (put (keyOf (now (src .entry)) dir file) number (mapOf (now (src .entry)) t)) ⌝ }
+// A file or a directory put into the tree, in place of one at the same place.
+fn put_in(src: &[u8], t: &mut Nodes, n: usize, dir: NameRef, file: NameRef, number: u32) -> usize
+    requires { ⌜ (SoundTable (now src) (tableOf (now t) n) × (Sound (now src) dir × Sound (now src) file)) × (length (mapOf (now src) (tableOf (now t) n)) < tableRoom) ⌝ }
+    ensures { λ r. ⌜ Holds (now (src .entry)) (tableOf (now (t .exit)) r) (put (keyOf (now (src .entry)) dir file) number (mapOf (now (src .entry)) (tableOf (now (t .entry)) n))) ⌝ }
 {
     store::put(
         src,
         t,
+        n,
         Node {
             dir: dir,
             file: file,
@@ -82,55 +84,48 @@ fn put_in(src: &[u8], t: Table, dir: NameRef, file: NameRef, number: u32) -> Tab
     )
 }
 
-// The tree with a file renamed, its target replaced.
-fn rename_file(src: &[u8], t: Table, dir: NameRef, from: NameRef, to: NameRef) -> Table
-    requires { ⌜ (SoundTable (now src) t × Sound (now src) dir) × (Sound (now src) from × Sound (now src) to) ⌝ }
-    ensures { λ r. ⌜ Holds (now (src .entry)) r (caseOption (look (keyOf (now (src .entry)) dir from) (mapOf (now (src .entry)) t)) (mapOf (now (src .entry)) t) (λ x. put (keyOf (now (src .entry)) dir to) x (del (keyOf (now (src .entry)) dir from) (mapOf (now (src .entry)) t)))) ⌝ }
+// What was found put into the tree at a place, if it was.
+fn put_held(src: &[u8], t: &mut Nodes, n: usize, h: Held, dir: NameRef, file: NameRef) -> usize
+    requires { ⌜ (SoundTable (now src) (tableOf (now t) n) × (Sound (now src) dir × Sound (now src) file)) × (length (mapOf (now src) (tableOf (now t) n)) < tableRoom) ⌝ }
+    ensures { λ r. ⌜ Holds (now (src .entry)) (tableOf (now (t .exit)) r) (caseOption (heldOf h) (mapOf (now (src .entry)) (tableOf (now (t .entry)) n)) (λ x. put (keyOf (now (src .entry)) dir file) x (mapOf (now (src .entry)) (tableOf (now (t .entry)) n)))) ⌝ }
 {
-    let h = store::look(src, t, dir, from);
     match h {
-        Held::Nothing => t,
-        Held::Number(n) => {
-            let u = store::del(src, t, dir, from);
-            put_in(src, u, dir, to, n)
-        }
+        Held::Nothing => n,
+        Held::Number(v) => put_in(src, t, n, dir, file, v),
     }
 }
 
-// The tree with a number that another table holds put at a place, if it holds one.
-fn put_held(
+// A file renamed, its target replaced.
+fn rename_file(
     src: &[u8],
-    t: Table,
-    from: Table,
-    a: NameRef,
-    f: NameRef,
+    t: &mut Nodes,
+    n: usize,
     dir: NameRef,
-    file: NameRef,
-) -> Table
-    requires { ⌜ ((SoundTable (now src) t × SoundTable (now src) from) × (length (mapOf (now src) t) < tableRoom)) × ((Sound (now src) a × Sound (now src) f) × (Sound (now src) dir × Sound (now src) file)) ⌝ }
-    ensures { λ r. ⌜ Holds (now (src .entry)) r (caseOption (look (keyOf (now (src .entry)) a f) (mapOf (now (src .entry)) from)) (mapOf (now (src .entry)) t) (λ x. put (keyOf (now (src .entry)) dir file) x (mapOf (now (src .entry)) t))) ⌝ }
+    from: NameRef,
+    to: NameRef,
+) -> usize
+    requires { ⌜ ((SoundTable (now src) (tableOf (now t) n) × Sound (now src) dir) × (Sound (now src) from × Sound (now src) to)) × (length (mapOf (now src) (tableOf (now t) n)) < tableRoom) ⌝ }
+    ensures { λ r. ⌜ Holds (now (src .entry)) (tableOf (now (t .exit)) r) (caseOption (look (keyOf (now (src .entry)) dir from) (mapOf (now (src .entry)) (tableOf (now (t .entry)) n))) (mapOf (now (src .entry)) (tableOf (now (t .entry)) n)) (λ x. put (keyOf (now (src .entry)) dir to) x (del (keyOf (now (src .entry)) dir from) (mapOf (now (src .entry)) (tableOf (now (t .entry)) n))))) ⌝ }
 {
-    let h = store::look(src, from, a, f);
-    match h {
-        Held::Nothing => t,
-        Held::Number(n) => put_in(src, t, dir, file, n),
-    }
+    let h = store::look(src, t, n, dir, from);
+    let m = store::del(src, t, n, dir, from);
+    put_held(src, t, m, h, dir, to)
 }
 
 // A store with another tree, with other staging files, with another log.
-fn with_tree(s: Store, t: Table) -> Store
-    ensures { λ r. ⌜ r ≡ record { tree = t; staging = s .staging; log = s .log; open_mark = s .open_mark } ⌝ }
+fn with_tree(s: Store, n: usize) -> Store
+    ensures { λ r. ⌜ r ≡ record { tree = n; staging = s .staging; log = s .log; open_mark = s .open_mark } ⌝ }
 {
     let mut r = s;
-    r.tree = t;
+    r.tree = n;
     r
 }
 
-fn with_staging(s: Store, t: Table) -> Store
-    ensures { λ r. ⌜ r ≡ record { tree = s .tree; staging = t; log = s .log; open_mark = s .open_mark } ⌝ }
+fn with_staging(s: Store, n: usize) -> Store
+    ensures { λ r. ⌜ r ≡ record { tree = s .tree; staging = n; log = s .log; open_mark = s .open_mark } ⌝ }
 {
     let mut r = s;
-    r.staging = t;
+    r.staging = n;
     r
 }
 
@@ -160,82 +155,85 @@ fn removed(l: LogRef) -> LogRef
 }
 
 // What a step makes of a store.
-pub fn apply(src: &[u8], s: Store, x: Step) -> Store
-    requires { ⌜ (Fits (now src) s × SoundStep (now src) x) × Allowed (stepOf (now src) x) (storeOf (now src) s) ⌝ }
-    ensures { λ r. ⌜ Applied (now (src .entry)) x s r ⌝ }
+pub fn apply(src: &[u8], tree: &mut Nodes, staging: &mut Nodes, s: Store, x: Step) -> Store
+    requires { ⌜ (Fits (now src) (storeIn (now tree) (now staging) s) × SoundStep (now src) x) × Allowed (stepOf (now src) x) (storeOf (now src) (storeIn (now tree) (now staging) s)) ⌝ }
+    ensures { λ r. ⌜ Applied (now (src .entry)) x (storeIn (now (tree .entry)) (now (staging .entry)) s) (storeIn (now (tree .exit)) (now (staging .exit)) r) ⌝ }
 {
     match x {
         Step::RewriteHeader => with_log(s, marked(s.log)),
         Step::RemoveLog => with_log(s, removed(s.log)),
-        Step::MakeDirectory(d) => with_tree(s, put_in(src, s.tree, d, spans::empty(), 0)),
-        Step::RenameFile(d, a, b) => with_tree(s, rename_file(src, s.tree, d, a, b)),
+        Step::MakeDirectory(d) => { with_tree(s, put_in(src, tree, s.tree, d, spans::empty(), 0)) }
+        Step::RenameFile(d, a, b) => with_tree(s, rename_file(src, tree, s.tree, d, a, b)),
         Step::MoveStaged(f, d, k) => {
-            let r = with_tree(s, put_held(src, s.tree, s.staging, spans::empty(), f, d, k));
-            with_staging(r, store::del(src, s.staging, spans::empty(), f))
+            let h = store::look(src, staging, s.staging, spans::empty(), f);
+            let r = with_tree(s, put_held(src, tree, s.tree, h, d, k));
+            with_staging(r, store::del(src, staging, s.staging, spans::empty(), f))
         }
-        Step::RenameDirectory(a, b) => with_tree(s, store::rename_dir(src, s.tree, a, b)),
-        Step::CopyFile(a, b, f) => with_tree(s, put_held(src, s.tree, s.tree, a, f, b, f)),
-        Step::RemoveFile(d, f) => with_tree(s, store::del(src, s.tree, d, f)),
-        Step::RemoveDirectory(d) => with_tree(s, store::remove_dir(src, s.tree, d)),
-        Step::RemoveStaging(f) => with_staging(s, store::del(src, s.staging, spans::empty(), f)),
+        Step::RenameDirectory(a, b) => with_tree(s, store::rename_dir(src, tree, s.tree, a, b)),
+        Step::CopyFile(a, b, f) => {
+            let h = store::look(src, tree, s.tree, a, f);
+            with_tree(s, put_held(src, tree, s.tree, h, b, f))
+        }
+        Step::RemoveFile(d, f) => with_tree(s, store::del(src, tree, s.tree, d, f)),
+        Step::RemoveDirectory(d) => with_tree(s, store::remove_dir(src, tree, s.tree, d)),
+        Step::RemoveStaging(f) => {
+            with_staging(s, store::del(src, staging, s.staging, spans::empty(), f))
+        }
         _ => s,
     }
 }
 
 // 15 where a file at a place would be one too many, else 0.
-fn new_file(src: &[u8], t: Table, dir: NameRef, file: NameRef) -> u32
-    requires { ⌜ SoundTable (now src) t × (Sound (now src) dir × Sound (now src) file) ⌝ }
-    ensures { λ r. ⌜ r ≡ commitNumber (newFile (keyOf (now (src .entry)) dir file) (mapOf (now (src .entry)) t)) ⌝ }
+fn new_file(src: &[u8], t: &Nodes, n: usize, dir: NameRef, file: NameRef) -> u32
+    requires { ⌜ SoundTable (now src) (tableOf (now t) n) × (Sound (now src) dir × Sound (now src) file) ⌝ }
+    ensures { λ r. ⌜ r ≡ commitNumber (newFile (keyOf (now (src .entry)) dir file) (mapOf (now (src .entry)) (tableOf (now (t .entry)) n))) ⌝ }
 {
-    let h = store::look(src, t, dir, file);
+    let h = store::look(src, t, n, dir, file);
     match h {
         Held::Number(_) => 0,
         Held::Nothing => {
-            let n = store::count(src, t);
-            if n.files < FILE_LIMIT { 0 } else { FULL }
+            let c = store::count(src, t, n);
+            if c.files < FILE_LIMIT { 0 } else { FULL }
         }
     }
 }
 
-// 14 where a table holds nothing at a place, else whether there is room for a file at another.
-fn from_held(
-    src: &[u8],
-    t: Table,
-    from: Table,
-    a: NameRef,
-    f: NameRef,
-    dir: NameRef,
-    file: NameRef,
-) -> u32
-    requires { ⌜ (SoundTable (now src) t × SoundTable (now src) from) × ((Sound (now src) a × Sound (now src) f) × (Sound (now src) dir × Sound (now src) file)) ⌝ }
-    ensures { λ r. ⌜ r ≡ commitNumber (caseOption (look (keyOf (now (src .entry)) a f) (mapOf (now (src .entry)) from)) (some fails) (λ x. newFile (keyOf (now (src .entry)) dir file) (mapOf (now (src .entry)) t))) ⌝ }
+// 14 where nothing was found, else whether there is room for a file at a place.
+fn from_held(src: &[u8], t: &Nodes, n: usize, h: Held, dir: NameRef, file: NameRef) -> u32
+    requires { ⌜ SoundTable (now src) (tableOf (now t) n) × (Sound (now src) dir × Sound (now src) file) ⌝ }
+    ensures { λ r. ⌜ r ≡ commitNumber (caseOption (heldOf h) (some fails) (λ x. newFile (keyOf (now (src .entry)) dir file) (mapOf (now (src .entry)) (tableOf (now (t .entry)) n)))) ⌝ }
 {
-    let h = store::look(src, from, a, f);
     match h {
         Held::Nothing => FAILS,
-        Held::Number(_) => new_file(src, t, dir, file),
+        Held::Number(_) => new_file(src, t, n, dir, file),
     }
 }
 
 // The number that a step fails with, 0 for none: 01, Sixteen numbers, 14 and 15.
-pub fn fault(src: &[u8], s: Store, x: Step) -> u32
-    requires { ⌜ SoundStore (now src) s × SoundStep (now src) x ⌝ }
-    ensures { λ r. ⌜ r ≡ fault (stepOf (now (src .entry)) x) (storeOf (now (src .entry)) s) ⌝ }
+pub fn fault(src: &[u8], tree: &Nodes, staging: &Nodes, s: Store, x: Step) -> u32
+    requires { ⌜ SoundStore (now src) (storeIn (now tree) (now staging) s) × SoundStep (now src) x ⌝ }
+    ensures { λ r. ⌜ r ≡ fault (stepOf (now (src .entry)) x) (storeOf (now (src .entry)) (storeIn (now (tree .entry)) (now (staging .entry)) s)) ⌝ }
 {
     match x {
         Step::MakeDirectory(_) => {
-            let n = store::count(src, s.tree);
+            let n = store::count(src, tree, s.tree);
             if n.dirs < DIR_LIMIT { 0 } else { FULL }
         }
-        Step::MoveStaged(f, d, k) => from_held(src, s.tree, s.staging, spans::empty(), f, d, k),
+        Step::MoveStaged(f, d, k) => {
+            let h = store::look(src, staging, s.staging, spans::empty(), f);
+            from_held(src, tree, s.tree, h, d, k)
+        }
         Step::RenameDirectory(_, b) => {
-            if store::is_dir_empty(src, s.tree, b) {
+            if store::is_dir_empty(src, tree, s.tree, b) {
                 0
             } else {
                 FAILS
             }
         }
-        Step::CopyFile(a, b, f) => from_held(src, s.tree, s.tree, a, f, b, f),
+        Step::CopyFile(a, b, f) => {
+            let h = store::look(src, tree, s.tree, a, f);
+            from_held(src, tree, s.tree, h, b, f)
+        }
         _ => 0,
     }
 }
@@ -249,7 +247,7 @@ fn one_less(n: u64) -> u64
 
 // A run of which no step is done yet.
 pub fn start(store: Store, limited: bool, left: u64) -> Run
-    ensures { λ r. ⌜ Fresh store limited left r ⌝ }
+    ensures { λ r. ⌜ ((tree staging : Words) → Fresh (storeIn tree staging store) limited left (runIn tree staging r)) ⌝ }
 {
     Run {
         store: store,
@@ -262,12 +260,11 @@ pub fn start(store: Store, limited: bool, left: u64) -> Run
 }
 
 // One step of a run that cannot fail: none where the run has stopped, and with no step left it stops.
-pub fn advance(src: &[u8], run: Run, x: Step) -> Run
-    requires { ⌜ (SoundRun (now src) run × SoundStep (now src) x) × Allowed (stepOf (now src) x) (storeOf (now src) (run .store)) ⌝ }
-    ensures { λ r. ⌜ Follows plain (now (src .entry)) (single (stepOf (now (src .entry)) x)) run r ⌝ }
+pub fn advance(src: &[u8], tree: &mut Nodes, staging: &mut Nodes, run: Run, x: Step) -> Run
+    requires { ⌜ (SoundRun (now src) (runIn (now tree) (now staging) run) × SoundStep (now src) x) × Allowed (stepOf (now src) x) (storeOf (now src) (storeIn (now tree) (now staging) (run .store))) ⌝ }
+    ensures { λ r. ⌜ Follows plain (now (src .entry)) (single (stepOf (now (src .entry)) x)) (runIn (now (tree .entry)) (now (staging .entry)) run) (runIn (now (tree .exit)) (now (staging .exit)) r) ⌝ }
 {
-    let stopped = run.stopped;
-    if stopped {
+    if run.stopped {
         return run;
     }
     let limited = run.limited;
@@ -279,7 +276,7 @@ pub fn advance(src: &[u8], run: Run, x: Step) -> Run
             return r;
         }
     }
-    let next = apply(src, run.store, x);
+    let next = apply(src, tree, staging, run.store, x);
     Run {
         store: next,
         limited: limited,
@@ -291,30 +288,28 @@ pub fn advance(src: &[u8], run: Run, x: Step) -> Run
 }
 
 // One step of a run that may fail: none where the run is over. A failing step is not counted, changes nothing, and its number is kept.
-pub fn attempt(src: &[u8], run: Run, x: Step) -> Run
-    requires { ⌜ SoundRun (now src) run × SoundStep (now src) x ⌝ }
-    ensures { λ r. ⌜ Follows careful (now (src .entry)) (single (stepOf (now (src .entry)) x)) run r ⌝ }
+pub fn attempt(src: &[u8], tree: &mut Nodes, staging: &mut Nodes, run: Run, x: Step) -> Run
+    requires { ⌜ SoundRun (now src) (runIn (now tree) (now staging) run) × SoundStep (now src) x ⌝ }
+    ensures { λ r. ⌜ Follows careful (now (src .entry)) (single (stepOf (now (src .entry)) x)) (runIn (now (tree .entry)) (now (staging .entry)) run) (runIn (now (tree .exit)) (now (staging .exit)) r) ⌝ }
 {
-    let stopped = run.stopped;
-    if stopped {
+    if run.stopped {
         return run;
     }
-    let refusal = run.refusal;
-    if refusal != 0 {
+    if run.refusal != 0 {
         return run;
     }
-    let n = fault(src, run.store, x);
+    let n = fault(src, tree, staging, run.store, x);
     if n != 0 {
         let mut r = run;
         r.refusal = n;
         return r;
     }
-    advance(src, run, x)
+    advance(src, tree, staging, run, x)
 }
 
 // A step that fails with 14 and is not made: its backup name is too long, or the collection to copy is missing.
 pub fn refuse(run: Run) -> Run
-    ensures { λ r. ⌜ ((src : Bytes) → Refuses src run r) ⌝ }
+    ensures { λ r. ⌜ ((src : Bytes) (tree staging : Words) → Refuses src (runIn tree staging run) (runIn tree staging r)) ⌝ }
 {
     let stopped = run.stopped;
     if stopped {

@@ -13,69 +13,69 @@ use Rattle.model.specs.Base.{Bytes}
 use Rattle.laws.specs.MapLaws.{Sorted, sorted-put, sorted-del}
 use Rattle.laws.specs.Tests.{All, all-append, all-take, all-drop}
 use Rattle.store.specs.declared.Node.{Node}
-use Rattle.store.specs.declared.Table.{Table}
+use Rattle.store.specs.Words.{blank}
 use Rattle.store.specs.Places.{Hit, Gap, putIn, tableRoom}
-use Rattle.store.specs.Tables.{keyOf, nodeOf, live, mapOf, SoundNode, Sized, SoundTable, Holds}
+use Rattle.store.specs.Tables.{Table, keyOf, nodeOf, live, mapOf, SoundNode, Sized, SoundTable, Holds}
 use Rattle.store.proofs.Lists.{map-take, map-drop}
-use Rattle.store.proofs.Live.{blank, length-live, length-table}
+use Rattle.store.proofs.Live.{length-live, length-table}
 use Rattle.store.proofs.Places.{put-gap, put-hit, del-gap, del-hit}
 use Rattle.store.proofs.Room.{room-put, full-put}
 use Rattle.store.proofs.Shift.{Up, up-start, up-step, up-end, Down, down-start, down-step, down-end}
 
 -- `insert_at`, after the moves from the end down to i.
-pub record Raised (t u : Table) (p i : ℕ) : Type 0 where
+pub record Raised (t : Table) (u : List Node) (p i : ℕ) : Type 0 where
   pub sound : Sized t
   pub space : t .len < tableRoom
-  pub size : length (u .nodes) ≡ tableRoom
+  pub size : length u ≡ tableRoom
   pub from : p ≤ i
   pub below : i ≤ t .len
-  pub up : Up (live t) (u .nodes) i
+  pub up : Up (live t) u i
 
-pub raised-start : {t : Table} (p : ℕ) → Sized t → t .len < tableRoom → p ≤ t .len → Raised t t p (t .len)
-raised-start {t} p s h k = record { sound = s; space = h; size = s .size; from = k; below = omega arith; up = up-start (t .nodes) (t .len) blank (omega (arith, s .size)) }
+pub raised-start : {t : Table} {p : ℕ} → Sized t → t .len < tableRoom → p ≤ t .len → Raised t (t .nodes) p (t .len)
+raised-start {t} s h k = record { sound = s; space = h; size = s .size; from = k; below = omega arith; up = up-start (t .nodes) (t .len) blank (omega (arith, s .size)) }
 
-module _ {t u : Table} {p i : ℕ} (r : Raised t u p i) where
-  pub raised-next : (d : Node) (m : ℕ) → p < i → Raised t (record { nodes = set (u .nodes) i (getD (u .nodes) (i - 1) d); len = m }) p (i - 1)
-  raised-next d m h = record {
+module _ {t : Table} {u v : List Node} {p i : ℕ} (r : Raised t u p i) where
+  pub raised-next : p < i → v ≡ set u i (getD u (i - 1) blank) → Raised t v p (i - 1)
+  raised-next h e = record {
     sound = r .sound;
     space = r .space;
-    size = length-set (u .nodes) i (getD (u .nodes) (i - 1) d) ∙ r .size;
+    size = rw e (length-set u i (getD u (i - 1) blank) ∙ r .size);
     from = omega arith;
     below = omega (arith, r .below);
-    up = up-step (live t) (u .nodes) i d (omega arith) (r .up);
+    up = rw e (up-step (live t) u i blank (omega arith) (r .up));
   }
 
-  pub raised-end : (x : Node) → i ≤ p → Sized (record { nodes = set (u .nodes) p x; len = t .len + 1 }) × (take (t .len + 1) (set (u .nodes) p x) ≡ take p (live t) ++ x ∷ drop p (live t))
-  raised-end x h =
-      let e : i ≡ p = omega (arith, r .from) in (
-        record { size = length-set (u .nodes) p x ∙ r .size; room = omega (arith, r .space) },
-        ap (λ (n : ℕ). take (n + 1) (set (u .nodes) p x)) (sym (length-live (r .sound))) ∙ up-end (live t) (u .nodes) p x (rw e at (r .up)),
+  pub raised-end : (x : Node) → i ≤ p → v ≡ set u p x → Sized (record { nodes = v; len = t .len + 1 }) × (take (t .len + 1) v ≡ take p (live t) ++ x ∷ drop p (live t))
+  raised-end x h e =
+      let q : i ≡ p = omega (arith, r .from) in (
+        record { size = rw e (length-set u p x ∙ r .size); room = omega (arith, r .space) },
+        rw e (ap (λ (n : ℕ). take (n + 1) (set u p x)) (sym (length-live (r .sound))) ∙ up-end (live t) u p x (rw q at (r .up))),
       )
 
 -- `remove_at`, after the moves from its place up to i.
-pub record Lowered (t u : Table) (p i : ℕ) : Type 0 where
+pub record Lowered (t : Table) (u : List Node) (p i : ℕ) : Type 0 where
   pub sound : Sized t
-  pub size : length (u .nodes) ≡ tableRoom
+  pub size : length u ≡ tableRoom
   pub below : i < t .len
-  pub down : Down (live t) (u .nodes) p i
+  pub down : Down (live t) u p i
 
-pub lowered-start : {t : Table} (p : ℕ) → Sized t → p < t .len → Lowered t t p p
-lowered-start {t} p s h = record { sound = s; size = s .size; below = h; down = down-start (t .nodes) (t .len) p blank (omega (arith, s .size, s .room)) h }
+pub lowered-start : {t : Table} {p : ℕ} → Sized t → p < t .len → Lowered t (t .nodes) p p
+lowered-start {t} {p} s h = record { sound = s; size = s .size; below = h; down = down-start (t .nodes) (t .len) p blank (omega (arith, s .size, s .room)) h }
 
-module _ {t u : Table} {p i : ℕ} (r : Lowered t u p i) where
-  pub lowered-next : (d : Node) (m : ℕ) → i + 1 < t .len → Lowered t (record { nodes = set (u .nodes) i (getD (u .nodes) (i + 1) d); len = m }) p (i + 1)
-  lowered-next d m h = record {
+module _ {t : Table} {u : List Node} {p i : ℕ} (r : Lowered t u p i) where
+  pub lowered-next : {v : List Node} → i + 1 < t .len → v ≡ set u i (getD u (i + 1) blank) → Lowered t v p (i + 1)
+  lowered-next h e = record {
     sound = r .sound;
-    size = length-set (u .nodes) i (getD (u .nodes) (i + 1) d) ∙ r .size;
+    size = rw e (length-set u i (getD u (i + 1) blank) ∙ r .size);
     below = h;
-    down = down-step (live t) (u .nodes) p i d (omega (arith, length-live (r .sound))) (r .down);
+    down = rw e (down-step (live t) u p i blank (omega (arith, length-live (r .sound))) (r .down));
   }
 
-  pub lowered-end : t .len ≤ i + 1 → Sized (record { nodes = u .nodes; len = t .len - 1 }) × (take (t .len - 1) (u .nodes) ≡ take p (live t) ++ drop (p + 1) (live t))
+  pub lowered-end : t .len ≤ i + 1 → Sized (record { nodes = u; len = t .len - 1 }) × (take (t .len - 1) u ≡ take p (live t) ++ drop (p + 1) (live t))
   lowered-end h =
       let e : length (live t) ≡ t .len = length-live (r .sound) in (
         record { size = r .size; room = omega (arith, r .sound .room) },
-        ap (λ (n : ℕ). take (n - 1) (u .nodes)) (sym e) ∙ down-end (live t) (u .nodes) p i (omega arith) (r .down),
+        ap (λ (n : ℕ). take (n - 1) u) (sym e) ∙ down-end (live t) u p i (omega arith) (r .down),
       )
 
 -- A table whose nodes are those of a sorted map.
@@ -106,12 +106,12 @@ module _ {src : Bytes} {t : Table} (s : SoundTable src t) where
     pub put-new : {i : ℕ} (r : Table) → Gap (keyOf src (x .dir) (x .file)) (mapOf src t) i → Sized r → live r ≡ take i (live t) ++ x ∷ drop i (live t) → Holds src r (putIn (keyOf src (x .dir) (x .file)) (x .number) (mapOf src t))
     put-new {i} r g z e = changed i i (x ∷ []) z e (sx, tt) (room-put _ _ (mapOf src t) (omega (arith, length-table src (s .sized))) ∙ put-gap _ g (x .number)) sorted
 
-    pub put-over : {i v : ℕ} → Hit (keyOf src (x .dir) (x .file)) v (mapOf src t) i → Holds src (record { nodes = set (t .nodes) i x; len = t .len }) (putIn (keyOf src (x .dir) (x .file)) (x .number) (mapOf src t))
-    put-over {i} g =
+    pub put-over : {i v : ℕ} {l : List Node} → Hit (keyOf src (x .dir) (x .file)) v (mapOf src t) i → l ≡ set (t .nodes) i x → Holds src (record { nodes = l; len = t .len }) (putIn (keyOf src (x .dir) (x .file)) (x .number) (mapOf src t))
+    put-over {i} g e =
         let b : i < t .len = omega (arith, g .within, length-table src (s .sized)) in
         let l : i < length (live t) = omega (arith, length-live (s .sized)) in
-        changed i (suc i) (x ∷ []) (record { size = length-set (t .nodes) i x ∙ s .sized .size; room = s .sized .room })
-        (take-set-lt (t .len) (t .nodes) i x b ∙ set-split (live t) i x l) (sx, tt)
+        changed i (suc i) (x ∷ []) (record { size = rw e (length-set (t .nodes) i x ∙ s .sized .size); room = s .sized .room })
+        (rw e (take-set-lt (t .len) (t .nodes) i x b ∙ set-split (live t) i x l)) (sx, tt)
         (room-put _ _ (mapOf src t) (omega (arith, length-table src (s .sized))) ∙ put-hit _ g (x .number)) sorted
 
   pub del-out : {k : Key} {i v : ℕ} (r : Table) → Hit k v (mapOf src t) i → Sized r → live r ≡ take i (live t) ++ drop (i + 1) (live t) → Holds src r (del k (mapOf src t))

@@ -1,9 +1,9 @@
--- Laws of `map` and `All` with `take`, `drop` and `getD`.
+-- Laws of `map` and `All` with `take`, `drop`, `set` and `getD`.
 use mathlib.Core.Path.{_≡_, refl, ap}
 use mathlib.Core.List.{List, [], _∷_, map}
 use Prim.Native.Nat.{ℕ, zero, suc, _<_}
 use native.Mathlib.Nat.{le-of-suc-le-suc, not-suc-le-zero}
-use lib.ListN.{length, take, drop, getD}
+use lib.ListN.{length, take, drop, getD, set}
 use Rattle.laws.specs.Tests.{All}
 
 module _ {A : Type 0} {B : Type 0} (f : A → B) where
@@ -18,6 +18,11 @@ module _ {A : Type 0} {B : Type 0} (f : A → B) where
   map-drop zero (x ∷ l) = refl
   map-drop (suc n) [] = refl
   map-drop (suc n) (x ∷ l) = map-drop n l
+
+  pub map-set : (l : List A) (i : ℕ) (a : A) → map f (set l i a) ≡ set (map f l) i (f a)
+  map-set [] i a = refl
+  map-set (x ∷ l) zero a = refl
+  map-set (x ∷ l) (suc i) a = ap (f x ∷_) (map-set l i a)
 
 pub drop-zero : {A : Type 0} (l : List A) → drop zero l ≡ l
 drop-zero [] = refl

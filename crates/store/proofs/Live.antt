@@ -9,12 +9,8 @@ use lib.Seq.{drop-cons, length-take-le, getD-take}
 use Rattle.model.specs.Map as model
 use Rattle.model.specs.Base.{Bytes}
 use Rattle.store.specs.declared.Node.{Node}
-use Rattle.store.specs.declared.Table.{Table}
-use Rattle.store.specs.Tables.{nodeOf, live, mapOf, SoundNode, Sized, SoundTable}
+use Rattle.store.specs.Tables.{Table, nodeOf, live, mapOf, SoundNode, Sized, SoundTable}
 use Rattle.store.proofs.Lists.{all-getD}
-
-pub blank : Node
-blank = record { dir = record { start = 0; len = 0; baks = 0 }; file = record { start = 0; len = 0; baks = 0 }; number = 0 }
 
 pub length-live : {t : Table} → Sized t → length (live t) ≡ t .len
 length-live {t} s = length-take-le (t .len) (t .nodes) (omega (arith, s .size, s .room))

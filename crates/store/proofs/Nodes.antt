@@ -10,7 +10,7 @@ use borrow.Author.Tests.{eq-eqb, ne-eqb}
 use Rattle.model.specs.Order.{Cmp, lt, eq, gt, Name, cmpName, caseCmp}
 use Rattle.model.specs.Map.{Node, Map}
 use Rattle.model.specs.Base.{Bytes, ifEmpty, sameBytes}
-use Rattle.model.specs.Store.{files}
+use Rattle.model.specs.Store.{dirs, files}
 use Rattle.spans.specs.Spans.{nameOf, lengthOf, Sound}
 use Rattle.spans.proofs.Parts.{length-name}
 use Rattle.store.specs.declared.Node as code
@@ -78,3 +78,20 @@ module _ (d : Name) (n : Node) where
       go eq [] h e = false≢true h
       go eq (y ∷ ys) h e = cons≢nil e
       go gt f h e = false≢true h
+
+module _ (n : Node) (r : Map) where
+  pub dir-listed : isDir n ≡ true → dirs (n ∷ r) ≡ n .0 .0 ∷ dirs r
+  unfolding isDir dirs
+  dir-listed h = go (n .0 .1) h
+    where
+      go : (f : Name) → ifEmpty f true false ≡ true → ifEmpty f (n .0 .0 ∷ dirs r) (dirs r) ≡ n .0 .0 ∷ dirs r
+      go [] h = refl
+      go (y ∷ ys) h = absurd (false≢true h)
+
+  pub no-dir-listed : isDir n ≡ false → dirs (n ∷ r) ≡ dirs r
+  unfolding isDir dirs
+  no-dir-listed h = go (n .0 .1) h
+    where
+      go : (f : Name) → ifEmpty f true false ≡ false → ifEmpty f (n .0 .0 ∷ dirs r) (dirs r) ≡ dirs r
+      go [] h = absurd (false≢true (sym h))
+      go (y ∷ ys) h = refl

@@ -8,11 +8,9 @@ use Rattle.laws.specs.MapLaws.{Sorted}
 use Rattle.laws.specs.Tests.{all-imp}
 use Rattle.spans.proofs.Prefix.{prefix-part, prefix-sound, prefix-name, map-same}
 use Rattle.store.specs.declared.Node.{Node}
-use Rattle.store.specs.declared.Table.{Table}
 use Rattle.store.specs.declared.LogRef.{LogRef}
-use Rattle.store.specs.declared.Store.{Store}
-use Rattle.store.specs.Tables.{nodeOf, live, mapOf, SoundNode, SoundTable}
-use Rattle.store.specs.Stores.{logBytes, storeOf, SoundLog, SoundStore}
+use Rattle.store.specs.Tables.{Table, nodeOf, live, mapOf, SoundNode, SoundTable}
+use Rattle.store.specs.Stores.{LentStore, logBytes, storeOf, SoundLog, SoundStore}
 
 module _ (rest : Bytes) {src : Bytes} where
   pub prefix-node : (x : Node) → SoundNode src x → SoundNode (src ++ rest) x
@@ -35,8 +33,8 @@ module _ (rest : Bytes) {src : Bytes} where
   pub prefix-log : {l : LogRef} → SoundLog src l → SoundLog (src ++ rest) l
   prefix-log s = record { inside = omega (arith, s .inside, length-append src rest) }
 
-  pub same-store : {s : Store} → SoundStore src s → storeOf (src ++ rest) s ≡ storeOf src s
+  pub same-store : {s : LentStore} → SoundStore src s → storeOf (src ++ rest) s ≡ storeOf src s
   same-store {s} h = λ i. record { tree = same-map (h .tree) i; staging = same-map (h .staging) i; log = same-log (h .log) i; openMark = s .open_mark }
 
-  pub prefix-store : {s : Store} → SoundStore src s → SoundStore (src ++ rest) s
+  pub prefix-store : {s : LentStore} → SoundStore src s → SoundStore (src ++ rest) s
   prefix-store h = record { tree = prefix-table (h .tree); staging = prefix-table (h .staging); log = prefix-log (h .log) }

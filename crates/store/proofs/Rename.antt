@@ -1,10 +1,11 @@
 -- A directory renamed: it is removed, and then its nodes are put in under the new name.
 use mathlib.Core.Path.{_≡_, refl, sym, ap, _∙_}
-use mathlib.Core.List.{[], _∷_}
+use mathlib.Core.List.{List, [], _∷_, map}
 use mathlib.Core.Bool.{Bool, true, false}
 use Prim.Native.Nat.{ℕ, suc, _+_, _≤_, _<_}
 use native.Mathlib.Omega.{arith}
-use lib.ListN.{length, drop, getD}
+use lib.ListN.{length, take, drop, getD}
+use lib.Seq.{getD-take}
 use Rattle.model.specs.Order.{Cmp, lt, eq, gt, Name, Key, cmpName, caseCmp}
 use Rattle.model.specs.Map as model
 use Rattle.model.specs.Map.{Map, put, del, look}
@@ -17,11 +18,12 @@ use Rattle.laws.specs.Tests.{All}
 use Rattle.spans.specs.Spans.{nameOf, Sound}
 use Rattle.spans.specs.declared.NameRef.{NameRef}
 use Rattle.store.specs.declared.Node.{Node}
-use Rattle.store.specs.declared.Table.{Table}
 use Rattle.store.specs.Places.{Over, putIn, tableRoom}
-use Rattle.store.specs.Tables.{keyOf, nodeOf, mapOf, SoundTable, Holds}
-use Rattle.store.proofs.Lists.{drop-zero}
-use Rattle.store.proofs.Live.{length-table, rest, finished}
+use Rattle.store.specs.Words.{Words, nodeAt, nodesOf, blank}
+use Rattle.store.specs.Tables.{Table, keyOf, nodeOf, live, mapOf, SoundNode, SoundTable, Holds}
+use Rattle.store.proofs.Lists.{map-take, drop-zero}
+use Rattle.store.proofs.Live.{length-table, finished}
+use Rattle.store.proofs.Read.{sound-read, rest-read}
 use Rattle.store.proofs.Places.{above-all, flipped, del-over}
 use Rattle.store.proofs.Room.{room-put}
 use Rattle.store.proofs.Sweep.{by-same}
@@ -114,78 +116,110 @@ module _ (a b : Name) where
   pub renamed : (m : Map) → Sorted m → renameDir a b m m ≡ putAll m (removeDir a m)
   renamed m s = split m m s s ∙ ap (putAll m) (removed a m s)
 
--- `rename_dir`: what is left of the listing is put into u; the places that the removed nodes left are enough.
-pub record Renaming (src : Bytes) (t u : Table) (from to : NameRef) (i : ℕ) : Type 0 where
+-- `rename_dir`: what is left of the listing is put into u; the places that the removed nodes left are enough. The first n nodes of `old` are those of
+-- the table t as it stood.
+pub record Renaming (src : Bytes) (old : List Node) (n : ℕ) (u : Table) (from to : NameRef) (i : ℕ) : Type 0 where
+  pub t : Table
+  pub copied : take n old ≡ live t
+  pub len : n ≡ t .len
   pub sound : SoundTable src t
   pub sound-from : Sound src from
   pub sound-to : Sound src to
   pub sound-now : SoundTable src u
-  pub within : i ≤ t .len
-  pub room : u .len + nodesIn (nameOf src from) (drop i (mapOf src t)) ≤ t .len
+  pub within : i ≤ n
+  pub below : n ≤ tableRoom
+  pub room : u .len + nodesIn (nameOf src from) (drop i (mapOf src t)) ≤ n
   pub same : putAll (nameOf src from) (nameOf src to) (drop i (mapOf src t)) (mapOf src u) ≡ renameDir (nameOf src from) (nameOf src to) (mapOf src t) (mapOf src t)
 
-pub start : {src : Bytes} {t u : Table} {from to : NameRef} → SoundTable src t → Sound src from → Sound src to → Holds src u (removeDir (nameOf src from) (mapOf src t)) → Renaming src t u from to 0
-start {src} {t} {u} {from} {to} s f g h =
+-- The nodes of words that are copied.
+pub same-nodes : (t u : Words) (n : ℕ) → take n u ≡ take n t → take n (nodesOf u) ≡ take n (nodesOf t)
+same-nodes t u n e = sym (map-take nodeAt n u) ∙ ap (map nodeAt) e ∙ map-take nodeAt n t
+
+pub start : {src : Bytes} {old : List Node} {t u : Table} {from to : NameRef} → SoundTable src t → Sound src from → Sound src to → take (t .len) old ≡ live t → Holds src u (removeDir (nameOf src from) (mapOf src t)) → Renaming src old (t .len) u from to 0
+start {src} {old} {t} {u} {from} {to} s f g e h =
     let a : Name = nameOf src from in
     let l = length-removed a (mapOf src t) in
     let p : u .len ≡ length (removeDir a (mapOf src t)) = sym (length-table src (h .sound .sized)) ∙ ap length (h .same) in
     record {
+      t = t;
+      copied = e;
+      len = refl;
       sound = s;
       sound-from = f;
       sound-to = g;
       sound-now = h .sound;
       within = omega arith;
+      below = s .sized .room;
       room = rw (drop-zero (mapOf src t)) (omega (arith, length-table src (s .sized)));
       same = rw (drop-zero (mapOf src t), h .same) (sym (renamed a (nameOf src to) (mapOf src t) (s .sorted)));
     }
 
--- The node at i.
-module _ {src : Bytes} {t u : Table} {from to : NameRef} {i : ℕ} (w : Renaming src t u from to i) (d : Node) (h : i < t .len) where
-  abbrev x : Node
-  x = getD (t .nodes) i d
+-- The node x at i.
+module _ {src : Bytes} {old : List Node} {n : ℕ} {u : Table} {from to : NameRef} {i : ℕ} {x : Node} (w : Renaming src old n u from to i) (h : i < n) (r : x ≡ getD old i blank) where
+  inside : i < w .t .len
+  inside = rw (← w .len) h
+
+  read : x ≡ getD (w .t .nodes) i blank
+  read = r ∙ sym (getD-take n old i blank h) ∙ ap (λ (l : List Node). getD l i blank) (w .copied) ∙ getD-take (w .t .len) (w .t .nodes) i blank inside
+
+  pub node : SoundNode src x
+  node = sound-read (w .sound) inside read
 
   abbrev Of : Bool → Type 0
   Of b = sameBytes (nameOf src from) (nameOf src (x .dir)) ≡ b
 
-  listed : drop i (mapOf src t) ≡ nodeOf src x ∷ drop (i + 1) (mapOf src t)
-  listed = rest src (w .sound .sized) i d h
+  abbrev left : Map
+  left = drop (i + 1) (mapOf src (w .t))
 
-  counted : {b : Bool} → Of b → nodesIn (nameOf src from) (drop i (mapOf src t)) ≡ (if b then suc (nodesIn (nameOf src from) (drop (i + 1) (mapOf src t))) else nodesIn (nameOf src from) (drop (i + 1) (mapOf src t)))
+  listed : drop i (mapOf src (w .t)) ≡ nodeOf src x ∷ left
+  listed = rest-read (w .sound) inside read
+
+  counted : {b : Bool} → Of b → nodesIn (nameOf src from) (drop i (mapOf src (w .t))) ≡ (if b then suc (nodesIn (nameOf src from) left) else nodesIn (nameOf src from) left)
   unfolding nodesIn
   counted e = rw listed (by-same (nameOf src from) (nameOf src (x .dir)) _ _ e)
 
-  next : {b : Bool} → Of b → putAll (nameOf src from) (nameOf src to) (drop i (mapOf src t)) (mapOf src u) ≡ putAll (nameOf src from) (nameOf src to) (drop (i + 1) (mapOf src t)) (if b then put (keyOf src to (x .file)) (x .number) (mapOf src u) else mapOf src u)
+  next : {b : Bool} → Of b → putAll (nameOf src from) (nameOf src to) (drop i (mapOf src (w .t))) (mapOf src u) ≡ putAll (nameOf src from) (nameOf src to) left (if b then put (keyOf src to (x .file)) (x .number) (mapOf src u) else mapOf src u)
   unfolding putAll
-  next e = rw listed (ap (putAll (nameOf src from) (nameOf src to) (drop (i + 1) (mapOf src t))) (by-same (nameOf src from) (nameOf src (x .dir)) _ _ e))
+  next e = rw listed (ap (putAll (nameOf src from) (nameOf src to) left) (by-same (nameOf src from) (nameOf src (x .dir)) _ _ e))
 
-  pub other : {v : Table} → Of false → v ≡ u → Renaming src t v from to (i + 1)
+  pub other : {v : Table} → Of false → v ≡ u → Renaming src old n v from to (i + 1)
   other e p = record {
+    t = w .t;
+    copied = w .copied;
+    len = w .len;
     sound = w .sound;
     sound-from = w .sound-from;
     sound-to = w .sound-to;
     sound-now = rw p (w .sound-now);
     within = omega arith;
+    below = w .below;
     room = rw (p, ← counted e) (w .room);
     same = rw p (sym (next e) ∙ w .same);
   }
 
-  pub moved : {v r : Table} → Of true → v ≡ r → Holds src r (putIn (keyOf src to (x .file)) (x .number) (mapOf src u)) → Renaming src t v from to (i + 1)
-  moved {v} {r} e p q =
+  pub moved : {v o : Table} → Of true → v ≡ o → Holds src o (putIn (keyOf src to (x .file)) (x .number) (mapOf src u)) → Renaming src old n v from to (i + 1)
+  moved {v} {o} e p q =
       let k : Key = keyOf src to (x .file) in
       let c = counted e in
-      let l : length (mapOf src u) < tableRoom = omega (arith, length-table src (w .sound-now .sized), w .room, w .sound .sized .room) in
-      let z : mapOf src r ≡ put k (x .number) (mapOf src u) = q .same ∙ room-put k (x .number) (mapOf src u) l in
-      let m : length (mapOf src r) ≤ 1 + length (mapOf src u) = rw (z, length-size (put k (x .number) (mapOf src u)), length-size (mapOf src u)) (size-put-le one k (x .number) (mapOf src u)) in
+      let l : length (mapOf src u) < tableRoom = omega (arith, length-table src (w .sound-now .sized), w .room, w .below) in
+      let z : mapOf src o ≡ put k (x .number) (mapOf src u) = q .same ∙ room-put k (x .number) (mapOf src u) l in
+      let m : length (mapOf src o) ≤ 1 + length (mapOf src u) = rw (z, length-size (put k (x .number) (mapOf src u)), length-size (mapOf src u)) (size-put-le one k (x .number) (mapOf src u)) in
       record {
+        t = w .t;
+        copied = w .copied;
+        len = w .len;
         sound = w .sound;
         sound-from = w .sound-from;
         sound-to = w .sound-to;
         sound-now = rw p (q .sound);
         within = omega arith;
+        below = w .below;
         room = rw p (omega (arith, length-table src (w .sound-now .sized), length-table src (q .sound .sized), w .room));
         same = rw (p, z) (sym (next e) ∙ w .same);
       }
 
-pub end : {src : Bytes} {t u : Table} {from to : NameRef} {i : ℕ} → Renaming src t u from to i → t .len ≤ i → Holds src u (renameDir (nameOf src from) (nameOf src to) (mapOf src t) (mapOf src t))
-unfolding putAll
-end {src} {t} {u} {from} {to} {i} w h = record { sound = w .sound-now; same = rw (finished src i (w .sound .sized) h) at (w .same) }
+pub end : {src : Bytes} {old : List Node} {t u : Table} {from to : NameRef} {i : ℕ} → SoundTable src t → Renaming src old (t .len) u from to i → t .len ≤ i → take (t .len) old ≡ live t → Holds src u (renameDir (nameOf src from) (nameOf src to) (mapOf src t) (mapOf src t))
+unfolding putAll mapOf
+end {src} {old} {t} {u} {from} {to} {i} s w h e =
+    let p : mapOf src (w .t) ≡ mapOf src t = ap (map (nodeOf src)) (sym (w .copied) ∙ e) in
+    record { sound = w .sound-now; same = rw (finished src i (w .sound .sized) (omega (arith, w .len)), p) at (w .same) }

@@ -1,15 +1,11 @@
--- A put has room in a table that is not full, and so in every store within the limits.
+-- A put has room in a table that is not full.
 use mathlib.Core.Path.{_≡_}
 use Prim.Native.Nat.{ℕ, _≤_, _<_}
-use native.Mathlib.Omega.{arith}
 use lib.ListN.{length}
 use borrow.Author.Tests.{lt-ltb, le-ltb}
-use Rattle.model.specs.Limits.{dirLimit, fileLimit}
 use Rattle.model.specs.Order.{Key}
 use Rattle.model.specs.Map.{Map, put}
-use Rattle.model.specs.Store.{dirs, fileCount}
 use Rattle.store.specs.Places.{tableRoom, putIn}
-use Rattle.store.proofs.Tally.{dirs-files}
 
 module _ (k : Key) (v : ℕ) (m : Map) where
   pub room-put : length m < tableRoom → putIn k v m ≡ put k v m
@@ -19,6 +15,3 @@ module _ (k : Key) (v : ℕ) (m : Map) where
   pub full-put : tableRoom ≤ length m → putIn k v m ≡ m
   unfolding putIn
   full-put h = rw (le-ltb (length m) tableRoom h)
-
-  pub fits-put : length (dirs m) ≤ dirLimit → fileCount m ≤ fileLimit → putIn k v m ≡ put k v m
-  fits-put d f = room-put (omega (arith, dirs-files m))

@@ -16,13 +16,13 @@ use Rattle.spans.specs.declared.NameRef.{NameRef}
 use Rattle.spans.specs.declared.Order.{Order}
 use Rattle.spans.specs.declared.Order.the-variants.{Less, Equal, Greater}
 use Rattle.store.specs.declared.Node.{Node}
-use Rattle.store.specs.declared.Table.{Table}
 use Rattle.store.specs.declared.Found.{Found}
 use Rattle.store.specs.declared.Found.the-variants.{At, Missing}
+use Rattle.store.specs.Words.{blank}
 use Rattle.store.specs.Places.{Under, Over, Hit, Gap}
-use Rattle.store.specs.Tables.{keyOf, nodeOf, mapOf, SoundTable, Finds}
+use Rattle.store.specs.Tables.{Table, keyOf, nodeOf, mapOf, SoundNode, SoundTable, Finds}
 use Rattle.store.proofs.Lists.{all-zero}
-use Rattle.store.proofs.Live.{length-table, node-at, rest, finished}
+use Rattle.store.proofs.Live.{length-table, node-at, rest, finished, sound-at}
 use Rattle.store.proofs.Places.{raise, lower, hit-at, look-hit, look-gap}
 
 pub record Search (src : Bytes) (t : Table) (dir file : NameRef) (lo hi : ℕ) : Type 0 where
@@ -57,10 +57,10 @@ start {src} {t} {dir} {file} s d f = record {
   over = rw (finished src (t .len) (s .sized) (omega arith)) tt;
 }
 
--- The node at i is compared.
-module _ {src : Bytes} {t : Table} {dir file : NameRef} {lo hi : ℕ} (w : Search src t dir file lo hi) (i : ℕ) (d : Node) (l : lo ≤ i) (h : i < hi) where
+-- The node x at i is compared.
+module _ {src : Bytes} {t : Table} {dir file : NameRef} {lo hi : ℕ} (w : Search src t dir file lo hi) {i : ℕ} {x : Node} (r : x ≡ getD (t .nodes) i blank) (l : lo ≤ i) (h : i < hi) where
   abbrev Told : Order → Type 0
-  Told o = orderOf o ≡ cmpKey (keyOf src dir file) (nodeOf src (getD (t .nodes) i d) .0)
+  Told o = orderOf o ≡ cmpKey (keyOf src dir file) (keyOf src (x .dir) (x .file))
 
   inside : i < t .len
   inside = omega (arith, w .within)
@@ -68,8 +68,11 @@ module _ {src : Bytes} {t : Table} {dir file : NameRef} {lo hi : ℕ} (w : Searc
   short : i < length (mapOf src t)
   short = omega (arith, length-table src (w .sound .sized), inside)
 
-  told : {o p : Order} → o ≡ p → Told o → cmpKey (keyOf src dir file) (getD (mapOf src t) i (nodeOf src d) .0) ≡ orderOf p
-  told e c = ap (λ (n : model.Node). cmpKey (keyOf src dir file) (n .0)) (node-at src (w .sound .sized) i d inside) ∙ sym c ∙ ap orderOf e
+  told : {o p : Order} → o ≡ p → Told o → cmpKey (keyOf src dir file) (getD (mapOf src t) i (nodeOf src blank) .0) ≡ orderOf p
+  told e c = ap (λ (n : model.Node). cmpKey (keyOf src dir file) (n .0)) (node-at src (w .sound .sized) i blank inside ∙ ap (nodeOf src) (sym r)) ∙ sym c ∙ ap orderOf e
+
+  pub read : SoundNode src x
+  read = rw r (sound-at i blank (w .sound) inside)
 
   pub up : {o : Order} {a b : ℕ} → o ≡ Greater → Told o → a ≡ i + 1 → b ≡ hi → Search src t dir file a b
   up e c p q = record {
@@ -78,7 +81,7 @@ module _ {src : Bytes} {t : Table} {dir file : NameRef} {lo hi : ℕ} (w : Searc
     sound-file = w .sound-file;
     order = omega arith;
     within = omega (arith, w .within);
-    under = rw (p, add-one i) (raise (keyOf src dir file) (mapOf src t) i (nodeOf src d) (w .sound .sorted) short (told e c));
+    under = rw (p, add-one i) (raise (keyOf src dir file) (mapOf src t) i (nodeOf src blank) (w .sound .sorted) short (told e c));
     over = rw q (w .over);
   }
 
@@ -90,11 +93,11 @@ module _ {src : Bytes} {t : Table} {dir file : NameRef} {lo hi : ℕ} (w : Searc
     order = omega arith;
     within = omega (arith, inside);
     under = rw p (w .under);
-    over = rw q (lower (keyOf src dir file) (mapOf src t) i (nodeOf src d) (w .sound .sorted) short (told e c));
+    over = rw q (lower (keyOf src dir file) (mapOf src t) i (nodeOf src blank) (w .sound .sorted) short (told e c));
   }
 
   pub hit : {o : Order} → o ≡ Equal → Told o → Finds (keyOf src dir file) (mapOf src t) (At i)
-  hit e c = found-at (hit-at (keyOf src dir file) (mapOf src t) i (nodeOf src d) (w .sound .sorted) short (told e c))
+  hit e c = found-at (hit-at (keyOf src dir file) (mapOf src t) i (nodeOf src blank) (w .sound .sorted) short (told e c))
 
 pub none-left : {src : Bytes} {t : Table} {dir file : NameRef} {lo hi : ℕ} → Search src t dir file lo hi → hi ≤ lo → Finds (keyOf src dir file) (mapOf src t) (Missing lo)
 none-left {src} {t} {dir} {file} {lo} {hi} w h =
@@ -113,12 +116,12 @@ module _ {src : Bytes} {t : Table} (s : SoundTable src t) {k : Key} {i : ℕ} {r
   pub gap-in : r ≡ Missing i → i ≤ t .len
   gap-in e = omega (arith, f .missing i e .within, length-table src (s .sized))
 
-  pub look-at : (d : Node) → r ≡ At i → some (getD (t .nodes) i d .number) ≡ look k (mapOf src t)
-  look-at d e =
+  pub look-at : {x : Node} → x ≡ getD (t .nodes) i blank → r ≡ At i → some (x .number) ≡ look k (mapOf src t)
+  look-at {x} g e =
       let h = f .at i e in
-      let p : nodeOf src (getD (t .nodes) i d) ∷ drop (i + 1) (mapOf src t) ≡ (k, h .0) ∷ drop (suc i) (mapOf src t) = sym (rest src (s .sized) i d (hit-in e)) ∙ h .1 .here in
-      let q : nodeOf src (getD (t .nodes) i d) ≡ (k, h .0) = cc in
-      rw (ap (λ (n : model.Node). n .1) q) (sym (look-hit k (h .1)))
+      let p : nodeOf src (getD (t .nodes) i blank) ∷ drop (i + 1) (mapOf src t) ≡ (k, h .0) ∷ drop (suc i) (mapOf src t) = sym (rest src (s .sized) i blank (hit-in e)) ∙ h .1 .here in
+      let q : nodeOf src (getD (t .nodes) i blank) ≡ (k, h .0) = cc in
+      ap (λ (y : Node). some (y .number)) g ∙ rw (ap (λ (n : model.Node). n .1) q) (sym (look-hit k (h .1)))
 
   pub look-missing : r ≡ Missing i → none ≡ look k (mapOf src t)
   look-missing e = sym (look-gap k (f .missing i e))

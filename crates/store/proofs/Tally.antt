@@ -11,9 +11,10 @@ use Rattle.model.specs.Store.{dirs, fileCount}
 use Rattle.spans.specs.Spans.{nameOf, lengthOf}
 use Rattle.spans.proofs.Parts.{length-name}
 use Rattle.store.specs.declared.Node.{Node}
-use Rattle.store.specs.declared.Table.{Table}
-use Rattle.store.specs.Tables.{nodeOf, mapOf, SoundTable, Counted}
-use Rattle.store.proofs.Live.{length-table, rest, finished, sound-at}
+use Rattle.store.specs.Words.{blank}
+use Rattle.store.specs.Tables.{Table, nodeOf, mapOf, SoundTable, Counted}
+use Rattle.store.proofs.Live.{length-table, finished}
+use Rattle.store.proofs.Read.{sound-read, rest-read}
 
 pub dirs-files : (m : model.Map) → length (dirs m) + fileCount m ≡ length m
 unfolding dirs
@@ -49,18 +50,19 @@ pub record Tally (src : Bytes) (t : Table) (n i : ℕ) : Type 0 where
 pub start : {src : Bytes} {t : Table} → SoundTable src t → Tally src t 0 0
 start {src} {t} s = record { sound = s; within = omega arith; below = omega arith; same = omega arith }
 
-module _ {src : Bytes} {t : Table} {n i : ℕ} (d : Node) (w : Tally src t n i) (h : i < t .len) where
-  named : length (nameOf src (getD (t .nodes) i d .file)) ≡ lengthOf (getD (t .nodes) i d .file)
-  named = length-name (sound-at i d (w .sound) h .file)
+-- The node x at i.
+module _ {src : Bytes} {t : Table} {n i : ℕ} {x : Node} (w : Tally src t n i) (h : i < t .len) (r : x ≡ getD (t .nodes) i blank) where
+  named : length (nameOf src (x .file)) ≡ lengthOf (x .file)
+  named = length-name (sound-read (w .sound) h r .file)
 
-  pub dir : {m l : ℕ} → l ≡ lengthOf (getD (t .nodes) i d .file) → l ≡ 0 → m ≡ n + 1 → Tally src t m (i + 1)
+  pub dir : {m l : ℕ} → l ≡ lengthOf (x .file) → l ≡ 0 → m ≡ n + 1 → Tally src t m (i + 1)
   dir e z q =
-      let p = ap (λ (r : model.Map). length (dirs r)) (rest src (w .sound .sized) i d h) ∙ one-dir (nodeOf src (getD (t .nodes) i d)) (drop (i + 1) (mapOf src t)) (named ∙ sym e ∙ z) in
+      let p = ap (λ (r : model.Map). length (dirs r)) (rest-read (w .sound) h r) ∙ one-dir (nodeOf src x) (drop (i + 1) (mapOf src t)) (named ∙ sym e ∙ z) in
       record { sound = w .sound; within = omega arith; below = omega (arith, w .below); same = omega (arith, w .same, p) }
 
-  pub file : {m l : ℕ} → l ≡ lengthOf (getD (t .nodes) i d .file) → (l ≡ 0 → ⊥) → m ≡ n → Tally src t m (i + 1)
+  pub file : {m l : ℕ} → l ≡ lengthOf (x .file) → (l ≡ 0 → ⊥) → m ≡ n → Tally src t m (i + 1)
   file e z q =
-      let p = ap (λ (r : model.Map). length (dirs r)) (rest src (w .sound .sized) i d h) ∙ no-dir (nodeOf src (getD (t .nodes) i d)) (drop (i + 1) (mapOf src t)) (λ y. z (e ∙ sym named ∙ y)) in
+      let p = ap (λ (r : model.Map). length (dirs r)) (rest-read (w .sound) h r) ∙ no-dir (nodeOf src x) (drop (i + 1) (mapOf src t)) (λ y. z (e ∙ sym named ∙ y)) in
       record { sound = w .sound; within = omega arith; below = omega (arith, w .below); same = omega (arith, w .same, p) }
 
 pub end : {src : Bytes} {t : Table} {n i : ℕ} → Tally src t n i → t .len ≤ i → Counted (mapOf src t) (record { dirs = n; files = t .len - n })

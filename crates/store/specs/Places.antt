@@ -1,11 +1,10 @@
 -- Places in a sorted map, and changes of a map at its end.
 use mathlib.Core.Path.{_≡_}
 use Prim.Native.Nat.{ℕ, suc, _≤_, _<_}
-use mathlib.Core.List.{[], _∷_}
-use mathlib.Core.Bool.{Bool, true, false}
+use mathlib.Core.List.{_∷_}
 use lib.ListN.{length, take, drop}
 use lib.Dec.{ltb}
-use Rattle.model.specs.Order.{lt, gt, Key, cmpKey, caseCmp}
+use Rattle.model.specs.Order.{lt, gt, Key, cmpKey}
 use Rattle.model.specs.Map.{Node, Map, put}
 use Rattle.model.specs.Base.{if_then_else_}
 use Rattle.laws.specs.Tests.{All}
@@ -37,9 +36,3 @@ tableRoom = 145
 -- A put, where there is room for one more.
 unfoldable pub putIn : Key → ℕ → Map → Map
 putIn k v m = if ltb (length m) tableRoom then put k v m else m
-
--- The key is above the last one.
-unfoldable pub aboveLast : Key → Map → Bool
-aboveLast k [] = true
-aboveLast k (n ∷ []) = caseCmp (cmpKey (n .0) k) true false false
-aboveLast k (n ∷ x ∷ r) = aboveLast k (x ∷ r)

@@ -1,13 +1,25 @@
--- What a `Store` stands for: the model's store.
+-- What a `Store` stands for with its lent tables: the model's store.
 use Prim.Native.Nat.{_+_, _≤_}
+use mathlib.Core.Bool.{Bool}
 use mathlib.Core.Option.{Option, none, some}
 use lib.ListN.{length, take, drop}
 use Rattle.model.specs.Base.{Bytes, if_then_else_}
 use Rattle.model.specs.Log.{markCommitting}
 use Rattle.model.specs.Store as model
-use Rattle.store.specs.Tables.{mapOf, SoundTable}
+use Rattle.store.specs.Words.{Words}
+use Rattle.store.specs.Tables.{Table, tableOf, mapOf, SoundTable}
 use Rattle.store.specs.declared.LogRef.{LogRef}
 use Rattle.store.specs.declared.Store.{Store}
+
+-- A store with its tables.
+pub record LentStore : Type 0 where
+  pub tree : Table
+  pub staging : Table
+  pub log : LogRef
+  pub «open_mark» : Bool
+
+abbrev pub storeIn : Words → Words → Store → LentStore
+storeIn tree staging s = record { tree = tableOf tree (s .tree); staging = tableOf staging (s .staging); log = s .log; «open_mark» = s .open_mark }
 
 -- The log's bytes, with the header that 0x20 writes where it did.
 unfoldable pub logBytes : Bytes → LogRef → Option Bytes
@@ -15,7 +27,7 @@ logBytes src l =
     let bytes : Bytes = take (l .len) (drop (l .start) src) in
     if l .stands then some (if l .marked then markCommitting bytes else bytes) else none
 
-abbrev pub storeOf : Bytes → Store → model.Store
+abbrev pub storeOf : Bytes → LentStore → model.Store
 storeOf src s = record {
   tree = mapOf src (s .tree);
   staging = mapOf src (s .staging);
@@ -27,7 +39,7 @@ pub record SoundLog (src : Bytes) (l : LogRef) : Type 0 where
   pub inside : l .start + l .len ≤ length src
 
 -- What every store that the code holds meets.
-pub record SoundStore (src : Bytes) (s : Store) : Type 0 where
+pub record SoundStore (src : Bytes) (s : LentStore) : Type 0 where
   pub tree : SoundTable src (s .tree)
   pub staging : SoundTable src (s .staging)
   pub log : SoundLog src (s .log)

@@ -1,20 +1,21 @@
--- What a `Table` stands for: the model's map of its nodes.
+-- What a lent table stands for: the model's map of its nodes. 01, How a store is handed over: directories "in ascending byte order of name",
+-- each "followed by its files ascending".
 use mathlib.Core.Path.{_≡_}
 use Prim.Native.Nat.{ℕ, _≤_}
-use mathlib.Core.List.{List, map}
+use mathlib.Core.List.{List, [], map}
 use mathlib.Core.Option.{Option, none, some}
-use lib.ListN.{length, take}
-use Rattle.model.specs.Order.{Key}
+use lib.ListN.{length, take, drop}
+use Rattle.model.specs.Order.{Key, Name}
 use Rattle.model.specs.Map as model
 use Rattle.model.specs.Base.{Bytes}
-use Rattle.model.specs.Store.{dirs, fileCount}
+use Rattle.model.specs.Store.{dirs, files, fileCount}
 use Rattle.laws.specs.MapLaws.{Sorted}
 use Rattle.laws.specs.Tests.{All}
 use Rattle.spans.specs.Spans.{nameOf, Sound}
 use Rattle.spans.specs.declared.NameRef.{NameRef}
-use Rattle.store.specs.Places.{Hit, Gap, tableRoom}
+use Rattle.store.specs.Places.{Over, Hit, Gap, tableRoom}
 use Rattle.store.specs.declared.Node.{Node}
-use Rattle.store.specs.declared.Table.{Table}
+use Rattle.store.specs.Words.{Words, nameAt, nodesOf}
 use Rattle.store.specs.declared.Counts.{Counts}
 use Rattle.store.specs.declared.Found.{Found}
 use Rattle.store.specs.declared.Found.the-variants.{At, Missing}
@@ -26,6 +27,15 @@ keyOf src d f = (nameOf src d, nameOf src f)
 
 abbrev pub nodeOf : Bytes → Node → model.Node
 nodeOf src x = (keyOf src (x .dir) (x .file), x .number)
+
+-- The places of a table, and how many of them are in use: the first ones.
+pub record Table : Type 0 where
+  pub nodes : List Node
+  pub len : ℕ
+
+-- The table of n nodes that stands in lent places.
+abbrev pub tableOf : Words → ℕ → Table
+tableOf t n = record { nodes = nodesOf t; len = n }
 
 -- The nodes in use.
 abbrev pub live : Table → List Node
@@ -67,3 +77,16 @@ heldOf (Number v) = some v
 pub record Counted (m : model.Map) (c : Counts) : Type 0 where
   pub dirs : c .dirs ≡ length (dirs m)
   pub files : c .files ≡ fileCount m
+
+-- Where the files of a directory start: before i there is none, and from i on stands what comes behind the directory's own node.
+pub record FilesFrom (d : Name) (m : model.Map) (i : ℕ) : Type 0 where
+  pub within : i ≤ length m
+  pub same : files d m ≡ files d (drop i m)
+  pub above : All (Over (d, [])) (drop i m)
+
+-- A listing: names as numbers in its first n places.
+pub record Lists (src : Bytes) (l : List ℕ) (n : ℕ) (names : List Name) : Type 0 where
+  pub room : n ≤ tableRoom
+  pub within : n ≤ length l
+  pub each : All (Sound src) (map nameAt (take n l))
+  pub same : map (λ w. nameOf src (nameAt w)) (take n l) ≡ names

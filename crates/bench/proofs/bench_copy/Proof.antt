@@ -1,6 +1,7 @@
+-- The names of a decoded store's nodes are sound.
 use native.Mathlib.Omega.{arith}
 use borrow.Author.Tests.{not-false}
-use Rattle.store.proofs.Live.{sound-at}
+use Rattle.store.proofs.Read.{sound-read}
 use Rattle.bench.proofs.Started.{started, file-name, copies}
 use borrow.Author.Needs.{needs}
 use Rattle.bench.proofs.bench_copy.Statement.{statement}
@@ -18,17 +19,11 @@ returns-2 c = search needs
 returns-3 : tie.Need-returns-3
 returns-3 c = search needs
 
-mul-x : tie.Need-mul-x
-mul-x c = search needs
+node-at-requires : tie.Need-node-at-requires
+node-at-requires c κs = search needs
 
-element-copy-out-x : tie.Need-element-copy-out-x
-element-copy-out-x c = search needs
-
-mul-y : tie.Need-mul-y
-mul-y c = search needs
-
-element-copy-out-y : tie.Need-element-copy-out-y
-element-copy-out-y c = search needs
+node-at-requires-2 : tie.Need-node-at-requires-2
+node-at-requires-2 c κs = search needs
 
 length-of-requires : tie.Need-length-of-requires
 length-of-requires c κs = search needs
@@ -38,8 +33,10 @@ returns-4 c = search needs
 
 attempts-requires : tie.Need-attempts-requires
 attempts-requires c κs =
-    let d = c .before .before .before .before .before .before .before .before .before .before .before .before .decode .ensures in
-    (started _ _ d (not-false _ (c .before .before .before .before .before .before .before .before .before .if1 .left)), copies (sound-at (c .before .before .before .before .before .before .before .before .before .before .before .before .before .before .args .at) _ (d .sound .tree) (omega arith) .dir) (sound-at (c .before .before .before .before .before .before .before .before .before .before .before .before .before .before .args .to) _ (d .sound .tree) (omega arith) .dir) (file-name _ _ (sound-at (c .before .before .before .before .before .before .before .before .before .before .before .before .before .before .args .at) _ (d .sound .tree) (omega arith) .file) _ (c .before .length-of .ensures .0) (omega arith)))
+    let d = c .before .before .before .before .before .before .before .before .before .before .before .before .before .before .before .decode .ensures in
+    let x = sound-read (d .sound .tree) (omega arith) (c .before .before .before .before .before .before .before .before .before .node-at .ensures) in
+    let y = sound-read (d .sound .tree) (omega arith) (c .before .before .before .before .before .before .before .node-at2 .ensures) in
+    (started _ _ _ _ d (not-false _ (c .before .before .before .before .before .before .before .before .before .before .before .before .before .if1 .left)), copies (x .dir) (y .dir) (file-name _ _ (x .file) _ (c .before .before .before .length-of .ensures .0) (omega arith)))
 
 returns-5 : tie.Need-returns-5
 returns-5 c = search needs
@@ -52,10 +49,8 @@ bench-copy-spec =
     returns
     returns-2
     returns-3
-    mul-x
-    element-copy-out-x
-    mul-y
-    element-copy-out-y
+    node-at-requires
+    node-at-requires-2
     length-of-requires
     returns-4
     attempts-requires

@@ -1,6 +1,7 @@
+-- The names of a decoded store's nodes are sound.
 use native.Mathlib.Omega.{arith}
 use borrow.Author.Tests.{not-false}
-use Rattle.store.proofs.Live.{sound-at}
+use Rattle.store.proofs.Read.{sound-read}
 use Rattle.bench.proofs.Started.{started, backup-name}
 use borrow.Author.Needs.{needs}
 use Rattle.bench.proofs.bench_rename_dir.Statement.{statement}
@@ -15,14 +16,11 @@ returns c = search needs
 returns-2 : tie.Need-returns-2
 returns-2 c = search needs
 
-mul-x : tie.Need-mul-x
-mul-x c = search needs
-
-element-copy-out-x : tie.Need-element-copy-out-x
-element-copy-out-x c = search needs
+node-at-requires : tie.Need-node-at-requires
+node-at-requires c κs = search needs
 
 backup-requires : tie.Need-backup-requires
-backup-requires c κs = sound-at (c .before .before .before .before .before .before .before .before .args .at) _ (c .before .before .before .before .before .before .decode .ensures .sound .tree) (omega arith) .dir
+backup-requires c κs = sound-read (c .before .before .before .before .before .before .decode .ensures .sound .tree) (omega arith) (c .before .node-at .ensures) .dir
 
 enum-known-b : tie.Need-enum-known-b
 enum-known-b c = search needs
@@ -35,10 +33,10 @@ returns-3 c = search needs
 
 attempts-requires : tie.Need-attempts-requires
 attempts-requires c κs =
-    let d = c .before .before .before .before .before .before .before .before .before .before .decode .ensures in
-    let x = sound-at (c .before .before .before .before .before .before .before .before .before .before .before .before .args .at) _ (d .sound .tree) (omega arith) in
-    let b = backup-name _ _ _ _ (c .before .before .before .backup .ensures) (c .before .b .given .1) in
-    (started _ _ d (not-false _ (c .before .before .before .before .before .before .before .if1 .left)), (record { names = (x .dir, b .sound) }, record { names = (b .sound, x .dir) }))
+    let d = c .before .before .before .before .before .before .before .before .before .before .before .before .decode .ensures in
+    let x = sound-read (d .sound .tree) (omega arith) (c .before .before .before .before .before .before .before .node-at .ensures) in
+    let b = backup-name _ _ _ _ (c .before .before .before .before .before .backup .ensures) (c .before .before .before .b .given .1) in
+    (started _ _ _ _ d (not-false _ (c .before .before .before .before .before .before .before .before .before .before .if1 .left)), (record { names = (x .dir, b .sound) }, record { names = (b .sound, x .dir) }))
 
 returns-4 : tie.Need-returns-4
 returns-4 c = search needs
@@ -50,8 +48,7 @@ bench-rename-dir-spec =
     decode-requires
     returns
     returns-2
-    mul-x
-    element-copy-out-x
+    node-at-requires
     backup-requires
     enum-known-b
     enum-told

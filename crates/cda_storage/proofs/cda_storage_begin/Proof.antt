@@ -5,7 +5,6 @@ use lib.ListN.{length}
 use Rattle.model.specs.Answers.{begin}
 use Rattle.model.specs.Record.{beginTransaction}
 use Rattle.laws.specs.Bounds.{begin-bounded}
-use Rattle.store.specs.Stores.{storeOf}
 use Rattle.handover.specs.Numbers.{begin-numbers}
 use Rattle.cda_storage.proofs.Recorded.{not-opened, hands-on, handed}
 use Rattle.cda_storage.proofs.cda_storage_begin.Statement.{statement}
@@ -24,7 +23,7 @@ open-image-requires c κs = search needs
 returns : tie.Need-returns
 unfolding begin
 returns c =
-    let z = c .before .before .before .before .before in
+    let z = c .before .before .before .before .before .before .before in
     not-opened beginTransaction (z .args .image .now) (length (z .args .out .now)) (c .before .before .open-image .ensures) (c .if1 .taken)
 
 -- src/lib.rt:47:9
@@ -35,11 +34,11 @@ begin-transaction-requires c κs = search needs
 hand-on-requires : tie.Need-hand-on-requires
 unfolding begin
 hand-on-requires c κs =
-    let z = c .before .before .before .before .before .before .before .before .before in
-    let o = c .before .before .before .before .before .before .open-image in
-    let h = c .before .before .before .before .if1 .left in
-    hands-on beginTransaction (z .args .image .now) (length (z .args .out .now)) (o .ensures) h (z .args .image .now) (c .before .before .begin-transaction .ensures (z .args .image .now) (o .ensures .held h .sound))
-    (begin-bounded (z .args .image .now) (length (z .args .out .now))) (3 ∷ []) (refl, tt) (begin-numbers (storeOf (z .args .image .now) (o .result .store)))
+    let z = c .before .before .before .before .before .before .before .before .before .before .before .before .before in
+    let o = c .before .before .before .before .before .before .before .before .open-image in
+    let h = c .before .before .before .before .before .before .if1 .left in
+    hands-on beginTransaction (z .args .image .now) (length (z .args .out .now)) (o .ensures) h (c .before .before .before .before .begin-transaction .ensures (z .args .image .now) (o .last .1 .0) (o .last .1 .1 .0) (o .ensures .held h .sound))
+    (begin-bounded (z .args .image .now) (length (z .args .out .now))) (3 ∷ []) (refl, tt) (begin-numbers _)
 
 -- src/lib.rt:37:1
 same-length : tie.Need-same-length
@@ -49,10 +48,10 @@ same-length c = search needs
 returns-2 : tie.Need-returns-2
 unfolding begin
 returns-2 c =
-    let z = c .before .before .before .before .before .before .before .before .before .before .before .before in
-    let o = c .before .before .before .before .before .before .before .before .before .open-image in
-    let h = c .before .before .before .before .before .before .before .if1 .left in
-    handed beginTransaction (z .args .image .now) (length (z .args .out .now)) (o .ensures) h (z .args .image .now) (c .before .before .before .before .before .begin-transaction .ensures (z .args .image .now) (o .ensures .held h .sound)) (c .before .before .hand-on .ensures)
+    let z = c .before .before .before .before .before .before .before .before .before .before .before .before .before .before .before .before in
+    let o = c .before .before .before .before .before .before .before .before .before .before .before .open-image in
+    let h = c .before .before .before .before .before .before .before .before .before .if1 .left in
+    handed beginTransaction (z .args .image .now) (length (z .args .out .now)) (o .ensures) h (c .before .before .before .before .before .before .before .begin-transaction .ensures (z .args .image .now) (o .last .1 .0) (o .last .1 .1 .0) (o .ensures .held h .sound)) (c .before .before .hand-on .ensures)
 
 pub cda-storage-begin-spec : {M : Type 1} → statement M
 cda-storage-begin-spec =

@@ -13,20 +13,20 @@ open-image-requires c κs = search needs
 
 returns : tie.Need-returns
 returns c =
-    let z = c .before .before .before .before .before .before .before in
+    let z = c .before .before .before .before .before .before .before .before .before in
     let o = c .before .before .open-image in
-    commit-step-refused (z .args .n) (z .args .image .now) (length (z .args .out .now)) (length (z .args .step .now)) (c .before .before .before .both .ensures) (o .ensures) (c .if1 .taken)
+    commit-step-refused (z .args .n) (z .args .image .now) (length (z .args .out .now)) (length (z .args .step .now)) (c .before .before .before .before .before .both .ensures) (o .ensures) (c .if1 .taken)
 
 commit-requires : tie.Need-commit-requires
 commit-requires c κs =
-    let h = c .before .before .before .open-image .ensures .held (c .before .if1 .left) in
+    let h = c .before .before .before .before .before .open-image .ensures .held (c .before .before .before .if1 .left) in
     (ready h, within h)
 
 hand-step-requires : tie.Need-hand-step-requires
 hand-step-requires c κs =
-    let z = c .before .before .before .before .before .before .before .before .before .before .before .before .before .before .before .before in
-    let o = c .before .before .before .before .before .before .before .before .before .before .before .open-image in
-    commit-stands (z .args .n) (z .args .image .now) (length (z .args .out .now)) (length (z .args .step .now)) (c .before .before .before .before .before .before .before .before .before .before .before .before .both .ensures) (o .ensures) (c .before .before .before .before .before .before .before .before .before .if1 .left) (c .before .before .before .before .before .before .before .commit .ensures) (c .before .before .before .before .before .before .if2 .taken)
+    let z = c .before .before .before .before .before .before .before .before .before .before .before .before .before .before .before .before .before .before .before .before .before .before in
+    let o = c .before .before .before .before .before .before .before .before .before .before .before .before .before .before .before .open-image in
+    commit-stands (z .args .n) (z .args .image .now) (length (z .args .out .now)) (length (z .args .step .now)) (c .before .before .before .before .before .before .before .before .before .before .before .before .before .before .before .before .before .before .both .ensures) (o .ensures) (c .before .before .before .before .before .before .before .before .before .before .before .before .before .if1 .left) (c .before .before .before .before .before .before .before .before .before .commit .ensures) (c .before .before .before .before .before .before .before .before .if2 .taken)
 
 same-length : tie.Need-same-length
 same-length c = search needs
@@ -36,15 +36,15 @@ same-length-2 c = search needs
 
 returns-2 : tie.Need-returns-2
 returns-2 c =
-    let z = c .before .before .before .before .before .before .before .before .before .before .before .before .before .before .before .before .before .before .before .before .before in
-    let o = c .before .before .before .before .before .before .before .before .before .before .before .before .before .before .before .before .open-image in
-    stepped-gives (commit-stepped (z .args .n) (z .args .image .now) (length (z .args .out .now)) (length (z .args .step .now)) (c .before .before .before .before .before .before .before .before .before .before .before .before .before .before .before .before .before .both .ensures) (o .ensures) (c .before .before .before .before .before .before .before .before .before .before .before .before .before .before .if1 .left) (c .before .before .before .before .before .before .before .before .before .before .before .before .commit .ensures) (c .before .before .before .before .before .before .before .before .before .before .before .if2 .taken)) (c .before .before .before .before .hand-step .ensures)
+    let z = c .before .before .before .before .before .before .before .before .before .before .before .before .before .before .before .before .before .before .before .before .before .before .before .before .before .before .before in
+    let o = c .before .before .before .before .before .before .before .before .before .before .before .before .before .before .before .before .before .before .before .before .open-image in
+    stepped-gives (commit-stepped (z .args .n) (z .args .image .now) (length (z .args .out .now)) (length (z .args .step .now)) (c .before .before .before .before .before .before .before .before .before .before .before .before .before .before .before .before .before .before .before .before .before .before .before .both .ensures) (o .ensures) (c .before .before .before .before .before .before .before .before .before .before .before .before .before .before .before .before .before .before .if1 .left) (c .before .before .before .before .before .before .before .before .before .before .before .before .before .before .commit .ensures) (c .before .before .before .before .before .before .before .before .before .before .before .before .before .if2 .taken)) (c .before .before .before .before .hand-step .ensures)
 
 returns-3 : tie.Need-returns-3
 returns-3 c =
-    let z = c .before .before .before .before .before .before .before .before .before .before in
-    let o = c .before .before .before .before .before .open-image in
-    no-transaction-step (z .args .n) (z .args .image .now) (length (z .args .out .now)) (length (z .args .step .now)) (c .before .before .before .before .before .before .both .ensures) (o .ensures) (c .before .before .before .if1 .left) (c .before .commit .ensures) (c .if2 .left)
+    let z = c .before .before .before .before .before .before .before .before .before .before .before .before .before .before in
+    let o = c .before .before .before .before .before .before .before .open-image in
+    no-transaction-step (z .args .n) (z .args .image .now) (length (z .args .out .now)) (length (z .args .step .now)) (c .before .before .before .before .before .before .before .before .before .before .both .ensures) (o .ensures) (c .before .before .before .before .before .if1 .left) (c .before .commit .ensures) (c .if2 .left)
 
 pub cda-storage-commit-step-spec : {M : Type 1} → statement M
 cda-storage-commit-step-spec =

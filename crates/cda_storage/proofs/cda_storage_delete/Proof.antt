@@ -1,18 +1,10 @@
 -- `cda_storage::cda_storage_delete` meets its contract.
-use mathlib.Core.Path.{refl, sym, subst}
-use mathlib.Core.List.{[], _∷_}
 use native.Mathlib.Omega.{arith}
 use lib.ListN.{length}
-use Rattle.model.specs.Store as model
 use Rattle.model.specs.Answers.{delete}
 use Rattle.model.specs.Record.{recordDelete}
-use Rattle.laws.specs.Bounds.{delete-bounded}
-use Rattle.store.specs.Stores.{storeOf}
-use Rattle.local_storage.specs.Recording.{Answers}
-use Rattle.local_storage.proofs.Asked.{delete-asks}
-use Rattle.handover.specs.Numbers.{delete-numbers}
-use Rattle.cda_storage.proofs.Lent.{copied, lent-next, lend-room, lent-ready, lent-within, lent-same, given-key}
-use Rattle.cda_storage.proofs.Recorded.{not-opened, hands-on, handed}
+use Rattle.cda_storage.proofs.Lent.{has-room}
+use Rattle.cda_storage.proofs.Recorded.{not-opened}
 use borrow.Author.Needs.{needs}
 use Rattle.cda_storage.proofs.cda_storage_delete.Statement.{statement}
 use Rattle.cda_storage.proofs.cda_storage_delete.Tie as tie
@@ -23,79 +15,34 @@ open-image-requires c κs = search needs
 returns : tie.Need-returns
 unfolding delete
 returns c =
-    let z = c .before .before .before .before .before .before .before in
+    let z = c .before .before .before .before .before .before .before .before .before in
     not-opened (recordDelete (z .args .collection .now) (z .args .key .now)) (z .args .image .now) (length (z .args .out .now)) (c .before .before .open-image .ensures) (c .if1 .taken)
-
-slice-aggregate-put-bytes : tie.Need-slice-aggregate-put-bytes
-slice-aggregate-put-bytes c = search needs
-
-put-bytes-requires : tie.Need-put-bytes-requires
-put-bytes-requires c κs = search needs
-
-slice-aggregate-lend-name : tie.Need-slice-aggregate-lend-name
-slice-aggregate-lend-name c = search needs
-
-lend-name-requires : tie.Need-lend-name-requires
-lend-name-requires c κs =
-    let l = (copied _ (c .before .before .before .before .before .before .open-image .ensures .held (c .before .before .before .before .if1 .left) .short) (sym (slice-aggregate-put-bytes (c .before .before .before))) (c .before .before .put-bytes .ensures)) in
-    lend-room l (omega (arith, l .short))
-
-slice-aggregate-lend-key : tie.Need-slice-aggregate-lend-key
-slice-aggregate-lend-key c = search needs
-
-lend-key-requires : tie.Need-lend-key-requires
-lend-key-requires c κs =
-    let l = (copied _ (c .before .before .before .before .before .before .before .before .before .open-image .ensures .held (c .before .before .before .before .before .before .before .if1 .left) .short) (sym (slice-aggregate-put-bytes (c .before .before .before .before .before .before))) (c .before .before .before .before .before .put-bytes .ensures)) in
-    let g = c .before .before .lend-name .ensures in
-    lend-room (lent-next l g) (omega (arith, l .short, g .ends))
-
-both-requires : tie.Need-both-requires
-both-requires c κs = search needs
 
 slice-aggregate-delete : tie.Need-slice-aggregate-delete
 slice-aggregate-delete c = search needs
 
 delete-requires : tie.Need-delete-requires
 delete-requires c κs =
-    let z = c .before .before .before .before .before .before .before .before .before .before .before .before .before .before .before .before .before .before .before in
-    let o = c .before .before .before .before .before .before .before .before .before .before .before .before .before .before .open-image in
-    let y = c .before .before .before .before .before .before .before .before .before .before .before .before .if1 .left in
-    let l = (lent-next (lent-next (copied _ (c .before .before .before .before .before .before .before .before .before .before .before .before .before .before .open-image .ensures .held (c .before .before .before .before .before .before .before .before .before .before .before .before .if1 .left) .short) (sym (slice-aggregate-put-bytes (c .before .before .before .before .before .before .before .before .before .before .before))) (c .before .before .before .before .before .before .before .before .before .before .put-bytes .ensures)) (c .before .before .before .before .before .before .before .lend-name .ensures)) (c .before .before .before .before .lend-key .ensures)) in
-    let g = c .before .before .before .before .before .before .before .lend-name .ensures in
-    let i = c .before .before .before .before .lend-key .ensures in
-    let b = c .before .before .both .ensures in
-    ((lent-ready l (o .ensures .held y), lent-within l (o .ensures .held y)), delete-asks (given-key g i b))
-
-slice-aggregate-hand-on : tie.Need-slice-aggregate-hand-on
-slice-aggregate-hand-on c = search needs
-
-hand-on-requires : tie.Need-hand-on-requires
-unfolding delete
-hand-on-requires c κs =
-    let z = c .before .before .before .before .before .before .before .before .before .before .before .before .before .before .before .before .before .before .before .before .before .before .before in
-    let o = c .before .before .before .before .before .before .before .before .before .before .before .before .before .before .before .before .before .before .open-image in
-    let y = c .before .before .before .before .before .before .before .before .before .before .before .before .before .before .before .before .if1 .left in
-    let l = (lent-next (lent-next (copied _ (c .before .before .before .before .before .before .before .before .before .before .before .before .before .before .before .before .before .before .open-image .ensures .held (c .before .before .before .before .before .before .before .before .before .before .before .before .before .before .before .before .if1 .left) .short) (sym (slice-aggregate-put-bytes (c .before .before .before .before .before .before .before .before .before .before .before .before .before .before .before))) (c .before .before .before .before .before .before .before .before .before .before .before .before .before .before .put-bytes .ensures)) (c .before .before .before .before .before .before .before .before .before .before .before .lend-name .ensures)) (c .before .before .before .before .before .before .before .before .lend-key .ensures)) in
-    let g = c .before .before .before .before .before .before .before .before .before .before .before .lend-name .ensures in
-    let i = c .before .before .before .before .before .before .before .before .lend-key .ensures in
-    let b = c .before .before .before .before .before .before .both .ensures in
-    hands-on (recordDelete (z .args .collection .now) (z .args .key .now)) (z .args .image .now) (length (z .args .out .now)) (o .ensures) y (c .before .before .before .before .before .before .before .before .lend-key .last .0) (subst (λ (m : model.Store). Answers (c .before .before .before .before .before .before .before .before .lend-key .last .0) (recordDelete (z .args .collection .now) (z .args .key .now) m) (record { store = o .result .store }) (c .before .before .before .delete .result)) (lent-same l (o .ensures .held y)) (c .before .before .before .delete .ensures (z .args .collection .now) (z .args .key .now) (given-key g i b)))
-    (delete-bounded (z .args .collection .now) (z .args .key .now) (z .args .image .now) (length (z .args .out .now))) (4 ∷ 5 ∷ 6 ∷ 8 ∷ []) (refl, (refl, (refl, (refl, tt)))) (delete-numbers (z .args .collection .now) (z .args .key .now) (storeOf (z .args .image .now) (o .result .store)))
+    ((c .before .before .before .before .before .before .before .before .open-image .ensures, c .before .before .before .before .before .before .if1 .left), has-room (slice-aggregate-delete (c .before .before .before .before)) (omega (arith, c .before .before .before .before .before .if2 .taken)) (omega arith))
 
 same-length : tie.Need-same-length
 same-length c = search needs
 
 returns-2 : tie.Need-returns-2
-unfolding delete
-returns-2 c =
-    let z = c .before .before .before .before .before .before .before .before .before .before .before .before .before .before .before .before .before .before .before .before .before .before .before .before .before .before in
-    let o = c .before .before .before .before .before .before .before .before .before .before .before .before .before .before .before .before .before .before .before .before .before .open-image in
-    let y = c .before .before .before .before .before .before .before .before .before .before .before .before .before .before .before .before .before .before .before .if1 .left in
-    let l = (lent-next (lent-next (copied _ (c .before .before .before .before .before .before .before .before .before .before .before .before .before .before .before .before .before .before .before .before .before .open-image .ensures .held (c .before .before .before .before .before .before .before .before .before .before .before .before .before .before .before .before .before .before .before .if1 .left) .short) (sym (slice-aggregate-put-bytes (c .before .before .before .before .before .before .before .before .before .before .before .before .before .before .before .before .before .before))) (c .before .before .before .before .before .before .before .before .before .before .before .before .before .before .before .before .before .put-bytes .ensures)) (c .before .before .before .before .before .before .before .before .before .before .before .before .before .before .lend-name .ensures)) (c .before .before .before .before .before .before .before .before .before .before .before .lend-key .ensures)) in
-    let g = c .before .before .before .before .before .before .before .before .before .before .before .before .before .before .lend-name .ensures in
-    let i = c .before .before .before .before .before .before .before .before .before .before .before .lend-key .ensures in
-    let b = c .before .before .before .before .before .before .before .before .before .both .ensures in
-    handed (recordDelete (z .args .collection .now) (z .args .key .now)) (z .args .image .now) (length (z .args .out .now)) (o .ensures) y (c .before .before .before .before .before .before .before .before .before .before .before .lend-key .last .0) (subst (λ (m : model.Store). Answers (c .before .before .before .before .before .before .before .before .before .before .before .lend-key .last .0) (recordDelete (z .args .collection .now) (z .args .key .now) m) (record { store = o .result .store }) (c .before .before .before .before .before .before .delete .result)) (lent-same l (o .ensures .held y)) (c .before .before .before .before .before .before .delete .ensures (z .args .collection .now) (z .args .key .now) (given-key g i b))) (c .before .before .hand-on .ensures)
+returns-2 c = search needs
+
+slice-aggregate-delete-2 : tie.Need-slice-aggregate-delete-2
+slice-aggregate-delete-2 c = search needs
+
+delete-requires-2 : tie.Need-delete-requires-2
+delete-requires-2 c κs =
+    ((c .before .before .before .before .before .before .before .before .open-image .ensures, c .before .before .before .before .before .before .if1 .left), has-room (slice-aggregate-delete-2 (c .before .before .before .before)) (omega (arith, c .before .before .before .before .before .before .before .before .open-image .ensures .held (c .before .before .before .before .before .before .if1 .left) .short)) (omega arith))
+
+same-length-2 : tie.Need-same-length-2
+same-length-2 c = search needs
+
+returns-3 : tie.Need-returns-3
+returns-3 c = search needs
 
 pub cda-storage-delete-spec : {M : Type 1} → statement M
 cda-storage-delete-spec =
@@ -103,16 +50,11 @@ cda-storage-delete-spec =
     (tie.spec
     open-image-requires
     returns
-    slice-aggregate-put-bytes
-    put-bytes-requires
-    slice-aggregate-lend-name
-    lend-name-requires
-    slice-aggregate-lend-key
-    lend-key-requires
-    both-requires
     slice-aggregate-delete
     delete-requires
-    slice-aggregate-hand-on
-    hand-on-requires
     same-length
-    returns-2)
+    returns-2
+    slice-aggregate-delete-2
+    delete-requires-2
+    same-length-2
+    returns-3)

@@ -13,14 +13,14 @@ returns c =
 
 has-pending-work-requires : tie.Need-has-pending-work-requires
 has-pending-work-requires c κs =
-    c .before .before .before .open-image .ensures .held (c .before .if1 .left) .sound
+    c .before .before .before .before .before .open-image .ensures .held (c .before .before .before .if1 .left) .sound
 
 yes-or-no-requires : tie.Need-yes-or-no-requires
 yes-or-no-requires c κs = search needs
 
 returns-2 : tie.Need-returns-2
 returns-2 c =
-    pending-gives (c .before .before .before .before .before .open-image .ensures) (c .before .before .before .if1 .left) (c .before .has-pending-work .ensures) (c .yes-or-no .ensures)
+    pending-gives (c .before .before .before .before .before .before .before .open-image .ensures) (c .before .before .before .before .before .if1 .left) (c .before .has-pending-work .ensures) (c .yes-or-no .ensures)
 
 pub cda-storage-has-pending-work-spec : {M : Type 1} → statement M
 cda-storage-has-pending-work-spec =

@@ -10,36 +10,36 @@ open-image-requires c κs = search needs
 
 returns : tie.Need-returns
 returns c =
-    let z = c .before .before .before .before .before in
+    let z = c .before .before .before .before .before .before .before in
     let o = c .before .before .open-image in
     recover-refused (z .args .image .now) (length (z .args .out .now)) (o .ensures) (c .if1 .taken)
 
 recover-requires : tie.Need-recover-requires
 recover-requires c κs =
-    recoverable (c .before .before .before .open-image .ensures .held (c .before .if1 .left))
+    recoverable (c .before .before .before .before .before .open-image .ensures .held (c .before .before .before .if1 .left))
 
 returns-2 : tie.Need-returns-2
 returns-2 c =
-    let z = c .before .before .before .before .before .before .before .before .before in
-    let o = c .before .before .before .before .before .before .open-image in
-    not-recovered (z .args .image .now) (length (z .args .out .now)) (o .ensures) (c .before .before .before .before .if1 .left) (c .before .before .recover .ensures) (c .if2 .taken)
+    let z = c .before .before .before .before .before .before .before .before .before .before .before .before .before in
+    let o = c .before .before .before .before .before .before .before .before .open-image in
+    not-recovered (z .args .image .now) (length (z .args .out .now)) (o .ensures) (c .before .before .before .before .before .before .if1 .left) (c .before .before .recover .ensures) (c .if2 .taken)
 
 hand-image-requires : tie.Need-hand-image-requires
 hand-image-requires c κs =
-    let z = c .before .before .before .before .before .before .before .before .before .before .before .before .before in
-    let o = c .before .before .before .before .before .before .before .before .before .before .open-image in
-    let r = c .before .before .before .before .before .before .recover .ensures in
-    let x = c .before .before .before .before .if2 .left in
-    ((r .run x .sound .fits .sound, tt), recover-room (z .args .image .now) (length (z .args .out .now)) (o .ensures) (c .before .before .before .before .before .before .before .before .if1 .left) r x)
+    let z = c .before .before .before .before .before .before .before .before .before .before .before .before .before .before .before .before .before .before .before in
+    let o = c .before .before .before .before .before .before .before .before .before .before .before .before .before .before .open-image in
+    let r = c .before .before .before .before .before .before .before .before .recover .ensures in
+    let x = c .before .before .before .before .before .before .if2 .left in
+    ((r .run x .sound .fits .sound, tt), recover-room (z .args .image .now) (length (z .args .out .now)) (o .ensures) (c .before .before .before .before .before .before .before .before .before .before .before .before .if1 .left) r x)
 
 same-length : tie.Need-same-length
 same-length c = search needs
 
 returns-3 : tie.Need-returns-3
 returns-3 c =
-    let z = c .before .before .before .before .before .before .before .before .before .before .before .before .before .before .before .before in
-    let o = c .before .before .before .before .before .before .before .before .before .before .before .before .before .open-image in
-    recover-gives (z .args .image .now) (length (z .args .out .now)) (o .ensures) (c .before .before .before .before .before .before .before .before .before .before .before .if1 .left) (c .before .before .before .before .before .before .before .before .before .recover .ensures) (c .before .before .before .before .before .before .before .if2 .left) (c .before .before .hand-image .ensures)
+    let z = c .before .before .before .before .before .before .before .before .before .before .before .before .before .before .before .before .before .before .before .before .before .before in
+    let o = c .before .before .before .before .before .before .before .before .before .before .before .before .before .before .before .before .before .open-image in
+    recover-gives (z .args .image .now) (length (z .args .out .now)) (o .ensures) (c .before .before .before .before .before .before .before .before .before .before .before .before .before .before .before .if1 .left) (c .before .before .before .before .before .before .before .before .before .before .before .recover .ensures) (c .before .before .before .before .before .before .before .before .before .if2 .left) (c .before .before .hand-image .ensures)
 
 pub cda-storage-recover-spec : {M : Type 1} → statement M
 cda-storage-recover-spec =

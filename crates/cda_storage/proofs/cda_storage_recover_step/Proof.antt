@@ -13,25 +13,25 @@ open-image-requires c κs = search needs
 
 returns : tie.Need-returns
 returns c =
-    let z = c .before .before .before .before .before .before .before in
+    let z = c .before .before .before .before .before .before .before .before .before in
     let o = c .before .before .open-image in
-    recover-step-refused (z .args .n) (z .args .image .now) (length (z .args .out .now)) (length (z .args .step .now)) (c .before .before .before .both .ensures) (o .ensures) (c .if1 .taken)
+    recover-step-refused (z .args .n) (z .args .image .now) (length (z .args .out .now)) (length (z .args .step .now)) (c .before .before .before .before .before .both .ensures) (o .ensures) (c .if1 .taken)
 
 recover-requires : tie.Need-recover-requires
 recover-requires c κs =
-    recoverable (c .before .before .before .open-image .ensures .held (c .before .if1 .left))
+    recoverable (c .before .before .before .before .before .open-image .ensures .held (c .before .before .before .if1 .left))
 
 returns-2 : tie.Need-returns-2
 returns-2 c =
-    let z = c .before .before .before .before .before .before .before .before .before .before .before in
-    let o = c .before .before .before .before .before .before .open-image in
-    not-recovered-step (z .args .n) (z .args .image .now) (length (z .args .out .now)) (length (z .args .step .now)) (c .before .before .before .before .before .before .before .both .ensures) (o .ensures) (c .before .before .before .before .if1 .left) (c .before .before .recover .ensures) (c .if2 .taken)
+    let z = c .before .before .before .before .before .before .before .before .before .before .before .before .before .before .before in
+    let o = c .before .before .before .before .before .before .before .before .open-image in
+    not-recovered-step (z .args .n) (z .args .image .now) (length (z .args .out .now)) (length (z .args .step .now)) (c .before .before .before .before .before .before .before .before .before .before .before .both .ensures) (o .ensures) (c .before .before .before .before .before .before .if1 .left) (c .before .before .recover .ensures) (c .if2 .taken)
 
 hand-step-requires : tie.Need-hand-step-requires
 hand-step-requires c κs =
-    let z = c .before .before .before .before .before .before .before .before .before .before .before .before .before .before .before .before .before in
-    let o = c .before .before .before .before .before .before .before .before .before .before .before .before .open-image in
-    recover-stands (z .args .n) (z .args .image .now) (length (z .args .out .now)) (length (z .args .step .now)) (c .before .before .before .before .before .before .before .before .before .before .before .before .before .both .ensures) (o .ensures) (c .before .before .before .before .before .before .before .before .before .before .if1 .left) (c .before .before .before .before .before .before .before .before .recover .ensures) (c .before .before .before .before .before .before .if2 .left)
+    let z = c .before .before .before .before .before .before .before .before .before .before .before .before .before .before .before .before .before .before .before .before .before .before .before in
+    let o = c .before .before .before .before .before .before .before .before .before .before .before .before .before .before .before .before .open-image in
+    recover-stands (z .args .n) (z .args .image .now) (length (z .args .out .now)) (length (z .args .step .now)) (c .before .before .before .before .before .before .before .before .before .before .before .before .before .before .before .before .before .before .before .both .ensures) (o .ensures) (c .before .before .before .before .before .before .before .before .before .before .before .before .before .before .if1 .left) (c .before .before .before .before .before .before .before .before .before .before .recover .ensures) (c .before .before .before .before .before .before .before .before .if2 .left)
 
 same-length : tie.Need-same-length
 same-length c = search needs
@@ -41,9 +41,9 @@ same-length-2 c = search needs
 
 returns-3 : tie.Need-returns-3
 returns-3 c =
-    let z = c .before .before .before .before .before .before .before .before .before .before .before .before .before .before .before .before .before .before .before .before .before .before in
-    let o = c .before .before .before .before .before .before .before .before .before .before .before .before .before .before .before .before .before .open-image in
-    stepped-gives (recover-stepped (z .args .n) (z .args .image .now) (length (z .args .out .now)) (length (z .args .step .now)) (c .before .before .before .before .before .before .before .before .before .before .before .before .before .before .before .before .before .before .both .ensures) (o .ensures) (c .before .before .before .before .before .before .before .before .before .before .before .before .before .before .before .if1 .left) (c .before .before .before .before .before .before .before .before .before .before .before .before .before .recover .ensures) (c .before .before .before .before .before .before .before .before .before .before .before .if2 .left)) (c .before .before .before .before .hand-step .ensures)
+    let z = c .before .before .before .before .before .before .before .before .before .before .before .before .before .before .before .before .before .before .before .before .before .before .before .before .before .before .before .before in
+    let o = c .before .before .before .before .before .before .before .before .before .before .before .before .before .before .before .before .before .before .before .before .before .open-image in
+    stepped-gives (recover-stepped (z .args .n) (z .args .image .now) (length (z .args .out .now)) (length (z .args .step .now)) (c .before .before .before .before .before .before .before .before .before .before .before .before .before .before .before .before .before .before .before .before .before .before .before .before .both .ensures) (o .ensures) (c .before .before .before .before .before .before .before .before .before .before .before .before .before .before .before .before .before .before .before .if1 .left) (c .before .before .before .before .before .before .before .before .before .before .before .before .before .before .before .recover .ensures) (c .before .before .before .before .before .before .before .before .before .before .before .before .before .if2 .left)) (c .before .before .before .before .hand-step .ensures)
 
 pub cda-storage-recover-step-spec : {M : Type 1} → statement M
 cda-storage-recover-step-spec =

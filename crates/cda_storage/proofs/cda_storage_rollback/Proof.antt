@@ -5,10 +5,9 @@ use lib.ListN.{length}
 use Rattle.model.specs.Answers.{rollback}
 use Rattle.model.specs.Record.{discard}
 use Rattle.laws.specs.Bounds.{rollback-bounded}
-use Rattle.store.specs.Stores.{storeOf}
 use Rattle.handover.specs.Numbers.{rollback-numbers}
 use Rattle.cda_storage.proofs.Recorded.{not-opened, hands-on, handed}
-use Rattle.cda_storage.proofs.Done.{ready}
+use Rattle.cda_storage.proofs.Done.{readable}
 use borrow.Author.Needs.{needs}
 use Rattle.cda_storage.proofs.cda_storage_rollback.Statement.{statement}
 use Rattle.cda_storage.proofs.cda_storage_rollback.Tie as tie
@@ -19,22 +18,22 @@ open-image-requires c κs = search needs
 returns : tie.Need-returns
 unfolding rollback
 returns c =
-    let z = c .before .before .before .before .before in
+    let z = c .before .before .before .before .before .before .before in
     let o = c .before .before .open-image in
     not-opened discard (z .args .image .now) (length (z .args .out .now)) (o .ensures) (c .if1 .taken)
 
 rollback-requires : tie.Need-rollback-requires
 rollback-requires c κs =
     let o = c .before .before .before .open-image in
-    ready (o .ensures .held (c .before .if1 .left))
+    readable (o .ensures .held (c .before .if1 .left))
 
 hand-on-requires : tie.Need-hand-on-requires
 unfolding rollback
 hand-on-requires c κs =
-    let z = c .before .before .before .before .before .before .before .before .before in
-    let o = c .before .before .before .before .before .before .open-image in
-    let y = c .before .before .before .before .if1 .left in
-    hands-on discard (z .args .image .now) (length (z .args .out .now)) (o .ensures) y (z .args .image .now) (c .before .before .rollback .ensures) (rollback-bounded (z .args .image .now) (length (z .args .out .now))) (4 ∷ []) (refl, tt) (rollback-numbers (storeOf (z .args .image .now) (o .result .store)))
+    let z = c .before .before .before .before .before .before .before .before .before .before .before .before .before in
+    let o = c .before .before .before .before .before .before .before .before .open-image in
+    let y = c .before .before .before .before .before .before .if1 .left in
+    hands-on discard (z .args .image .now) (length (z .args .out .now)) (o .ensures) y (c .before .before .before .before .rollback .ensures (o .last .1 .0) (o .last .1 .1 .0) (o .ensures .held y .sound)) (rollback-bounded (z .args .image .now) (length (z .args .out .now))) (4 ∷ []) (refl, tt) (rollback-numbers _)
 
 same-length : tie.Need-same-length
 same-length c = search needs
@@ -42,9 +41,10 @@ same-length c = search needs
 returns-2 : tie.Need-returns-2
 unfolding rollback
 returns-2 c =
-    let z = c .before .before .before .before .before .before .before .before .before .before .before .before in
-    let o = c .before .before .before .before .before .before .before .before .before .open-image in
-    handed discard (z .args .image .now) (length (z .args .out .now)) (o .ensures) (c .before .before .before .before .before .before .before .if1 .left) (z .args .image .now) (c .before .before .before .before .before .rollback .ensures) (c .before .before .hand-on .ensures)
+    let z = c .before .before .before .before .before .before .before .before .before .before .before .before .before .before .before .before in
+    let o = c .before .before .before .before .before .before .before .before .before .before .before .open-image in
+    let y = c .before .before .before .before .before .before .before .before .before .if1 .left in
+    handed discard (z .args .image .now) (length (z .args .out .now)) (o .ensures) y (c .before .before .before .before .before .before .before .rollback .ensures (o .last .1 .0) (o .last .1 .1 .0) (o .ensures .held y .sound)) (c .before .before .hand-on .ensures)
 
 pub cda-storage-rollback-spec : {M : Type 1} → statement M
 cda-storage-rollback-spec =

@@ -14,7 +14,7 @@ sync-collection-dirs-requires c κs = search needs
 
 advance-requires : tie.Need-advance-requires
 unfolding stepOf
-advance-requires c κs = ((c .sync-collection-dirs .ensures .sound, record { names = tt }), tt)
+advance-requires c κs = ((c .before .before .sync-collection-dirs .ensures .sound, record { names = tt }), tt)
 
 remove-log-requires : tie.Need-remove-log-requires
 remove-log-requires c κs = search needs
@@ -28,9 +28,9 @@ cleanup-staging-dir-requires c κs = search needs
 returns : tie.Need-returns
 unfolding stepOf
 returns c =
-    part-then (c .before .before .before .before .sync-collection-dirs .ensures) ((λ s. syncCollections ∷ removeLog ∷ syncJournal ∷ []) ∷ removeBackups ∷ removeStagingFiles ∷ [])
-    (part-then (step-then (c .before .before .before .advance .ensures) (removeLog ∷ syncJournal ∷ []) (c .before .before .remove-log .ensures)) (removeBackups ∷ removeStagingFiles ∷ [])
-    (part-then (c .before .delete-all-backup-files .ensures) (removeStagingFiles ∷ []) (last-part (c .cleanup-staging-dir .ensures))))
+    part-then (c .before .before .before .before .before .before .before .before .before .before .before .before .sync-collection-dirs .ensures) ((λ s. syncCollections ∷ removeLog ∷ syncJournal ∷ []) ∷ removeBackups ∷ removeStagingFiles ∷ [])
+    (part-then (step-then (c .before .before .before .before .before .before .before .before .before .advance .ensures) (removeLog ∷ syncJournal ∷ []) (c .before .before .before .before .before .before .remove-log .ensures)) (removeBackups ∷ removeStagingFiles ∷ [])
+    (part-then (c .before .before .before .delete-all-backup-files .ensures) (removeStagingFiles ∷ []) (last-part (c .cleanup-staging-dir .ensures))))
 
 pub finish-spec : {M : Type 1} → statement M
 finish-spec =

@@ -17,7 +17,7 @@ cleanup-staging-dir-requires : tie.Need-cleanup-staging-dir-requires
 cleanup-staging-dir-requires c κs = search needs
 
 returns : tie.Need-returns
-returns c = undone-then _ (c .before .before .undo-all .ensures) ((λ s. removeLog ∷ syncJournal ∷ []) ∷ removeStagingFiles ∷ []) (part-then (c .before .remove-log .ensures) (removeStagingFiles ∷ []) (last-part (c .cleanup-staging-dir .ensures)))
+returns c = undone-then _ (c .before .before .before .before .before .before .undo-all .ensures) ((λ s. removeLog ∷ syncJournal ∷ []) ∷ removeStagingFiles ∷ []) (part-then (c .before .before .before .remove-log .ensures) (removeStagingFiles ∷ []) (last-part (c .cleanup-staging-dir .ensures)))
 
 pub roll-back-spec : {M : Type 1} → statement M
 roll-back-spec =

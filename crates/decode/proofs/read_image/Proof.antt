@@ -32,8 +32,8 @@ both-requires-4 c κs = search needs
 
 returns : tie.Need-returns
 returns c =
-    decided (c .before .before .before .before .before .before .before .before .before .before .before .read-nodes .ensures) (c .before .before .before .before .before .before .before .before .before .before .read-nodes2 .ensures) (c .before .before .before .before .before .before .before .before .before .read-log .ensures) (c .before .before .before .before .before .before .before .before .read-mark .ensures) _
-    (c .before .before .before .both4 .ensures ∙ ap₂ _&&_ (c .before .before .before .before .before .before .before .both .ensures) (c .before .before .before .before .both3 .ensures ∙ ap (c .before .before .before .before .before .before .before .before .before .read-log .result .ok &&_) (c .before .before .before .before .before .both2 .ensures)))
+    decided (c .before .before .before .before .before .before .before .before .before .before .read-nodes .ensures) (c .before .before .before .before .before .before .before .before .read-nodes2 .ensures) (c .before .before .before .before .before .before .before .read-log .ensures) (c .before .before .before .before .before .before .read-mark .ensures) _
+    (c .before .both4 .ensures ∙ ap₂ _&&_ (c .before .before .before .before .before .both .ensures) (c .before .before .both3 .ensures ∙ ap (c .before .before .before .before .before .before .before .read-log .result .ok &&_) (c .before .before .before .both2 .ensures)))
 
 pub read-image-spec : {M : Type 1} → statement M
 read-image-spec =

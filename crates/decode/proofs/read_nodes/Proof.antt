@@ -1,5 +1,6 @@
 -- `decode::read_nodes` meets its contract. The invariant: what was read, and that the rest belongs to it (`Progress`). The measure is what is
 -- left of the bytes.
+use mathlib.Core.Path.{refl}
 use Prim.Native.Nat.{_-_}
 use native.Mathlib.Omega.{arith}
 use lib.ListN.{length}
@@ -9,19 +10,16 @@ use Rattle.decode.proofs.read_nodes.Statement.{statement}
 use Rattle.decode.proofs.read_nodes.Tie as tie
 
 abbrev Inv-loop : tie.InvT-loop
-Inv-loop src at staged t₀ last₀ t last = Progress staged src at t last
+Inv-loop src at staged t₀ last₀ len₀ t last len = Progress staged src at t len last
 
 abbrev μ-loop : tie.MeasureT-loop
-μ-loop src at staged t₀ last₀ t last = length src - last .next
+μ-loop src at staged t₀ last₀ len₀ t last len = length src - last .next
 
 empty-requires : tie.Need-empty-requires Inv-loop μ-loop
 empty-requires c κs = search needs
 
-empty-requires-2 : tie.Need-empty-requires-2 Inv-loop μ-loop
-empty-requires-2 c κs = search needs
-
 loop-holds : tie.Need-loop-holds Inv-loop μ-loop
-loop-holds c = begin (c .before .empty .ensures _) (c .empty2 .ensures _) (c .before .before .before .pre .1)
+loop-holds c = begin refl (c .empty .ensures _) (c .before .before .before .pre .1)
 
 next-node-requires : tie.Need-next-node-requires Inv-loop μ-loop
 next-node-requires c κs = (c .before .before .before .before .pre .0, c .loop .inv .spot)
@@ -29,20 +27,17 @@ next-node-requires c κs = (c .before .before .before .before .pre .0, c .loop .
 enum-known-n : tie.Need-enum-known-n Inv-loop μ-loop
 enum-known-n c = search needs
 
-mul-x : tie.Need-mul-x Inv-loop μ-loop
-mul-x c = let r = room (c .before .before .before .before .before .loop .inv) in search needs
+set-node-requires : tie.Need-set-node-requires Inv-loop μ-loop
+set-node-requires c κs = room (c .before .before .before .before .before .before .loop .inv)
 
-element-set-from-x : tie.Need-element-set-from-x Inv-loop μ-loop
-element-set-from-x c = let r = room (c .before .before .before .before .before .loop .inv) in search needs
-
-add-t : tie.Need-add-t Inv-loop μ-loop
-add-t c = let r = room (c .before .before .before .before .before .loop .inv) in search needs
+add-len : tie.Need-add-len Inv-loop μ-loop
+add-len c = let r = room (c .before .before .before .before .before .before .before .loop .inv) in search needs
 
 loop-less : tie.Need-loop-less Inv-loop μ-loop
-loop-less c = let f = is-node _ (c .before .before .before .before .next-node .ensures) (c .before .before .n .given .1) in omega (arith, f .moved, f .spot .within)
+loop-less c = let f = is-node _ (c .before .before .before .before .before .before .next-node .ensures) (c .before .before .before .before .n .given .1) in omega (arith, f .moved, f .spot .within)
 
 loop-again : tie.Need-loop-again Inv-loop μ-loop
-loop-again c = goes-on (c .before .before .before .before .before .loop .inv) (is-node _ (c .before .before .before .before .next-node .ensures) (c .before .before .n .given .1))
+loop-again c = goes-on (c .before .before .before .before .before .before .before .loop .inv) (is-node _ (c .before .before .before .before .before .before .next-node .ensures) (c .before .before .before .before .n .given .1)) (c .set-node .ensures)
 
 enum-told : tie.Need-enum-told Inv-loop μ-loop
 enum-told c = search needs
@@ -63,13 +58,11 @@ read-nodes-spec =
     Inv-loop
     μ-loop
     empty-requires
-    empty-requires-2
     loop-holds
     next-node-requires
     enum-known-n
-    mul-x
-    element-set-from-x
-    add-t
+    set-node-requires
+    add-len
     loop-less
     loop-again
     enum-told

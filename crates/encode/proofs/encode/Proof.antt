@@ -26,16 +26,16 @@ add-n : tie.Need-add-n
 add-n c = search needs
 
 returns : tie.Need-returns
-returns c = no-room (c .before .before .before .before .before .before .before .before .before .before .pre .0) (c .before .before .before .before .nodes-size .ensures) (c .before .before .before .nodes-size2 .ensures) (c .before .before .tail-size .ensures) (c .before .mark-size .ensures .1) _ (c .if1 .taken)
+returns c = no-room (c .before .before .before .before .before .before .before .before .pre .0) (c .before .before .before .before .nodes-size .ensures) (c .before .before .before .nodes-size2 .ensures) (c .before .before .tail-size .ensures) (c .before .mark-size .ensures .1) _ (c .if1 .taken)
 
 put-nodes-requires : tie.Need-put-nodes-requires
-put-nodes-requires c κs = (c .before .before .before .before .before .before .before .before .before .before .before .pre .0 .tree, tree-room (c .before .before .before .before .before .before .before .before .before .before .before .pre .0) (c .before .before .before .before .before .nodes-size .ensures) (c .before .before .before .before .nodes-size2 .ensures) (c .before .before .before .tail-size .ensures) (c .before .before .mark-size .ensures .1) (c .before .before .before .before .before .before .before .before .before .before .before .args .out .now) (c .before .if1 .left))
+put-nodes-requires c κs = (c .before .before .before .before .before .before .before .before .before .pre .0 .tree, tree-room (c .before .before .before .before .before .before .before .before .before .pre .0) (c .before .before .before .before .before .nodes-size .ensures) (c .before .before .before .before .nodes-size2 .ensures) (c .before .before .before .tail-size .ensures) (c .before .before .mark-size .ensures .1) (c .before .before .before .before .before .before .before .before .before .args .out .now) (c .before .if1 .left))
 
 put-nodes-requires-2 : tie.Need-put-nodes-requires-2
-put-nodes-requires-2 c κs = (c .before .before .before .before .before .before .before .before .before .before .before .before .before .before .before .pre .0 .staging, staging-room (c .before .before .before .before .before .before .before .before .before .before .before .before .before .before .before .pre .0) (c .before .before .before .before .before .before .before .before .before .nodes-size .ensures) (c .before .before .before .before .before .before .before .before .nodes-size2 .ensures) (c .before .before .before .before .before .before .before .tail-size .ensures) (c .before .before .before .before .before .before .mark-size .ensures .1) _ (c .before .before .before .before .before .if1 .left) (c .before .before .before .put-nodes .ensures))
+put-nodes-requires-2 c κs = (c .before .before .before .before .before .before .before .before .before .before .before .before .before .pre .0 .staging, staging-room (c .before .before .before .before .before .before .before .before .before .before .before .before .before .pre .0) (c .before .before .before .before .before .before .before .before .before .nodes-size .ensures) (c .before .before .before .before .before .before .before .before .nodes-size2 .ensures) (c .before .before .before .before .before .before .before .tail-size .ensures) (c .before .before .before .before .before .before .mark-size .ensures .1) _ (c .before .before .before .before .before .if1 .left) (c .before .before .before .put-nodes .ensures))
 
 put-tail-requires : tie.Need-put-tail-requires
-put-tail-requires c κs = (c .before .before .before .before .before .before .before .before .before .before .before .before .before .before .before .before .before .before .before .pre .0 .log, (c .before .before .before .before .before .before .before .before .before .before .before .before .before .before .before .before .before .before .before .pre .1, log-room (c .before .before .before .before .before .before .before .before .before .before .before .before .before .before .before .before .before .before .before .pre .0) (c .before .before .before .before .before .before .before .before .before .before .before .before .before .nodes-size .ensures) (c .before .before .before .before .before .before .before .before .before .before .before .before .nodes-size2 .ensures) (c .before .before .before .before .before .before .before .before .before .before .before .tail-size .ensures) (c .before .before .before .before .before .before .before .before .before .before .mark-size .ensures .1) _ (c .before .before .before .before .before .before .before .before .before .if1 .left) (c .before .before .before .before .before .before .before .put-nodes .ensures) (c .before .before .before .put-nodes2 .ensures)))
+put-tail-requires c κs = (c .before .before .before .before .before .before .before .before .before .before .before .before .before .before .before .before .before .pre .0 .log, (c .before .before .before .before .before .before .before .before .before .before .before .before .before .before .before .before .before .pre .1, log-room (c .before .before .before .before .before .before .before .before .before .before .before .before .before .before .before .before .before .pre .0) (c .before .before .before .before .before .before .before .before .before .before .before .before .before .nodes-size .ensures) (c .before .before .before .before .before .before .before .before .before .before .before .before .nodes-size2 .ensures) (c .before .before .before .before .before .before .before .before .before .before .before .tail-size .ensures) (c .before .before .before .before .before .before .before .before .before .before .mark-size .ensures .1) _ (c .before .before .before .before .before .before .before .before .before .if1 .left) (c .before .before .before .before .before .before .before .put-nodes .ensures) (c .before .before .before .put-nodes2 .ensures)))
 
 put-mark-requires : tie.Need-put-mark-requires
 put-mark-requires c κs = search needs
@@ -44,7 +44,7 @@ same-length : tie.Need-same-length
 same-length c = search needs
 
 returns-2 : tie.Need-returns-2
-returns-2 c = all-written (c .before .before .before .before .before .before .before .before .before .before .before .before .before .before .before .before .before .before .before .before .before .before .before .before .before .before .pre .0) (c .before .before .before .before .before .before .before .before .before .before .before .before .before .before .before .before .before .before .before .before .nodes-size .ensures) (c .before .before .before .before .before .before .before .before .before .before .before .before .before .before .before .before .before .before .before .nodes-size2 .ensures) (c .before .before .before .before .before .before .before .before .before .before .before .before .before .before .before .before .before .before .tail-size .ensures) (c .before .before .before .before .before .before .before .before .before .before .before .before .before .before .before .before .before .mark-size .ensures .1) _ (c .before .before .before .before .before .before .before .before .before .before .before .before .before .before .before .before .if1 .left) (c .before .before .before .before .before .before .before .before .before .before .before .before .before .before .put-nodes .ensures) (c .before .before .before .before .before .before .before .before .before .before .put-nodes2 .ensures) (c .before .before .before .before .before .before .put-tail .ensures) (c .before .before .put-mark .ensures)
+returns-2 c = all-written (c .before .before .before .before .before .before .before .before .before .before .before .before .before .before .before .before .before .before .before .before .before .before .before .before .pre .0) (c .before .before .before .before .before .before .before .before .before .before .before .before .before .before .before .before .before .before .before .before .nodes-size .ensures) (c .before .before .before .before .before .before .before .before .before .before .before .before .before .before .before .before .before .before .before .nodes-size2 .ensures) (c .before .before .before .before .before .before .before .before .before .before .before .before .before .before .before .before .before .before .tail-size .ensures) (c .before .before .before .before .before .before .before .before .before .before .before .before .before .before .before .before .before .mark-size .ensures .1) _ (c .before .before .before .before .before .before .before .before .before .before .before .before .before .before .before .before .if1 .left) (c .before .before .before .before .before .before .before .before .before .before .before .before .before .before .put-nodes .ensures) (c .before .before .before .before .before .before .before .before .before .before .put-nodes2 .ensures) (c .before .before .before .before .before .before .put-tail .ensures) (c .before .before .put-mark .ensures)
 
 pub encode-spec : {M : Type 1} → statement M
 encode-spec =

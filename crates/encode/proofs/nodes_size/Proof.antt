@@ -1,24 +1,22 @@
 -- `encode::nodes_size` meets its contract. The invariant: the nodes before i are counted.
 use Prim.Native.Nat.{_-_}
 use borrow.Author.Needs.{needs}
+use Rattle.store.specs.Tables.{tableOf}
 use Rattle.encode.proofs.Counting.{Counting, start, counted, all-counted}
 use Rattle.encode.proofs.nodes_size.Statement.{statement}
 use Rattle.encode.proofs.nodes_size.Tie as tie
 
 abbrev Inv-loop : tie.InvT-loop
-Inv-loop staged t n size₀ i₀ size i = Counting staged t size i
+Inv-loop t n staged size₀ i₀ size i = Counting staged (tableOf t n) size i
 
 abbrev μ-loop : tie.MeasureT-loop
-μ-loop staged t n size₀ i₀ size i = n - i
+μ-loop t n staged size₀ i₀ size i = n - i
 
 loop-holds : tie.Need-loop-holds Inv-loop μ-loop
 loop-holds c = start (c .pre)
 
-mul-x : tie.Need-mul-x Inv-loop μ-loop
-mul-x c = search needs
-
-element-copy-out-x : tie.Need-element-copy-out-x Inv-loop μ-loop
-element-copy-out-x c = search needs
+node-at-requires : tie.Need-node-at-requires Inv-loop μ-loop
+node-at-requires c κs = search needs
 
 node-size-requires : tie.Need-node-size-requires Inv-loop μ-loop
 node-size-requires c κs = search needs
@@ -33,7 +31,7 @@ loop-less : tie.Need-loop-less Inv-loop μ-loop
 loop-less c = search needs
 
 loop-again : tie.Need-loop-again Inv-loop μ-loop
-loop-again c = counted (c .before .before .before .loop .inv) _ (c .before .before .loop-test .taken) (c .node-size .ensures)
+loop-again c = counted (c .before .before .before .loop .inv) (c .before .before .loop-test .taken) (c .before .node-at .ensures) (c .node-size .ensures)
 
 returns : tie.Need-returns Inv-loop μ-loop
 returns c = all-counted (c .before .loop .inv) (c .loop-test .left)
@@ -45,8 +43,7 @@ nodes-size-spec =
     Inv-loop
     μ-loop
     loop-holds
-    mul-x
-    element-copy-out-x
+    node-at-requires
     node-size-requires
     add-size
     add-i

@@ -1,6 +1,6 @@
 -- `handover::hand_on` meets its contract.
 use borrow.Author.Needs.{needs}
-use mathlib.Core.Path.{_≡_, refl, sym, ap, subst}
+use mathlib.Core.Path.{refl, sym, ap, subst}
 use Prim.Native.Nat.{_≤_}
 use lib.ListN.{length}
 use Rattle.model.specs.Answers.{Answer}
@@ -15,13 +15,13 @@ use Rattle.handover.proofs.hand_image.Reads as hand-image-reads
 returns : tie.Need-returns
 returns c =
     let z = c .before .before .before in
-    left-alone (z .pre .1 .1 (c .if1 .taken)) (turned-down (z .args .src .now) (z .args .r) (c .if1 .taken))
+    left-alone (z .pre .1 .1 (c .if1 .taken)) (turned-down (z .args .src .now) (z .args .tree .now) (z .args .staging .now) (z .args .r) (c .if1 .taken))
 
 -- src/lib.rt:70:5
 hand-image-requires : tie.Need-hand-image-requires
 hand-image-requires c κs =
     let z = c .before .before .before .before .before .before .before in
-    ((z .pre .0 .0, z .pre .0 .1), subst (λ (a : Answer). length (a .image) ≤ length (z .args .out .now)) (recorded (z .args .src .now) (z .args .r) (c .before .before .before .before .if1 .left)) (z .pre .1 .0))
+    ((z .pre .0 .0, z .pre .0 .1), subst (λ (a : Answer). length (a .image) ≤ length (z .args .out .now)) (recorded (z .args .src .now) (z .args .tree .now) (z .args .staging .now) (z .args .r) (c .before .before .before .before .if1 .left)) (z .pre .1 .0))
 
 -- src/lib.rt:59:1
 same-length : tie.Need-same-length
@@ -31,7 +31,7 @@ same-length c = search needs
 returns-2 : tie.Need-returns-2
 returns-2 c =
     let z = c .before .before .before .before .before .before .before .before .before .before in
-    let e = recorded (z .args .src .now) (z .args .r) (c .before .before .before .before .before .before .before .if1 .left) in
+    let e = recorded (z .args .src .now) (z .args .tree .now) (z .args .staging .now) (z .args .r) (c .before .before .before .before .before .before .before .if1 .left) in
     gives refl (sym (ap (λ (a : Answer). a .number) e)) (sym (ap (λ (a : Answer). a .image) e)) (c .before .before .hand-image .ensures)
 
 pub hand-on-spec : {M : Type 1} → statement M

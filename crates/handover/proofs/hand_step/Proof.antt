@@ -1,6 +1,7 @@
 -- `handover::hand_step` meets its contract.
 use borrow.Author.Needs.{needs}
 use mathlib.Core.Path.{refl}
+use Rattle.store.specs.Stores.{storeIn}
 use Rattle.handover.proofs.Outputs.{step-left-alone, stepped-past, stepped-at, step-gives}
 use Rattle.handover.proofs.hand_step.Statement.{statement}
 use Rattle.handover.proofs.hand_step.Tie as tie
@@ -13,7 +14,7 @@ use Rattle.handover.proofs.hand_image.Reads as hand-image-reads
 returns : tie.Need-returns
 returns c =
     let z = c .before .before .before .before in
-    step-left-alone refl (stepped-past (z .args .src .now) (z .args .s) (z .args .left) (z .args .last) (z .args .n) (c .if1 .taken))
+    step-left-alone refl (stepped-past (z .args .src .now) (storeIn (z .args .tree .now) (z .args .staging .now) (z .args .s)) (z .args .left) (z .args .last) (z .args .n) (c .if1 .taken))
 
 -- src/lib.rt:104:5
 hand-image-requires : tie.Need-hand-image-requires
@@ -39,7 +40,7 @@ same-length-2 c = search needs
 returns-2 : tie.Need-returns-2
 returns-2 c =
     let z = c .before .before .before .before .before .before .before .before .before .before .before .before .before .before in
-    step-gives (stepped-at (z .args .src .now) (z .args .s) (z .args .left) (z .args .last) (z .args .n) (c .before .before .before .before .before .before .before .before .before .before .if1 .left)) (c .before .before .before .before .before .before .before .hand-image .ensures) (c .before .before .hand-field .ensures)
+    step-gives (stepped-at (z .args .src .now) (storeIn (z .args .tree .now) (z .args .staging .now) (z .args .s)) (z .args .left) (z .args .last) (z .args .n) (c .before .before .before .before .before .before .before .before .before .before .if1 .left)) (c .before .before .before .before .before .before .before .hand-image .ensures) (c .before .before .hand-field .ensures)
 
 pub hand-step-spec : {M : Type 1} → statement M
 hand-step-spec =

@@ -14,25 +14,25 @@ enum-told-2 : tie.Need-enum-told-2
 enum-told-2 c = search needs
 
 other-case-requires : tie.Need-other-case-requires
-other-case-requires c κs = (c .before .before .before .before .pre .0 .sound .tree, (c .before .before .before .before .pre .1 .0, c .before .before .before .before .pre .1 .1 .sound))
+other-case-requires c κs = search needs
 
 enum-known-o : tie.Need-enum-known-o
 enum-known-o c = search needs
 
 apply-requires : tie.Need-apply-requires
-apply-requires c κs = can-rename (c .before .before .before .before .before .before .before .before .pre .0) (c .before .before .before .before .before .before .before .before .pre .1 .0) (found-named (c .before .before .before .other-case .ensures) (c .before .o .given .1)) (c .before .before .before .before .before .before .before .before .pre .1 .1)
+apply-requires c κs = can-rename (c .before .before .before .before .before .before .before .before .before .before .before .before .pre .0) (c .before .before .before .before .before .before .before .before .before .before .before .before .pre .1 .0) (found-named (c .before .before .before .before .before .other-case .ensures) (c .before .before .before .o .given .1)) (c .before .before .before .before .before .before .before .before .before .before .before .before .pre .1 .1)
 
 enum-told-3 : tie.Need-enum-told-3
 enum-told-3 c = search needs
 
 returns : tie.Need-returns
-returns c = standing (c .before .before .look .ensures) (c .before .before .before .before .pre .0) (c .enum-told .given .1)
+returns c = standing (c .before .before .look .ensures) (c .before .before .before .before .before .pre .0) (c .enum-told .given .1)
 
 returns-2 : tie.Need-returns-2
-returns-2 c = renamed (c .before .before .before .before .before .before .before .look .ensures) (c .before .before .before .before .before .enum-told2 .given .1) (c .before .before .before .before .other-case .ensures) (c .before .before .o .given .1) (c .apply .ensures)
+returns-2 c = renamed (c .before .before .before .before .before .before .before .before .before .before .look .ensures) (c .before .before .before .before .before .before .before .before .enum-told2 .given .1) (c .before .before .before .before .before .before .other-case .ensures) (c .before .before .before .before .o .given .1) (c .apply .ensures)
 
 returns-3 : tie.Need-returns-3
-returns-3 c = not-there (c .before .before .before .before .before .look .ensures) (c .before .before .before .enum-told2 .given .1) (c .before .before .other-case .ensures) (c .before .before .before .before .before .before .before .pre .0) (c .enum-told3 .given .1)
+returns-3 c = not-there (c .before .before .before .before .before .before .look .ensures) (c .before .before .before .before .enum-told2 .given .1) (c .before .before .other-case .ensures) (c .before .before .before .before .before .before .before .before .before .pre .0) (c .enum-told3 .given .1)
 
 pub ensure-normalized-on-disk-spec : {M : Type 1} → statement M
 ensure-normalized-on-disk-spec =

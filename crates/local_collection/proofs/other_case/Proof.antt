@@ -1,6 +1,7 @@
 -- `other_case` goes through the nodes until it finds a key of the directory that is the given one in another case.
 use mathlib.Core.Logic.{⊎-elim}
 use Prim.Native.Nat.{_-_}
+use Rattle.store.specs.Tables.{tableOf}
 use Rattle.local_collection.proofs.Listed.{Seeking, seeking, seeking-node, sought-past, sought-other, sought-found, sought-nothing}
 use borrow.Author.Needs.{needs}
 use native.Mathlib.Omega.{arith}
@@ -8,28 +9,25 @@ use Rattle.local_collection.proofs.other_case.Statement.{statement}
 use Rattle.local_collection.proofs.other_case.Tie as tie
 
 abbrev Inv-loop : tie.InvT-loop
-Inv-loop src dir key t n i₀ i = Seeking src t dir key i
+Inv-loop src t n dir key i₀ i = Seeking src (tableOf t n) dir key i
 
 abbrev μ-loop : tie.MeasureT-loop
-μ-loop src dir key t n i₀ i = n - i
+μ-loop src t n dir key i₀ i = n - i
 
 loop-holds : tie.Need-loop-holds Inv-loop μ-loop
 loop-holds c = seeking (c .before .pre .0) (c .before .pre .1 .0) (c .before .pre .1 .1)
 
-mul-x : tie.Need-mul-x Inv-loop μ-loop
-mul-x c = search needs
-
-element-copy-out-x : tie.Need-element-copy-out-x Inv-loop μ-loop
-element-copy-out-x c = search needs
+node-at-requires : tie.Need-node-at-requires Inv-loop μ-loop
+node-at-requires c κs = omega (arith, c .before .loop .inv .sound .sized .room)
 
 is-key-of-requires : tie.Need-is-key-of-requires Inv-loop μ-loop
-is-key-of-requires c κs = (seeking-node _ (c .before .before .loop .inv) (omega arith), c .before .before .loop .inv .dir-sound)
+is-key-of-requires c κs = (seeking-node (c .before .before .loop .inv) (c .node-at .ensures) (omega arith), c .before .before .loop .inv .dir-sound)
 
 lowers-to-requires : tie.Need-lowers-to-requires Inv-loop μ-loop
-lowers-to-requires c κs = (seeking-node _ (c .before .before .before .before .before .loop .inv) (omega arith) .file, c .before .before .before .before .before .loop .inv .key-sound)
+lowers-to-requires c κs = (seeking-node (c .before .before .before .before .before .loop .inv) (c .before .before .before .node-at .ensures) (omega arith) .file, c .before .before .before .before .before .loop .inv .key-sound)
 
 returns : tie.Need-returns Inv-loop μ-loop
-returns c = sought-found _ (c .before .before .before .before .before .before .before .loop .inv) (omega arith) (c .before .before .before .before .is-key-of .ensures) (c .before .lowers-to .ensures) (c .before .before .before .if1 .taken) (c .if2 .taken)
+returns c = sought-found (c .before .before .before .before .before .before .before .loop .inv) (c .before .before .before .before .before .node-at .ensures) (omega arith) (c .before .before .before .before .is-key-of .ensures) (c .before .lowers-to .ensures) (c .before .before .before .if1 .taken) (c .if2 .taken)
 
 add-i : tie.Need-add-i Inv-loop μ-loop
 add-i c = search needs
@@ -38,7 +36,7 @@ loop-less : tie.Need-loop-less Inv-loop μ-loop
 loop-less c = search needs
 
 loop-again : tie.Need-loop-again Inv-loop μ-loop
-loop-again c = ⊎-elim (λ w. sought-other _ (c .before .before .before .before .loop .inv) (omega arith) (c .before .is-key-of .ensures) (w .2 .ensures) (w .0 .taken) (w .3 .left)) (λ w. sought-past _ (c .before .before .before .before .loop .inv) (omega arith) (c .before .is-key-of .ensures) (w .left)) (c .if1 .came)
+loop-again c = ⊎-elim (λ w. sought-other (c .before .before .before .before .loop .inv) (c .before .before .node-at .ensures) (omega arith) (c .before .is-key-of .ensures) (w .2 .ensures) (w .0 .taken) (w .3 .left)) (λ w. sought-past (c .before .before .before .before .loop .inv) (c .before .before .node-at .ensures) (omega arith) (c .before .is-key-of .ensures) (w .left)) (c .if1 .came)
 
 returns-2 : tie.Need-returns-2 Inv-loop μ-loop
 returns-2 c = sought-nothing (c .before .loop .inv) (omega arith)
@@ -50,8 +48,7 @@ other-case-spec =
     Inv-loop
     μ-loop
     loop-holds
-    mul-x
-    element-copy-out-x
+    node-at-requires
     is-key-of-requires
     lowers-to-requires
     returns

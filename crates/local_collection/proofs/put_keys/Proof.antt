@@ -1,6 +1,7 @@
 -- `put_keys` goes through the nodes and writes a field for each key of the directory.
 use mathlib.Core.Logic.{⊎-elim}
 use Prim.Native.Nat.{_-_}
+use Rattle.store.specs.Tables.{tableOf}
 use Rattle.local_collection.proofs.Listed.{Listing, listing, listing-node, listed-past, listed-key, listed-all}
 use borrow.Author.Needs.{needs}
 use native.Mathlib.Omega.{arith}
@@ -8,25 +9,22 @@ use Rattle.local_collection.proofs.put_keys.Statement.{statement}
 use Rattle.local_collection.proofs.put_keys.Tie as tie
 
 abbrev Inv-loop : tie.InvT-loop
-Inv-loop src dir out₀ t n at₀ i₀ out at i = Listing src t dir out₀ out at i
+Inv-loop src t n dir out₀ at₀ i₀ out at i = Listing src (tableOf t n) dir out₀ out at i
 
 abbrev μ-loop : tie.MeasureT-loop
-μ-loop src dir out₀ t n at₀ i₀ out at i = n - i
+μ-loop src t n dir out₀ at₀ i₀ out at i = n - i
 
 loop-holds : tie.Need-loop-holds Inv-loop μ-loop
 loop-holds c = listing (c .before .before .pre .0 .0) (c .before .before .pre .0 .1) (c .before .before .pre .1)
 
-mul-x : tie.Need-mul-x Inv-loop μ-loop
-mul-x c = search needs
-
-element-copy-out-x : tie.Need-element-copy-out-x Inv-loop μ-loop
-element-copy-out-x c = search needs
+node-at-requires : tie.Need-node-at-requires Inv-loop μ-loop
+node-at-requires c κs = omega (arith, c .before .loop .inv .sound .sized .room)
 
 is-key-of-requires : tie.Need-is-key-of-requires Inv-loop μ-loop
-is-key-of-requires c κs = (listing-node _ (c .before .before .loop .inv) (omega arith), c .before .before .loop .inv .dir-sound)
+is-key-of-requires c κs = (listing-node (c .before .before .loop .inv) (c .node-at .ensures) (omega arith), c .before .before .loop .inv .dir-sound)
 
 put-key-requires : tie.Need-put-key-requires Inv-loop μ-loop
-put-key-requires c κs = listing-node _ (c .before .before .before .before .before .before .loop .inv) (omega arith) .file
+put-key-requires c κs = listing-node (c .before .before .before .before .before .before .loop .inv) (c .before .before .before .before .node-at .ensures) (omega arith) .file
 
 add-at : tie.Need-add-at Inv-loop μ-loop
 add-at c = omega (arith, c .before .before .before .before .before .before .before .before .before .loop .inv .small, c .before .before .before .before .before .before .before .before .before .loop .inv .within, c .before .before .before .before .before .before .before .before .before .loop .inv .sound .sized .room, c .before .before .put-key .ensures .small)
@@ -38,7 +36,7 @@ loop-less : tie.Need-loop-less Inv-loop μ-loop
 loop-less c = search needs
 
 loop-again : tie.Need-loop-again Inv-loop μ-loop
-loop-again c = ⊎-elim (λ w. listed-key _ (c .before .before .before .before .loop .inv) (omega arith) (c .before .is-key-of .ensures) (w .0 .taken) (w .3 .ensures) (w .6) (w .7)) (λ w. listed-past _ (c .before .before .before .before .loop .inv) (omega arith) (c .before .is-key-of .ensures) (w .0 .left) (w .1) (w .2)) (c .if1 .came)
+loop-again c = ⊎-elim (λ w. listed-key (c .before .before .before .before .loop .inv) (c .before .before .node-at .ensures) (omega arith) (c .before .is-key-of .ensures) (w .0 .taken) (w .3 .ensures) (w .6) (w .7)) (λ w. listed-past (c .before .before .before .before .loop .inv) (c .before .before .node-at .ensures) (omega arith) (c .before .is-key-of .ensures) (w .0 .left) (w .1) (w .2)) (c .if1 .came)
 
 same-length : tie.Need-same-length Inv-loop μ-loop
 same-length c = search needs
@@ -53,8 +51,7 @@ put-keys-spec =
     Inv-loop
     μ-loop
     loop-holds
-    mul-x
-    element-copy-out-x
+    node-at-requires
     is-key-of-requires
     put-key-requires
     add-at

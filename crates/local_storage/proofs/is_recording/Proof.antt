@@ -6,10 +6,10 @@ use Rattle.local_storage.proofs.is_recording.Statement.{statement}
 use Rattle.local_storage.proofs.is_recording.Tie as tie
 
 returns : tie.Need-returns
-returns c = no-mark (c .before .before .before .pre) (c .if1 .taken)
+returns c = no-mark (c .before .before .before .pre) (c .before .before .before .args .s .open_mark) (c .if1 .taken)
 
 returns-2 : tie.Need-returns-2
-returns-2 c = no-log (c .before .before .before .before .before .before .pre) (c .before .before .before .if1 .left) (c .if2 .taken)
+returns-2 c = no-log (c .before .before .before .before .before .before .pre) (c .before .before .before .before .before .before .args .s .open_mark) (c .before .before .before .if1 .left) (c .if2 .taken)
 
 wide-requires : tie.Need-wide-requires
 wide-requires c κs = search needs
@@ -42,13 +42,13 @@ enum-told-3 : tie.Need-enum-told-3
 enum-told-3 c = search needs
 
 returns-3 : tie.Need-returns-3
-returns-3 c = by-status (c .before .before .before .before .before .before .before .before .before .before .before .before .pre) (c .before .before .before .before .before .before .before .before .before .if1 .left) (c .before .before .before .before .before .before .if2 .left) (c .before .before .before .before .before .wide .ensures .0) (c .before .before .before .before .wide2 .ensures .0) refl (c .before .before .open-wal .ensures) (c .enum-told .given .1)
+returns-3 c = by-status (c .before .before .before .before .before .before .before .before .before .before .before .before .pre) (c .before .before .before .before .before .before .before .before .before .before .before .before .args .s .open_mark) (c .before .before .before .before .before .before .before .before .before .if1 .left) (c .before .before .before .before .before .before .if2 .left) (c .before .before .before .before .before .wide .ensures .0) (c .before .before .before .before .wide2 .ensures .0) refl (c .before .before .open-wal .ensures) (c .enum-told .given .1)
 
 returns-4 : tie.Need-returns-4
-returns-4 c = by-status (c .before .before .before .before .before .before .before .before .before .before .before .before .pre) (c .before .before .before .before .before .before .before .before .before .if1 .left) (c .before .before .before .before .before .before .if2 .left) (c .before .before .before .before .before .wide .ensures .0) (c .before .before .before .before .wide2 .ensures .0) refl (c .before .before .open-wal .ensures) (c .enum-told2 .given .1)
+returns-4 c = by-status (c .before .before .before .before .before .before .before .before .before .before .before .before .pre) (c .before .before .before .before .before .before .before .before .before .before .before .before .args .s .open_mark) (c .before .before .before .before .before .before .before .before .before .if1 .left) (c .before .before .before .before .before .before .if2 .left) (c .before .before .before .before .before .wide .ensures .0) (c .before .before .before .before .wide2 .ensures .0) refl (c .before .before .open-wal .ensures) (c .enum-told2 .given .1)
 
 returns-5 : tie.Need-returns-5
-returns-5 c = by-status (c .before .before .before .before .before .before .before .before .before .before .before .before .pre) (c .before .before .before .before .before .before .before .before .before .if1 .left) (c .before .before .before .before .before .before .if2 .left) (c .before .before .before .before .before .wide .ensures .0) (c .before .before .before .before .wide2 .ensures .0) refl (c .before .before .open-wal .ensures) (c .enum-told3 .given .1)
+returns-5 c = by-status (c .before .before .before .before .before .before .before .before .before .before .before .before .pre) (c .before .before .before .before .before .before .before .before .before .before .before .before .args .s .open_mark) (c .before .before .before .before .before .before .before .before .before .if1 .left) (c .before .before .before .before .before .before .if2 .left) (c .before .before .before .before .before .wide .ensures .0) (c .before .before .before .before .wide2 .ensures .0) refl (c .before .before .open-wal .ensures) (c .enum-told3 .given .1)
 
 pub is-recording-spec : {M : Type 1} → statement M
 is-recording-spec =

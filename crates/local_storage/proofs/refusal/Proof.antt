@@ -8,13 +8,13 @@ open-transaction-requires : tie.Need-open-transaction-requires
 open-transaction-requires c κs = search needs
 
 returns : tie.Need-returns
-returns c = no-transaction (c .before .before .open-transaction .ensures) (c .if1 .taken)
+returns c = λ tree staging. no-transaction (c .before .before .open-transaction .ensures tree staging) (c .if1 .taken)
 
 returns-2 : tie.Need-returns-2
-returns-2 c = full (c .before .before .before .before .before .open-transaction .ensures) (c .before .before .before .if1 .left) (c .if2 .taken)
+returns-2 c = λ tree staging. full (c .before .before .before .before .before .open-transaction .ensures tree staging) (c .before .before .before .if1 .left) (c .if2 .taken)
 
 returns-3 : tie.Need-returns-3
-returns-3 c = going-on (c .before .before .before .before .before .open-transaction .ensures) (c .before .before .before .if1 .left) (c .if2 .left)
+returns-3 c = λ tree staging. going-on (c .before .before .before .before .before .open-transaction .ensures tree staging) (c .before .before .before .if1 .left) (c .if2 .left)
 
 pub refusal-spec : {M : Type 1} → statement M
 refusal-spec = tie.close (tie.spec open-transaction-requires returns returns-2 returns-3)

@@ -1,5 +1,6 @@
 -- `back_up_dir`: a backup name of over 64 bytes is no step that could be made.
 use borrow.Author.Needs.{needs}
+use denote.Ref.{now}
 use Rattle.steps.specs.Steps.{stepOf}
 use Rattle.operations.proofs.Careful.{refused, long-dir}
 use Rattle.operations.proofs.back_up_dir.Statement.{statement}
@@ -13,7 +14,7 @@ enum-known-b c = search needs
 
 attempt-requires : tie.Need-attempt-requires
 unfolding stepOf
-attempt-requires c κs = (c .before .before .before .before .before .pre .0, record { names = (c .before .before .before .before .before .pre .1, (rw (c .before .b .given .1) at (c .before .before .before .backup .ensures)) .sound) })
+attempt-requires c κs = (c .before .before .before .before .before .before .before .pre .0, record { names = (c .before .before .before .before .before .before .before .pre .1, (rw (c .before .before .before .b .given .1) at (c .before .before .before .before .before .backup .ensures)) .sound) })
 
 enum-told : tie.Need-enum-told
 enum-told c = search needs
@@ -23,10 +24,10 @@ refuse-requires c κs = search needs
 
 returns : tie.Need-returns
 unfolding stepOf
-returns c = rw ((rw (c .before .before .b .given .1) at (c .before .before .before .before .backup .ensures)) .same) at (c .attempt .ensures)
+returns c = rw ((rw (c .before .before .before .before .b .given .1) at (c .before .before .before .before .before .before .backup .ensures)) .same) at (c .attempt .ensures)
 
 returns-2 : tie.Need-returns-2
-returns-2 c = refused (c .before .before .before .before .before .pre .0) (c .refuse .ensures _) _ (long-dir _ _ _ (rw (c .before .enum-told .given .1) at (c .before .before .before .backup .ensures)))
+returns-2 c = refused (c .before .before .before .before .before .pre .0) (c .refuse .ensures _ (now (c .before .before .before .before .before .args .tree)) (now (c .before .before .before .before .before .args .staging))) _ (long-dir _ _ _ (rw (c .before .enum-told .given .1) at (c .before .before .before .backup .ensures)))
 
 pub back-up-dir-spec : {M : Type 1} → statement M
 back-up-dir-spec =

@@ -14,7 +14,7 @@ back-up-requires : tie.Need-back-up-requires
 back-up-requires c κs = search needs
 
 returns : tie.Need-returns
-returns c = follows-as lawful (c .back-up .ensures) (file-kept _ _ _ (sym (c .before .before .exists .ensures) ∙ c .before .if1 .taken))
+returns c = follows-as lawful (c .back-up .ensures) (file-kept _ _ _ (sym (c .before .before .before .before .exists .ensures) ∙ c .before .before .before .if1 .taken))
 
 returns-2 : tie.Need-returns-2
 returns-2 c = stays lawful (c .before .before .before .before .before .pre .0) (no-file _ _ _ (sym (c .before .exists .ensures) ∙ c .if1 .left))

@@ -14,7 +14,7 @@ back-up-dir-requires : tie.Need-back-up-dir-requires
 back-up-dir-requires c κs = search needs
 
 returns : tie.Need-returns
-returns c = follows-as lawful (c .back-up-dir .ensures) (dir-kept _ _ (sym (c .before .before .dir-exists .ensures) ∙ c .before .if1 .taken))
+returns c = follows-as lawful (c .back-up-dir .ensures) (dir-kept _ _ (sym (c .before .before .before .before .dir-exists .ensures) ∙ c .before .before .before .if1 .taken))
 
 returns-2 : tie.Need-returns-2
 returns-2 c = stays lawful (c .before .before .before .before .before .pre .0) (no-dir _ _ (sym (c .before .dir-exists .ensures) ∙ c .if1 .left))

@@ -1,39 +1,35 @@
 -- `backup_all_files_in_dir` walks through the listing, and backs up each file of the directory.
 use borrow.Author.Needs.{needs}
 use native.Mathlib.Omega.{arith}
-use mathlib.Core.Path.{sym, _∙_}
-use mathlib.Core.Logic.{⊎-elim}
 use Prim.Native.Nat.{_-_}
-use Rattle.plans.specs.Listings.{atFile}
+use Rattle.model.specs.Store.{files}
 use Rattle.spans.specs.Spans.{nameOf}
-use Rattle.recovery.proofs.Nodes.{listed-named}
-use Rattle.recovery.proofs.Over.{Over, over-start, node, file-done, file-skip}
+use Rattle.store.specs.Tables.{tableOf, mapOf}
+use Rattle.steps.specs.CodeRuns.{runIn}
+use Rattle.recovery.proofs.Over.{Over, over-start, done}
 use Rattle.operations.proofs.Careful.{lawful}
 use Rattle.operations.specs.Parts.{backUpAll}
-use Rattle.operations.proofs.Each.{each, backUpFile, each-end}
+use Rattle.operations.proofs.Each.{each, backUpFile, each-name, each-end}
 use Rattle.operations.proofs.backup_all_files_in_dir.Statement.{statement}
 use Rattle.operations.proofs.backup_all_files_in_dir.Tie as tie
 
 abbrev Inv-loop : tie.InvT-loop
-Inv-loop src dir t n work₀ i₀ work i = Over lawful src (atFile (nameOf src dir) (each (backUpFile (nameOf src dir)))) t work₀ work i
+Inv-loop src tree₀ staging₀ dir listing n work₀ i₀ tree staging work i = Over lawful src (each (backUpFile (nameOf src dir))) listing n (files (nameOf src dir) (mapOf src (tableOf tree₀ (work₀ .store .tree)))) (runIn tree₀ staging₀ work₀) (runIn tree staging work) i
 
 abbrev μ-loop : tie.MeasureT-loop
-μ-loop src dir t n work₀ i₀ work i = n - i
+μ-loop src tree₀ staging₀ dir listing n work₀ i₀ tree staging work i = n - i
+
+list-files-requires : tie.Need-list-files-requires Inv-loop μ-loop
+list-files-requires c κs = (c .before .before .before .before .pre .0 .fits .sound .tree, c .before .before .before .before .pre .1)
 
 loop-holds : tie.Need-loop-holds Inv-loop μ-loop
-loop-holds c = over-start lawful (c .before .before .before .pre .0 .fits .sound .tree) (c .before .before .before .pre .0)
+loop-holds c = over-start lawful (c .list-files .ensures) (c .before .before .before .before .before .pre .0)
 
-mul-x : tie.Need-mul-x Inv-loop μ-loop
-mul-x c = search needs
-
-element-copy-out-x : tie.Need-element-copy-out-x Inv-loop μ-loop
-element-copy-out-x c = search needs
-
-is-file-of-requires : tie.Need-is-file-of-requires Inv-loop μ-loop
-is-file-of-requires c κs = (node lawful (c .before .before .loop .inv) _ (omega arith), c .before .before .before .before .before .before .pre .1)
+name-at-requires : tie.Need-name-at-requires Inv-loop μ-loop
+name-at-requires c κs = omega (arith, c .before .before .loop .inv .lists .room)
 
 back-up-requires : tie.Need-back-up-requires Inv-loop μ-loop
-back-up-requires c κs = (c .before .before .before .before .before .loop .inv .sound, (c .before .before .before .before .before .before .before .before .before .pre .1, listed-named _ _ (node lawful (c .before .before .before .before .before .loop .inv) _ (omega arith) .file) (sym (c .before .before .is-file-of .ensures) ∙ c .before .if1 .taken)))
+back-up-requires c κs = (c .before .before .before .before .before .loop .inv .sound, (c .before .before .before .before .before .before .before .before .before .before .before .pre .1, each-name _ _ (c .before .before .before .before .before .loop .inv) (c .before .before .name-at .ensures) (omega arith)))
 
 add-i : tie.Need-add-i Inv-loop μ-loop
 add-i c = search needs
@@ -42,7 +38,7 @@ loop-less : tie.Need-loop-less Inv-loop μ-loop
 loop-less c = search needs
 
 loop-again : tie.Need-loop-again Inv-loop μ-loop
-loop-again c = ⊎-elim (λ w. file-done lawful _ _ (c .before .before .before .before .loop .inv) _ (omega arith) _ (w .3) (sym (c .before .is-file-of .ensures) ∙ w .0 .taken) (w .2 .ensures)) (λ w. file-skip lawful _ _ (c .before .before .before .before .loop .inv) _ (omega arith) (w .1) (sym (c .before .is-file-of .ensures) ∙ w .0 .left)) (c .if1 .came)
+loop-again c = done lawful (c .before .before .before .before .before .before .loop .inv) (c .before .before .before .name-at .ensures) (omega arith) (c .back-up .ensures)
 
 returns : tie.Need-returns Inv-loop μ-loop
 unfolding backUpAll
@@ -54,10 +50,9 @@ backup-all-files-in-dir-spec =
     (tie.spec
     Inv-loop
     μ-loop
+    list-files-requires
     loop-holds
-    mul-x
-    element-copy-out-x
-    is-file-of-requires
+    name-at-requires
     back-up-requires
     add-i
     loop-less

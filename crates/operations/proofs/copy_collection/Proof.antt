@@ -23,7 +23,7 @@ copy-dir-contents-requires c κs = search needs
 
 returns : tie.Need-returns
 unfolding stepOf
-returns c = copied _ _ (c .before .before .before .before .before .before .back-up-standing-dir .ensures) (c .before .before .before .before .before .attempt .ensures) (follows-as lawful (c .copy-dir-contents .ensures) (source-copied _ _ _ (sym (c .before .before .dir-exists .ensures) ∙ c .before .if1 .taken)))
+returns c = copied _ _ (c .before .before .before .before .before .before .before .before .before .before .back-up-standing-dir .ensures) (c .before .before .before .before .before .before .before .attempt .ensures) (follows-as lawful (c .copy-dir-contents .ensures) (source-copied _ _ _ (sym (c .before .before .before .before .dir-exists .ensures) ∙ c .before .before .before .if1 .taken)))
 
 refuse-requires : tie.Need-refuse-requires
 refuse-requires c κs = search needs
@@ -32,7 +32,7 @@ returns-2 : tie.Need-returns-2
 unfolding stepOf
 returns-2 c =
     let gone = sym (c .before .before .dir-exists .ensures) ∙ c .before .if1 .left in
-    copied _ _ (c .before .before .before .before .before .before .back-up-standing-dir .ensures) (c .before .before .before .before .before .attempt .ensures) (follows-as lawful (refused (c .before .before .before .before .before .attempt .ensures .sound) (c .refuse .ensures _) _ (no-source _ _ _ gone)) (source-gone _ _ _ gone))
+    copied _ _ (c .before .before .before .before .before .before .before .before .back-up-standing-dir .ensures) (c .before .before .before .before .before .attempt .ensures) (follows-as lawful (refused (c .before .before .before .before .before .attempt .ensures .sound) (c .refuse .ensures _ (c .before .before .before .before .before .attempt .last .1 .0) (c .before .before .before .before .before .attempt .last .1 .1 .0)) _ (no-source _ _ _ gone)) (source-gone _ _ _ gone))
 
 pub copy-collection-spec : {M : Type 1} → statement M
 copy-collection-spec =

@@ -1,42 +1,38 @@
 -- `copy_dir_contents` walks through the listing, and copies each file of the directory.
 use borrow.Author.Needs.{needs}
 use native.Mathlib.Omega.{arith}
-use mathlib.Core.Path.{sym, _∙_}
-use mathlib.Core.Logic.{⊎-elim}
 use Prim.Native.Nat.{_-_}
+use Rattle.model.specs.Store.{files}
 use Rattle.model.specs.Step.{copyFile}
-use Rattle.plans.specs.Listings.{atFile}
 use Rattle.spans.specs.Spans.{nameOf}
+use Rattle.store.specs.Tables.{tableOf, mapOf}
 use Rattle.steps.specs.Steps.{stepOf}
-use Rattle.recovery.proofs.Nodes.{listed-named}
-use Rattle.recovery.proofs.Over.{Over, over-start, node, file-done, file-skip}
+use Rattle.steps.specs.CodeRuns.{runIn}
+use Rattle.recovery.proofs.Over.{Over, over-start, done}
 use Rattle.operations.proofs.Careful.{lawful}
 use Rattle.operations.specs.Parts.{copyAll}
-use Rattle.operations.proofs.Each.{each, each-end}
+use Rattle.operations.proofs.Each.{each, each-name, each-end}
 use Rattle.operations.proofs.copy_dir_contents.Statement.{statement}
 use Rattle.operations.proofs.copy_dir_contents.Tie as tie
 
 abbrev Inv-loop : tie.InvT-loop
-Inv-loop src from to t n work₀ i₀ work i = Over lawful src (atFile (nameOf src from) (each (copyFile (nameOf src from) (nameOf src to)))) t work₀ work i
+Inv-loop src tree₀ staging₀ from to listing n work₀ i₀ tree staging work i = Over lawful src (each (copyFile (nameOf src from) (nameOf src to))) listing n (files (nameOf src from) (mapOf src (tableOf tree₀ (work₀ .store .tree)))) (runIn tree₀ staging₀ work₀) (runIn tree staging work) i
 
 abbrev μ-loop : tie.MeasureT-loop
-μ-loop src from to t n work₀ i₀ work i = n - i
+μ-loop src tree₀ staging₀ from to listing n work₀ i₀ tree staging work i = n - i
+
+list-files-requires : tie.Need-list-files-requires Inv-loop μ-loop
+list-files-requires c κs = (c .before .before .before .before .pre .0 .fits .sound .tree, c .before .before .before .before .pre .1 .0)
 
 loop-holds : tie.Need-loop-holds Inv-loop μ-loop
-loop-holds c = over-start lawful (c .before .before .before .pre .0 .fits .sound .tree) (c .before .before .before .pre .0)
+loop-holds c = over-start lawful (c .list-files .ensures) (c .before .before .before .before .before .pre .0)
 
-mul-x : tie.Need-mul-x Inv-loop μ-loop
-mul-x c = search needs
-
-element-copy-out-x : tie.Need-element-copy-out-x Inv-loop μ-loop
-element-copy-out-x c = search needs
-
-is-file-of-requires : tie.Need-is-file-of-requires Inv-loop μ-loop
-is-file-of-requires c κs = (node lawful (c .before .before .loop .inv) _ (omega arith), c .before .before .before .before .before .before .pre .1 .0)
+name-at-requires : tie.Need-name-at-requires Inv-loop μ-loop
+name-at-requires c κs = omega (arith, c .before .before .loop .inv .lists .room)
 
 attempt-requires : tie.Need-attempt-requires Inv-loop μ-loop
 unfolding stepOf
-attempt-requires c κs = (c .before .before .before .before .before .loop .inv .sound, record { names = (c .before .before .before .before .before .before .before .before .before .pre .1 .0, (c .before .before .before .before .before .before .before .before .before .pre .1 .1, listed-named _ _ (node lawful (c .before .before .before .before .before .loop .inv) _ (omega arith) .file) (sym (c .before .before .is-file-of .ensures) ∙ c .before .if1 .taken))) })
+attempt-requires c κs = (c .before .before .before .before .before .loop .inv .sound, record { names = (c .before .before .before .before .before .before .before .before .before .before .before .pre .1 .0, (c .before .before .before .before .before .before .before .before .before .before .before .pre .1 .1, each-name _ _ (c .before .before .before .before .before .loop .inv) (c .before .before .name-at .ensures) (omega arith))) })
 
 add-i : tie.Need-add-i Inv-loop μ-loop
 add-i c = search needs
@@ -46,7 +42,7 @@ loop-less c = search needs
 
 loop-again : tie.Need-loop-again Inv-loop μ-loop
 unfolding stepOf
-loop-again c = ⊎-elim (λ w. file-done lawful _ _ (c .before .before .before .before .loop .inv) _ (omega arith) _ (w .3) (sym (c .before .is-file-of .ensures) ∙ w .0 .taken) (w .2 .ensures)) (λ w. file-skip lawful _ _ (c .before .before .before .before .loop .inv) _ (omega arith) (w .1) (sym (c .before .is-file-of .ensures) ∙ w .0 .left)) (c .if1 .came)
+loop-again c = done lawful (c .before .before .before .before .before .before .loop .inv) (c .before .before .before .name-at .ensures) (omega arith) (c .attempt .ensures)
 
 returns : tie.Need-returns Inv-loop μ-loop
 unfolding copyAll
@@ -58,10 +54,9 @@ copy-dir-contents-spec =
     (tie.spec
     Inv-loop
     μ-loop
+    list-files-requires
     loop-holds
-    mul-x
-    element-copy-out-x
-    is-file-of-requires
+    name-at-requires
     attempt-requires
     add-i
     loop-less

@@ -17,7 +17,7 @@ attempt-requires c κs = search needs
 
 returns : tie.Need-returns
 unfolding stepOf
-returns c = follows-as lawful (c .attempt .ensures) (dir-made _ _ (sym (c .before .before .dir-exists .ensures) ∙ not-true _ (c .before .if1 .taken)))
+returns c = follows-as lawful (c .attempt .ensures) (dir-made _ _ (sym (c .before .before .before .before .dir-exists .ensures) ∙ not-true _ (c .before .before .before .if1 .taken)))
 
 returns-2 : tie.Need-returns-2
 returns-2 c = stays lawful (c .before .before .before .before .before .pre .0) (dir-stands _ _ (sym (c .before .dir-exists .ensures) ∙ not-false _ (c .if1 .left)))

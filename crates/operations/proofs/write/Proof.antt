@@ -15,11 +15,11 @@ back-up-standing-requires : tie.Need-back-up-standing-requires
 back-up-standing-requires c κs = search needs
 
 attempt-requires : tie.Need-attempt-requires
-attempt-requires c κs = search needs
+attempt-requires c κs = (c .before .before .back-up-standing .ensures .sound, record { names = (c .before .before .before .before .before .before .before .before .before .pre .1 .1 .1, (c .before .before .before .before .before .before .before .before .before .pre .1 .0, c .before .before .before .before .before .before .before .before .before .pre .1 .1 .0)) })
 
 returns : tie.Need-returns
 unfolding stepOf
-returns c = follows-as lawful (follows-then lawful (follows-then lawful (c .before .before .make-missing .ensures) (c .before .back-up-standing .ensures)) (c .attempt .ensures)) (by-write _ _ _ _ (filled (c .before .before .before .before .pre .1 .1 .0)))
+returns c = follows-as lawful (follows-then lawful (follows-then lawful (c .before .before .before .before .before .before .make-missing .ensures) (c .before .before .before .back-up-standing .ensures)) (c .attempt .ensures)) (by-write _ _ _ _ (filled (c .before .before .before .before .before .before .before .before .before .before .pre .1 .1 .0)))
 
 pub write-spec : {M : Type 1} → statement M
 write-spec =

@@ -9,14 +9,14 @@ use Rattle.recovery.proofs.clean_up.Tie as tie
 
 advance-requires : tie.Need-advance-requires
 unfolding stepOf
-advance-requires c κs = ((c .before .pre, record { names = tt }), tt)
+advance-requires c κs = ((c .before .before .before .pre, record { names = tt }), tt)
 
 cleanup-staging-dir-requires : tie.Need-cleanup-staging-dir-requires
 cleanup-staging-dir-requires c κs = search needs
 
 returns : tie.Need-returns
 unfolding stepOf
-returns c = part-then (c .before .advance .ensures) (removeStagingFiles ∷ []) (last-part (c .cleanup-staging-dir .ensures))
+returns c = part-then (c .before .before .before .advance .ensures) (removeStagingFiles ∷ []) (last-part (c .cleanup-staging-dir .ensures))
 
 pub clean-up-spec : {M : Type 1} → statement M
 clean-up-spec = tie.close (tie.spec advance-requires cleanup-staging-dir-requires returns)

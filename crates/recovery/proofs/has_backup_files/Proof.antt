@@ -4,19 +4,19 @@ use native.Mathlib.Omega.{arith}
 use mathlib.Core.Path.{sym, _∙_}
 use Prim.Native.Nat.{_-_}
 use borrow.Author.Tests.{not-true, not-false}
-use Rattle.store.proofs.Live.{sound-at}
-use Rattle.recovery.proofs.Seek.{Seek, Inside, start, enter, moved, next, none-left, dir-hit, file-hit}
+use Rattle.store.specs.Tables.{tableOf}
+use Rattle.recovery.proofs.Seek.{Seek, Inside, start, node, enter, moved, next, none-left, dir-hit, file-hit}
 use Rattle.recovery.proofs.has_backup_files.Statement.{statement}
 use Rattle.recovery.proofs.has_backup_files.Tie as tie
 
 abbrev Inv-loop : tie.InvT-loop
-Inv-loop src t n found₀ i₀ dir found i = Inside src t dir i₀ found i
+Inv-loop src t n found₀ i₀ dir found i = Inside src (tableOf t n) dir i₀ found i
 
 abbrev μ-loop : tie.MeasureT-loop
 μ-loop src t n found₀ i₀ dir found i = n - i
 
 abbrev Inv-directories : tie.InvT-directories
-Inv-directories src t n found₀ i₀ found i = Seek src t found i
+Inv-directories src t n found₀ i₀ found i = Seek src (tableOf t n) found i
 
 abbrev μ-directories : tie.MeasureT-directories
 μ-directories src t n found₀ i₀ found i = n - i
@@ -24,17 +24,14 @@ abbrev μ-directories : tie.MeasureT-directories
 directories-holds : tie.Need-directories-holds Inv-loop μ-loop Inv-directories μ-directories
 directories-holds c = start (c .before .pre)
 
-mul-x : tie.Need-mul-x Inv-loop μ-loop Inv-directories μ-directories
-mul-x c = search needs
-
-element-copy-out-x : tie.Need-element-copy-out-x Inv-loop μ-loop Inv-directories μ-directories
-element-copy-out-x c = search needs
+node-at-requires : tie.Need-node-at-requires Inv-loop μ-loop Inv-directories μ-directories
+node-at-requires c κs = omega (arith, c .before .directories .inv .sound .sized .room)
 
 is-backup-requires : tie.Need-is-backup-requires Inv-loop μ-loop Inv-directories μ-directories
-is-backup-requires c κs = sound-at (c .before .before .before .directories .i) _ (c .before .before .before .directories .inv .sound) (omega arith) .dir
+is-backup-requires c κs = node (c .before .before .before .directories .inv) (c .before .node-at .ensures) (omega arith) .dir
 
 loop-holds : tie.Need-loop-holds Inv-loop μ-loop Inv-directories μ-directories
-loop-holds c = enter (c .before .before .before .before .before .directories .inv) _ (omega arith) (sym (c .before .is-backup .ensures) ∙ c .if1 .left)
+loop-holds c = enter (c .before .before .before .before .before .directories .inv) (c .before .before .before .node-at .ensures) (omega arith) (sym (c .before .is-backup .ensures) ∙ c .if1 .left)
 
 directories-less : tie.Need-directories-less Inv-loop μ-loop Inv-directories μ-directories
 directories-less c = omega arith
@@ -42,23 +39,20 @@ directories-less c = omega arith
 directories-again : tie.Need-directories-again Inv-loop μ-loop Inv-directories μ-directories
 directories-again c = c .before .loop .inv .seek
 
-mul-y : tie.Need-mul-y Inv-loop μ-loop Inv-directories μ-directories
-mul-y c = search needs
-
-element-copy-out-y : tie.Need-element-copy-out-y Inv-loop μ-loop Inv-directories μ-directories
-element-copy-out-y c = search needs
+node-at-requires-2 : tie.Need-node-at-requires-2 Inv-loop μ-loop Inv-directories μ-directories
+node-at-requires-2 c κs = omega (arith, c .before .loop .inv .seek .sound .sized .room)
 
 same-requires : tie.Need-same-requires Inv-loop μ-loop Inv-directories μ-directories
-same-requires c κs = (c .before .before .before .before .loop .inv .sound, sound-at (c .before .before .before .before .loop .i) _ (c .before .before .before .before .loop .inv .seek .sound) (omega arith) .dir)
+same-requires c κs = (c .before .before .before .before .loop .inv .sound, node (c .before .before .before .before .loop .inv .seek) (c .before .before .node-at2 .ensures) (omega arith) .dir)
 
 directories-less-2 : tie.Need-directories-less-2 Inv-loop μ-loop Inv-directories μ-directories
-directories-less-2 c = omega (arith, moved (c .before .before .before .before .before .before .loop .inv) _ (sym (c .before .same .ensures) ∙ not-true _ (c .if2 .taken)))
+directories-less-2 c = omega (arith, moved (c .before .before .before .before .before .before .loop .inv) (c .before .before .before .before .node-at2 .ensures) (sym (c .before .same .ensures) ∙ not-true _ (c .if2 .taken)))
 
 directories-again-2 : tie.Need-directories-again-2 Inv-loop μ-loop Inv-directories μ-directories
 directories-again-2 c = c .before .before .before .before .before .before .loop .inv .seek
 
 is-backup-requires-2 : tie.Need-is-backup-requires-2 Inv-loop μ-loop Inv-directories μ-directories
-is-backup-requires-2 c κs = sound-at (c .before .before .before .before .before .before .loop .i) _ (c .before .before .before .before .before .before .loop .inv .seek .sound) (omega arith) .file
+is-backup-requires-2 c κs = node (c .before .before .before .before .before .before .loop .inv .seek) (c .before .before .before .before .node-at2 .ensures) (omega arith) .file
 
 add-i : tie.Need-add-i Inv-loop μ-loop Inv-directories μ-directories
 add-i c = search needs
@@ -67,16 +61,16 @@ loop-less : tie.Need-loop-less Inv-loop μ-loop Inv-directories μ-directories
 loop-less c = search needs
 
 loop-again : tie.Need-loop-again Inv-loop μ-loop Inv-directories μ-directories
-loop-again c = next (c .before .before .before .before .before .before .before .before .loop .inv) _ (omega arith) (sym (c .before .before .before .same .ensures) ∙ not-false _ (c .before .before .if2 .left)) (sym (c .before .is-backup2 .ensures) ∙ c .if3 .left)
+loop-again c = next (c .before .before .before .before .before .before .before .before .loop .inv) (c .before .before .before .before .before .before .node-at2 .ensures) (omega arith) (sym (c .before .before .before .same .ensures) ∙ not-false _ (c .before .before .if2 .left)) (sym (c .before .is-backup2 .ensures) ∙ c .if3 .left)
 
 returns : tie.Need-returns Inv-loop μ-loop Inv-directories μ-directories
 returns c = none-left (c .before .directories .inv) (omega arith)
 
 returns-2 : tie.Need-returns-2 Inv-loop μ-loop Inv-directories μ-directories
-returns-2 c = dir-hit (c .before .before .before .before .before .directories .inv) _ (omega arith) (sym (c .before .is-backup .ensures) ∙ c .if1 .taken)
+returns-2 c = dir-hit (c .before .before .before .before .before .directories .inv) (c .before .before .before .node-at .ensures) (omega arith) (sym (c .before .is-backup .ensures) ∙ c .if1 .taken)
 
 returns-3 : tie.Need-returns-3 Inv-loop μ-loop Inv-directories μ-directories
-returns-3 c = file-hit (c .before .before .before .before .before .before .before .before .loop .inv .seek) _ (omega arith) (sym (c .before .is-backup2 .ensures) ∙ c .if3 .taken)
+returns-3 c = file-hit (c .before .before .before .before .before .before .before .before .loop .inv .seek) (c .before .before .before .before .before .before .node-at2 .ensures) (omega arith) (sym (c .before .is-backup2 .ensures) ∙ c .if3 .taken)
 
 pub has-backup-files-spec : {M : Type 1} → statement M
 has-backup-files-spec =
@@ -87,14 +81,12 @@ has-backup-files-spec =
     Inv-directories
     μ-directories
     directories-holds
-    mul-x
-    element-copy-out-x
+    node-at-requires
     is-backup-requires
     loop-holds
     directories-less
     directories-again
-    mul-y
-    element-copy-out-y
+    node-at-requires-2
     same-requires
     directories-less-2
     directories-again-2

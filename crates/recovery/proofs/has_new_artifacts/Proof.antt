@@ -3,16 +3,16 @@ use borrow.Author.Needs.{needs}
 use native.Mathlib.Omega.{arith}
 use mathlib.Core.Path.{sym, _∙_}
 use Prim.Native.Nat.{_-_}
-use Rattle.store.specs.Tables.{mapOf}
+use Rattle.store.specs.Tables.{tableOf, mapOf}
 use Rattle.recovery.proofs.Entries.{op-at, Among, among-start, new-found, not-new, none-new}
 use Rattle.recovery.proofs.has_new_artifacts.Statement.{statement}
 use Rattle.recovery.proofs.has_new_artifacts.Tie as tie
 
 abbrev Inv-loop : tie.InvT-loop
-Inv-loop src t w n i₀ i = Among src (mapOf src t) w i
+Inv-loop src t n w k i₀ i = Among src (mapOf src (tableOf t n)) w i
 
 abbrev μ-loop : tie.MeasureT-loop
-μ-loop src t w n i₀ i = n - i
+μ-loop src t n w k i₀ i = k - i
 
 loop-holds : tie.Need-loop-holds Inv-loop μ-loop
 loop-holds c = among-start _ (c .before .pre .1)

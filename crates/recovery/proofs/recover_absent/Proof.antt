@@ -16,7 +16,7 @@ cleanup-staging-dir-requires : tie.Need-cleanup-staging-dir-requires
 cleanup-staging-dir-requires c κs = search needs
 
 returns : tie.Need-returns
-returns c = part-then (c .before .before .delete-all-backup-files .ensures) (removeStandingLog ∷ removeStagingFiles ∷ []) (part-then (c .before .remove-log .ensures) (removeStagingFiles ∷ []) (last-part (c .cleanup-staging-dir .ensures)))
+returns c = part-then (c .before .before .before .before .before .before .delete-all-backup-files .ensures) (removeStandingLog ∷ removeStagingFiles ∷ []) (part-then (c .before .before .before .remove-log .ensures) (removeStagingFiles ∷ []) (last-part (c .cleanup-staging-dir .ensures)))
 
 pub recover-absent-spec : {M : Type 1} → statement M
 recover-absent-spec =

@@ -21,10 +21,10 @@ clean-up-requires-2 : tie.Need-clean-up-requires-2
 clean-up-requires-2 c κs = search needs
 
 returns : tie.Need-returns
-returns c = rw (c .before .before .enum-told .given .1) (undone-then _ (c .before .undo-all .ensures) ((λ s. removeLog ∷ []) ∷ removeStagingFiles ∷ []) (c .clean-up .ensures))
+returns c = rw (c .before .before .before .before .before .before .enum-told .given .1) (undone-then _ (c .before .before .before .undo-all .ensures) ((λ s. removeLog ∷ []) ∷ removeStagingFiles ∷ []) (c .clean-up .ensures))
 
 returns-2 : tie.Need-returns-2
-returns-2 c = follows-as lawful (c .clean-up2 .ensures) (only-cleaned _ (c .before .before .before .args .w .ending) _ (c .before .match .keys2))
+returns-2 c = follows-as lawful (c .clean-up2 .ensures) (only-cleaned _ (c .before .before .before .before .before .args .w .ending) _ (c .before .before .before .match .keys2))
 
 pub recover-committing-spec : {M : Type 1} → statement M
 recover-committing-spec =

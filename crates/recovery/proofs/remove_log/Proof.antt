@@ -7,11 +7,11 @@ use Rattle.recovery.proofs.remove_log.Tie as tie
 
 advance-requires : tie.Need-advance-requires
 unfolding stepOf
-advance-requires c κs = ((c .before .before .before .before .pre, record { names = tt }), tt)
+advance-requires c κs = ((c .before .before .before .before .before .before .pre, record { names = tt }), tt)
 
 returns : tie.Need-returns
 unfolding stepOf
-returns c = follows-as lawful (c .advance .ensures) (log-gone _ _ (c .before .if1 .taken))
+returns c = follows-as lawful (c .advance .ensures) (log-gone _ _ (c .before .before .before .if1 .taken))
 
 returns-2 : tie.Need-returns-2
 returns-2 c = stays lawful (c .before .before .before .before .pre) (no-log _ _ (c .if1 .left))

@@ -1,37 +1,34 @@
 -- `restore_bak_files_in_dir` walks through the listing, and restores each file of the directory.
 use borrow.Author.Needs.{needs}
 use native.Mathlib.Omega.{arith}
-use mathlib.Core.Path.{sym, _∙_}
-use mathlib.Core.Logic.{⊎-elim}
 use Prim.Native.Nat.{_-_}
+use Rattle.model.specs.Store.{files}
 use Rattle.model.specs.Plan.{restoreFile}
-use Rattle.plans.specs.Listings.{atFile}
 use Rattle.spans.specs.Spans.{nameOf}
+use Rattle.store.specs.Tables.{tableOf, mapOf}
+use Rattle.steps.specs.CodeRuns.{runIn}
 use Rattle.recovery.proofs.Follow.{lawful}
-use Rattle.recovery.proofs.Over.{Over, over-start, node, file-done, file-skip, files-end}
+use Rattle.recovery.proofs.Over.{Over, over-start, name, done, files-end}
 use Rattle.recovery.proofs.restore_bak_files_in_dir.Statement.{statement}
 use Rattle.recovery.proofs.restore_bak_files_in_dir.Tie as tie
 
 abbrev Inv-loop : tie.InvT-loop
-Inv-loop src dir t n work₀ i₀ work i = Over lawful src (atFile (nameOf src dir) (restoreFile (nameOf src dir))) t work₀ work i
+Inv-loop src tree₀ staging₀ dir listing n work₀ i₀ tree staging work i = Over lawful src (restoreFile (nameOf src dir)) listing n (files (nameOf src dir) (mapOf src (tableOf tree₀ (work₀ .store .tree)))) (runIn tree₀ staging₀ work₀) (runIn tree staging work) i
 
 abbrev μ-loop : tie.MeasureT-loop
-μ-loop src dir t n work₀ i₀ work i = n - i
+μ-loop src tree₀ staging₀ dir listing n work₀ i₀ tree staging work i = n - i
+
+list-files-requires : tie.Need-list-files-requires Inv-loop μ-loop
+list-files-requires c κs = (c .before .before .before .before .pre .0 .fits .sound .tree, c .before .before .before .before .pre .1)
 
 loop-holds : tie.Need-loop-holds Inv-loop μ-loop
-loop-holds c = over-start lawful (c .before .before .before .pre .0 .fits .sound .tree) (c .before .before .before .pre .0)
+loop-holds c = over-start lawful (c .list-files .ensures) (c .before .before .before .before .before .pre .0)
 
-mul-x : tie.Need-mul-x Inv-loop μ-loop
-mul-x c = search needs
-
-element-copy-out-x : tie.Need-element-copy-out-x Inv-loop μ-loop
-element-copy-out-x c = search needs
-
-is-file-of-requires : tie.Need-is-file-of-requires Inv-loop μ-loop
-is-file-of-requires c κs = (node lawful (c .before .before .loop .inv) _ (omega arith), c .before .before .before .before .before .before .pre .1)
+name-at-requires : tie.Need-name-at-requires Inv-loop μ-loop
+name-at-requires c κs = omega (arith, c .before .before .loop .inv .lists .room)
 
 restore-file-requires : tie.Need-restore-file-requires Inv-loop μ-loop
-restore-file-requires c κs = (c .before .before .before .before .before .loop .inv .sound, (c .before .before .before .before .before .before .before .before .before .pre .1, node lawful (c .before .before .before .before .before .loop .inv) _ (omega arith) .file))
+restore-file-requires c κs = (c .before .before .before .before .before .loop .inv .sound, (c .before .before .before .before .before .before .before .before .before .before .before .pre .1, name lawful (c .before .before .before .before .before .loop .inv) (c .before .before .name-at .ensures) (omega arith)))
 
 add-i : tie.Need-add-i Inv-loop μ-loop
 add-i c = search needs
@@ -40,7 +37,7 @@ loop-less : tie.Need-loop-less Inv-loop μ-loop
 loop-less c = search needs
 
 loop-again : tie.Need-loop-again Inv-loop μ-loop
-loop-again c = ⊎-elim (λ w. file-done lawful _ _ (c .before .before .before .before .loop .inv) _ (omega arith) _ (w .3) (sym (c .before .is-file-of .ensures) ∙ w .0 .taken) (w .2 .ensures)) (λ w. file-skip lawful _ _ (c .before .before .before .before .loop .inv) _ (omega arith) (w .1) (sym (c .before .is-file-of .ensures) ∙ w .0 .left)) (c .if1 .came)
+loop-again c = done lawful (c .before .before .before .before .before .before .loop .inv) (c .before .before .before .name-at .ensures) (omega arith) (c .restore-file .ensures)
 
 returns : tie.Need-returns Inv-loop μ-loop
 returns c = files-end restoreFile _ (c .before .loop .inv) (omega arith)
@@ -51,10 +48,9 @@ restore-bak-files-in-dir-spec =
     (tie.spec
     Inv-loop
     μ-loop
+    list-files-requires
     loop-holds
-    mul-x
-    element-copy-out-x
-    is-file-of-requires
+    name-at-requires
     restore-file-requires
     add-i
     loop-less

@@ -13,7 +13,7 @@ rollback-partial-commit-requires c κs = search needs
 
 returns : tie.Need-returns
 unfolding undoAll
-returns c = follows-then lawful (c .before .remove-new-artifacts .ensures) (c .rollback-partial-commit .ensures)
+returns c = follows-then lawful (c .before .before .before .remove-new-artifacts .ensures) (c .rollback-partial-commit .ensures)
 
 pub undo-all-spec : {M : Type 1} → statement M
 undo-all-spec =

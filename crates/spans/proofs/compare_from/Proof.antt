@@ -6,7 +6,7 @@ use lib.ListN.{drop}
 use Prim.Native.Nat.{_-_}
 use Rattle.model.specs.Order.{cmpName}
 use Rattle.spans.specs.Spans.{nameOf}
-use Rattle.spans.proofs.Walk.{Walk, less, greater, next, short, long, both}
+use Rattle.spans.proofs.Walk.{Walk, begun, less, greater, next, short, long, both}
 use Rattle.spans.proofs.compare_from.Statement.{statement}
 use Rattle.spans.proofs.compare_from.Tie as tie
 
@@ -23,7 +23,7 @@ length-of-requires-2 : tie.Need-length-of-requires-2 Inv-loop μ-loop
 length-of-requires-2 c κs = search needs
 
 loop-holds : tie.Need-loop-holds Inv-loop μ-loop
-loop-holds c = record { left-sound = c .before .before .before .pre .0 .0; right-sound = c .before .before .before .pre .0 .1; in-left = omega arith; in-right = omega arith; same = refl }
+loop-holds c = begun (c .before .before .before .pre .0 .0) (c .before .before .before .pre .0 .1) (omega arith) (omega arith) refl
 
 returns : tie.Need-returns Inv-loop μ-loop
 returns c = long (c .before .before .loop .inv) (omega arith) (omega arith)

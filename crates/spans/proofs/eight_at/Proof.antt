@@ -4,14 +4,14 @@ use Rattle.spans.proofs.Eights.{eight-there}
 use Rattle.spans.proofs.eight_at.Statement.{statement}
 use Rattle.spans.proofs.eight_at.Tie as tie
 
+add-four-at : tie.Need-add-four-at
+add-four-at c = search needs
+
 four-at-requires : tie.Need-four-at-requires
 four-at-requires c κs = search needs
 
 cast-result : tie.Need-cast-result
 cast-result c = search needs
-
-add-four-at : tie.Need-add-four-at
-add-four-at c = search needs
 
 four-at-requires-2 : tie.Need-four-at-requires-2
 four-at-requires-2 c κs = search needs
@@ -32,9 +32,9 @@ pub eight-at-spec : {M : Type 1} → statement M
 eight-at-spec =
     tie.close
     (tie.spec
+    add-four-at
     four-at-requires
     cast-result
-    add-four-at
     four-at-requires-2
     cast-result-2
     mul-result

@@ -1,27 +1,27 @@
--- `four_at` reads four bytes.
+-- `four_at` reads four bytes, the last first.
 use borrow.Author.Needs.{needs}
 use mathlib.Core.Path.{_∙_}
 use Rattle.spans.proofs.Eights.{four-there}
 use Rattle.spans.proofs.four_at.Statement.{statement}
 use Rattle.spans.proofs.four_at.Tie as tie
 
-shared-slice-read-le32 : tie.Need-shared-slice-read-le32
-shared-slice-read-le32 c = search needs
-
 add-le32 : tie.Need-add-le32
 add-le32 c = search needs
 
-shared-slice-read-le32-2 : tie.Need-shared-slice-read-le32-2
-shared-slice-read-le32-2 c = search needs
+shared-slice-read-le32 : tie.Need-shared-slice-read-le32
+shared-slice-read-le32 c = search needs
 
 add-le32-2 : tie.Need-add-le32-2
 add-le32-2 c = search needs
 
-shared-slice-read-le32-3 : tie.Need-shared-slice-read-le32-3
-shared-slice-read-le32-3 c = search needs
+shared-slice-read-le32-2 : tie.Need-shared-slice-read-le32-2
+shared-slice-read-le32-2 c = search needs
 
 add-le32-3 : tie.Need-add-le32-3
 add-le32-3 c = search needs
+
+shared-slice-read-le32-3 : tie.Need-shared-slice-read-le32-3
+shared-slice-read-le32-3 c = search needs
 
 shared-slice-read-le32-4 : tie.Need-shared-slice-read-le32-4
 shared-slice-read-le32-4 c = search needs
@@ -36,12 +36,12 @@ pub four-at-spec : {M : Type 1} → statement M
 four-at-spec =
     tie.close
     (tie.spec
-    shared-slice-read-le32
     add-le32
-    shared-slice-read-le32-2
+    shared-slice-read-le32
     add-le32-2
-    shared-slice-read-le32-3
+    shared-slice-read-le32-2
     add-le32-3
+    shared-slice-read-le32-3
     shared-slice-read-le32-4
     le32-requires
     returns)

@@ -18,7 +18,7 @@ one-less-requires : tie.Need-one-less-requires
 one-less-requires c κs = search needs
 
 returns-3 : tie.Need-returns-3
-returns-3 c = done (c .before .before .before .before .before .pre .0 .0) (c .before .before .before .before .before .pre .0 .1) (c .before .before .before .if1 .left) (c .before .apply .ensures) (c .one-less .ensures) (⊎-elim (λ w. inl (w .0 .taken, w .1 .left)) (λ w. inr (w .left)) (c .before .before .if2 .came))
+returns-3 c = done (c .before .before .before .before .before .before .before .pre .0 .0) (c .before .before .before .before .before .before .before .pre .0 .1) (c .before .before .before .before .before .if1 .left) (c .before .apply .ensures) (c .one-less .ensures) (⊎-elim (λ w. inl (w .0 .taken, w .1 .left)) (λ w. inr (w .left)) (c .before .before .before .before .if2 .came))
 
 pub advance-spec : {M : Type 1} → statement M
 advance-spec = tie.close (tie.spec returns returns-2 apply-requires one-less-requires returns-3)

@@ -31,7 +31,7 @@ empty-requires : tie.Need-empty-requires
 empty-requires c κs = search needs
 
 put-in-requires : tie.Need-put-in-requires
-put-in-requires c κs = ((c .before .before .before .before .before .pre .0 .0 .sound .tree, (names-of (c .before .before .before .before .before .pre .0 .1) (c .before .before .x .given .1), c .empty .ensures _ .sound)), room (c .before .before .before .before .before .pre .0 .0 .within))
+put-in-requires c κs = ((c .before .before .before .before .before .before .pre .0 .0 .sound .tree, (names-of (c .before .before .before .before .before .before .pre .0 .1) (c .before .before .before .x .given .1), c .empty .ensures _ .sound)), room (c .before .before .before .before .before .before .pre .0 .0 .within))
 
 with-tree-requires : tie.Need-with-tree-requires
 with-tree-requires c κs = search needs
@@ -40,7 +40,7 @@ enum-known-x-2 : tie.Need-enum-known-x-2
 enum-known-x-2 c = search needs
 
 rename-file-requires : tie.Need-rename-file-requires
-rename-file-requires c κs = ((c .before .before .before .before .pre .0 .0 .sound .tree, names-of (c .before .before .before .before .pre .0 .1) (c .before .x2 .given .1) .0), (names-of (c .before .before .before .before .pre .0 .1) (c .before .x2 .given .1) .1 .0 .sound, names-of (c .before .before .before .before .pre .0 .1) (c .before .x2 .given .1) .1 .1 .sound))
+rename-file-requires c κs = (((c .before .before .before .before .before .pre .0 .0 .sound .tree, names-of (c .before .before .before .before .before .pre .0 .1) (c .before .before .x2 .given .1) .0), (names-of (c .before .before .before .before .before .pre .0 .1) (c .before .before .x2 .given .1) .1 .0 .sound, names-of (c .before .before .before .before .before .pre .0 .1) (c .before .before .x2 .given .1) .1 .1 .sound)), room (c .before .before .before .before .before .pre .0 .0 .within))
 
 with-tree-requires-2 : tie.Need-with-tree-requires-2
 with-tree-requires-2 c κs = search needs
@@ -51,8 +51,11 @@ enum-known-x-3 c = search needs
 empty-requires-2 : tie.Need-empty-requires-2
 empty-requires-2 c κs = search needs
 
+look-requires : tie.Need-look-requires
+look-requires c κs = (c .before .before .before .before .before .before .pre .0 .0 .sound .staging, (c .empty2 .ensures _ .sound, names-of (c .before .before .before .before .before .before .pre .0 .1) (c .before .before .before .x3 .given .1) .0))
+
 put-held-requires : tie.Need-put-held-requires
-put-held-requires c κs = (((c .before .before .before .before .before .pre .0 .0 .sound .tree, c .before .before .before .before .before .pre .0 .0 .sound .staging), room (c .before .before .before .before .before .pre .0 .0 .within)), ((c .empty2 .ensures _ .sound, names-of (c .before .before .before .before .before .pre .0 .1) (c .before .before .x3 .given .1) .0), (names-of (c .before .before .before .before .before .pre .0 .1) (c .before .before .x3 .given .1) .1 .0, names-of (c .before .before .before .before .before .pre .0 .1) (c .before .before .x3 .given .1) .1 .1 .sound)))
+put-held-requires c κs = ((c .before .before .before .before .before .before .before .before .pre .0 .0 .sound .tree, (names-of (c .before .before .before .before .before .before .before .before .pre .0 .1) (c .before .before .before .before .before .x3 .given .1) .1 .0, names-of (c .before .before .before .before .before .before .before .before .pre .0 .1) (c .before .before .before .before .before .x3 .given .1) .1 .1 .sound)), room (c .before .before .before .before .before .before .before .before .pre .0 .0 .within))
 
 with-tree-requires-3 : tie.Need-with-tree-requires-3
 with-tree-requires-3 c κs = search needs
@@ -61,7 +64,7 @@ empty-requires-3 : tie.Need-empty-requires-3
 empty-requires-3 c κs = search needs
 
 del-requires : tie.Need-del-requires
-del-requires c κs = (c .before .before .before .before .before .before .before .before .pre .0 .0 .sound .staging, (c .empty3 .ensures _ .sound, names-of (c .before .before .before .before .before .before .before .before .pre .0 .1) (c .before .before .before .before .before .x3 .given .1) .0))
+del-requires c κs = (c .before .before .before .before .before .before .before .before .before .before .before .before .pre .0 .0 .sound .staging, (c .empty3 .ensures _ .sound, names-of (c .before .before .before .before .before .before .before .before .before .before .before .before .pre .0 .1) (c .before .before .before .before .before .before .before .before .before .x3 .given .1) .0))
 
 with-staging-requires : tie.Need-with-staging-requires
 with-staging-requires c κs = search needs
@@ -70,7 +73,7 @@ enum-known-x-4 : tie.Need-enum-known-x-4
 enum-known-x-4 c = search needs
 
 rename-dir-requires : tie.Need-rename-dir-requires
-rename-dir-requires c κs = (c .before .before .before .before .pre .0 .0 .sound .tree, names-of (c .before .before .before .before .pre .0 .1) (c .before .x4 .given .1))
+rename-dir-requires c κs = (c .before .before .before .before .before .pre .0 .0 .sound .tree, names-of (c .before .before .before .before .before .pre .0 .1) (c .before .before .x4 .given .1))
 
 with-tree-requires-4 : tie.Need-with-tree-requires-4
 with-tree-requires-4 c κs = search needs
@@ -78,8 +81,11 @@ with-tree-requires-4 c κs = search needs
 enum-known-x-5 : tie.Need-enum-known-x-5
 enum-known-x-5 c = search needs
 
+look-requires-2 : tie.Need-look-requires-2
+look-requires-2 c κs = (c .before .before .before .before .before .pre .0 .0 .sound .tree, (names-of (c .before .before .before .before .before .pre .0 .1) (c .before .before .x5 .given .1) .0, names-of (c .before .before .before .before .before .pre .0 .1) (c .before .before .x5 .given .1) .1 .1 .sound))
+
 put-held-requires-2 : tie.Need-put-held-requires-2
-put-held-requires-2 c κs = (((c .before .before .before .before .pre .0 .0 .sound .tree, c .before .before .before .before .pre .0 .0 .sound .tree), room (c .before .before .before .before .pre .0 .0 .within)), ((names-of (c .before .before .before .before .pre .0 .1) (c .before .x5 .given .1) .0, names-of (c .before .before .before .before .pre .0 .1) (c .before .x5 .given .1) .1 .1 .sound), (names-of (c .before .before .before .before .pre .0 .1) (c .before .x5 .given .1) .1 .0, names-of (c .before .before .before .before .pre .0 .1) (c .before .x5 .given .1) .1 .1 .sound)))
+put-held-requires-2 c κs = ((c .before .before .before .before .before .before .before .pre .0 .0 .sound .tree, (names-of (c .before .before .before .before .before .before .before .pre .0 .1) (c .before .before .before .before .x5 .given .1) .1 .0, names-of (c .before .before .before .before .before .before .before .pre .0 .1) (c .before .before .before .before .x5 .given .1) .1 .1 .sound)), room (c .before .before .before .before .before .before .before .pre .0 .0 .within))
 
 with-tree-requires-5 : tie.Need-with-tree-requires-5
 with-tree-requires-5 c κs = search needs
@@ -88,7 +94,7 @@ enum-known-x-6 : tie.Need-enum-known-x-6
 enum-known-x-6 c = search needs
 
 del-requires-2 : tie.Need-del-requires-2
-del-requires-2 c κs = (c .before .before .before .before .pre .0 .0 .sound .tree, names-of (c .before .before .before .before .pre .0 .1) (c .before .x6 .given .1))
+del-requires-2 c κs = (c .before .before .before .before .before .pre .0 .0 .sound .tree, names-of (c .before .before .before .before .before .pre .0 .1) (c .before .before .x6 .given .1))
 
 with-tree-requires-6 : tie.Need-with-tree-requires-6
 with-tree-requires-6 c κs = search needs
@@ -97,7 +103,7 @@ enum-known-x-7 : tie.Need-enum-known-x-7
 enum-known-x-7 c = search needs
 
 remove-dir-requires : tie.Need-remove-dir-requires
-remove-dir-requires c κs = (c .before .before .before .before .pre .0 .0 .sound .tree, names-of (c .before .before .before .before .pre .0 .1) (c .before .x7 .given .1))
+remove-dir-requires c κs = (c .before .before .before .before .before .pre .0 .0 .sound .tree, names-of (c .before .before .before .before .before .pre .0 .1) (c .before .before .x7 .given .1))
 
 with-tree-requires-7 : tie.Need-with-tree-requires-7
 with-tree-requires-7 c κs = search needs
@@ -109,7 +115,7 @@ empty-requires-4 : tie.Need-empty-requires-4
 empty-requires-4 c κs = search needs
 
 del-requires-3 : tie.Need-del-requires-3
-del-requires-3 c κs = (c .before .before .before .before .before .pre .0 .0 .sound .staging, (c .empty4 .ensures _ .sound, names-of (c .before .before .before .before .before .pre .0 .1) (c .before .before .x8 .given .1)))
+del-requires-3 c κs = (c .before .before .before .before .before .before .pre .0 .0 .sound .staging, (c .empty4 .ensures _ .sound, names-of (c .before .before .before .before .before .before .pre .0 .1) (c .before .before .before .x8 .given .1)))
 
 with-staging-requires-2 : tie.Need-with-staging-requires-2
 with-staging-requires-2 c κs = search needs
@@ -121,28 +127,28 @@ returns-2 : tie.Need-returns-2
 returns-2 c = unlogs (c .before .before .before .before .before .pre) (c .with-log2 .ensures) (c .before .before .enum-told2 .given .1) (c .before .removed .ensures)
 
 returns-3 : tie.Need-returns-3
-returns-3 c = makes (c .before .before .before .before .before .before .before .pre) (c .with-tree .ensures) (c .before .before .before .before .x .given .1) (c .before .before .empty .ensures _) (c .before .put-in .ensures)
+returns-3 c = makes (c .before .before .before .before .before .before .before .before .pre) (c .with-tree .ensures) (c .before .before .before .before .before .x .given .1) (c .before .before .empty .ensures _) (c .before .put-in .ensures)
 
 returns-4 : tie.Need-returns-4
-returns-4 c = renames (c .before .before .before .before .before .before .pre) (c .with-tree2 .ensures) (c .before .before .before .x2 .given .1) (c .before .rename-file .ensures)
+returns-4 c = renames (c .before .before .before .before .before .before .before .pre) (c .with-tree2 .ensures) (c .before .before .before .before .x2 .given .1) (c .before .rename-file .ensures)
 
 returns-5 : tie.Need-returns-5
-returns-5 c = moves (c .before .before .before .before .before .before .before .before .before .before .pre) (c .before .before .before .with-tree3 .ensures) (c .with-staging .ensures) (c .before .before .before .before .before .before .before .x3 .given .1) (c .before .before .before .before .before .empty2 .ensures _) (c .before .before .empty3 .ensures _) (c .before .before .before .before .put-held .ensures) (c .before .del .ensures)
+returns-5 c = moves (c .before .before .before .before .before .before .before .before .before .before .before .before .before .before .pre) (c .before .before .before .before .with-tree3 .ensures) (c .with-staging .ensures) (c .before .before .before .before .before .before .before .before .before .before .before .x3 .given .1) (c .before .before .before .before .before .before .before .before .empty2 .ensures _) (c .before .before .empty3 .ensures _) (c .before .before .before .before .before .before .before .look .ensures) (c .before .before .before .before .before .put-held .ensures) (c .before .del .ensures)
 
 returns-6 : tie.Need-returns-6
-returns-6 c = renames-dir (c .before .before .before .before .before .before .pre) (c .with-tree4 .ensures) (c .before .before .before .x4 .given .1) (c .before .rename-dir .ensures)
+returns-6 c = renames-dir (c .before .before .before .before .before .before .before .pre) (c .with-tree4 .ensures) (c .before .before .before .before .x4 .given .1) (c .before .rename-dir .ensures)
 
 returns-7 : tie.Need-returns-7
-returns-7 c = copies (c .before .before .before .before .before .before .pre) (c .with-tree5 .ensures) (c .before .before .before .x5 .given .1) (c .before .put-held2 .ensures)
+returns-7 c = copies (c .before .before .before .before .before .before .before .before .before .pre) (c .with-tree5 .ensures) (c .before .before .before .before .before .before .x5 .given .1) (c .before .before .before .look2 .ensures) (c .before .put-held2 .ensures)
 
 returns-8 : tie.Need-returns-8
-returns-8 c = removes (c .before .before .before .before .before .before .pre) (c .with-tree6 .ensures) (c .before .before .before .x6 .given .1) (c .before .del2 .ensures)
+returns-8 c = removes (c .before .before .before .before .before .before .before .pre) (c .with-tree6 .ensures) (c .before .before .before .before .x6 .given .1) (c .before .del2 .ensures)
 
 returns-9 : tie.Need-returns-9
-returns-9 c = removes-dir (c .before .before .before .before .before .before .pre) (c .with-tree7 .ensures) (c .before .before .before .x7 .given .1) (c .before .remove-dir .ensures)
+returns-9 c = removes-dir (c .before .before .before .before .before .before .before .pre) (c .with-tree7 .ensures) (c .before .before .before .before .x7 .given .1) (c .before .remove-dir .ensures)
 
 returns-10 : tie.Need-returns-10
-returns-10 c = unstages (c .before .before .before .before .before .before .before .pre) (c .with-staging2 .ensures) (c .before .before .before .before .x8 .given .1) (c .before .before .empty4 .ensures _) (c .before .del3 .ensures)
+returns-10 c = unstages (c .before .before .before .before .before .before .before .before .pre) (c .with-staging2 .ensures) (c .before .before .before .before .before .x8 .given .1) (c .before .before .empty4 .ensures _) (c .before .del3 .ensures)
 
 returns-11 : tie.Need-returns-11
 returns-11 c = idles (c .before .before .args .x) (c .before .before .pre) (c .match .keys11)
@@ -166,6 +172,7 @@ apply-spec =
     with-tree-requires-2
     enum-known-x-3
     empty-requires-2
+    look-requires
     put-held-requires
     with-tree-requires-3
     empty-requires-3
@@ -175,6 +182,7 @@ apply-spec =
     rename-dir-requires
     with-tree-requires-4
     enum-known-x-5
+    look-requires-2
     put-held-requires-2
     with-tree-requires-5
     enum-known-x-6

@@ -1,11 +1,8 @@
--- `from_held` goes by what the other table holds.
+-- `from_held` goes by what was found.
 use borrow.Author.Needs.{needs}
 use Rattle.steps.proofs.Found.{no-source, source}
 use Rattle.steps.proofs.from_held.Statement.{statement}
 use Rattle.steps.proofs.from_held.Tie as tie
-
-look-requires : tie.Need-look-requires
-look-requires c κs = search needs
 
 enum-told : tie.Need-enum-told
 enum-told c = search needs
@@ -17,11 +14,10 @@ new-file-requires : tie.Need-new-file-requires
 new-file-requires c κs = search needs
 
 returns : tie.Need-returns
-returns c = no-source (c .before .before .look .ensures) _ _ (c .enum-told .given .1)
+returns c = no-source _ _ (c .enum-told .given .1)
 
 returns-2 : tie.Need-returns-2
-returns-2 c = source (c .before .before .before .look .ensures) _ _ (c .before .enum-told2 .given .1) (c .new-file .ensures)
+returns-2 c = source _ _ (c .before .enum-told2 .given .1) (c .new-file .ensures)
 
 pub from-held-spec : {M : Type 1} → statement M
-from-held-spec =
-    tie.close (tie.spec look-requires enum-told enum-told-2 new-file-requires returns returns-2)
+from-held-spec = tie.close (tie.spec enum-told enum-told-2 new-file-requires returns returns-2)

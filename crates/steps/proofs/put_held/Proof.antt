@@ -1,11 +1,8 @@
--- `put_held` goes by what the other table holds.
+-- `put_held` goes by what was found.
 use borrow.Author.Needs.{needs}
 use Rattle.steps.proofs.Found.{unchanged, changed}
 use Rattle.steps.proofs.put_held.Statement.{statement}
 use Rattle.steps.proofs.put_held.Tie as tie
-
-look-requires : tie.Need-look-requires
-look-requires c κs = search needs
 
 enum-told : tie.Need-enum-told
 enum-told c = search needs
@@ -17,11 +14,10 @@ put-in-requires : tie.Need-put-in-requires
 put-in-requires c κs = search needs
 
 returns : tie.Need-returns
-returns c = unchanged (c .before .before .look .ensures) _ (c .before .before .before .before .pre .0 .0 .0) (c .enum-told .given .1)
+returns c = unchanged _ (c .before .before .before .pre .0 .0) (c .enum-told .given .1)
 
 returns-2 : tie.Need-returns-2
-returns-2 c = changed (c .before .before .before .before .look .ensures) _ _ (c .before .before .h .given .1) (c .put-in .ensures)
+returns-2 c = changed _ _ (c .before .before .before .h .given .1) (c .put-in .ensures)
 
 pub put-held-spec : {M : Type 1} → statement M
-put-held-spec =
-    tie.close (tie.spec look-requires enum-told enum-known-h put-in-requires returns returns-2)
+put-held-spec = tie.close (tie.spec enum-told enum-known-h put-in-requires returns returns-2)

@@ -8,7 +8,7 @@ put-requires : tie.Need-put-requires
 put-requires c κs = search needs
 
 returns : tie.Need-returns
-returns c = put-as _ _ _ (c .before .before .pre .1) (c .put .ensures)
+returns c = put-as _ _ _ (c .before .before .before .pre .1) (c .put .ensures)
 
 pub put-in-spec : {M : Type 1} → statement M
 put-in-spec = tie.close (tie.spec put-requires returns)

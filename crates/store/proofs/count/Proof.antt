@@ -3,12 +3,13 @@ use borrow.Author.Needs.{needs}
 use native.Mathlib.Omega.{arith}
 use mathlib.Core.Logic.{⊎-elim}
 use Prim.Native.Nat.{_-_}
+use Rattle.store.specs.Tables.{tableOf}
 use Rattle.store.proofs.Tally.{Tally, start, dir, file, end}
 use Rattle.store.proofs.count.Statement.{statement}
 use Rattle.store.proofs.count.Tie as tie
 
 abbrev Inv-loop : tie.InvT-loop
-Inv-loop src t n dirs₀ i₀ dirs i = Tally src t dirs i
+Inv-loop src t n dirs₀ i₀ dirs i = Tally src (tableOf t n) dirs i
 
 abbrev μ-loop : tie.MeasureT-loop
 μ-loop src t n dirs₀ i₀ dirs i = n - i
@@ -16,11 +17,8 @@ abbrev μ-loop : tie.MeasureT-loop
 loop-holds : tie.Need-loop-holds Inv-loop μ-loop
 loop-holds c = start (c .before .pre)
 
-mul-x : tie.Need-mul-x Inv-loop μ-loop
-mul-x c = search needs
-
-element-copy-out-x : tie.Need-element-copy-out-x Inv-loop μ-loop
-element-copy-out-x c = search needs
+node-at-requires : tie.Need-node-at-requires Inv-loop μ-loop
+node-at-requires c κs = search needs
 
 length-of-requires : tie.Need-length-of-requires Inv-loop μ-loop
 length-of-requires c κs = search needs
@@ -35,10 +33,10 @@ loop-less : tie.Need-loop-less Inv-loop μ-loop
 loop-less c = search needs
 
 loop-again : tie.Need-loop-again Inv-loop μ-loop
-loop-again c = ⊎-elim (λ w. dir _ (c .before .before .before .before .before .loop .inv) (omega arith) (c .before .length-of .ensures .0) (w .0 .taken) (w .1)) (λ w. file _ (c .before .before .before .before .before .loop .inv) (omega arith) (c .before .length-of .ensures .0) (w .0 .left) (w .1)) (c .if1 .came)
+loop-again c = ⊎-elim (λ w. dir (c .before .before .before .before .before .loop .inv) (omega arith) (c .before .before .before .node-at .ensures) (c .before .length-of .ensures .0) (w .0 .taken) (w .1)) (λ w. file (c .before .before .before .before .before .loop .inv) (omega arith) (c .before .before .before .node-at .ensures) (c .before .length-of .ensures .0) (w .0 .left) (w .1)) (c .if1 .came)
 
-sub-t14 : tie.Need-sub-t14 Inv-loop μ-loop
-sub-t14 c = omega (arith, c .before .loop .inv .below)
+sub-t10 : tie.Need-sub-t10 Inv-loop μ-loop
+sub-t10 c = omega (arith, c .before .loop .inv .below)
 
 returns : tie.Need-returns Inv-loop μ-loop
 returns c = end (c .before .loop .inv) (omega arith)
@@ -50,12 +48,11 @@ count-spec =
     Inv-loop
     μ-loop
     loop-holds
-    mul-x
-    element-copy-out-x
+    node-at-requires
     length-of-requires
     add-dirs
     add-i
     loop-less
     loop-again
-    sub-t14
+    sub-t10
     returns)

@@ -3,16 +3,16 @@ use borrow.Author.Needs.{needs}
 use native.Mathlib.Omega.{arith}
 use mathlib.Core.Path.{refl}
 use Prim.Native.Nat.{_-_}
-use Rattle.store.proofs.Live.{sound-at}
-use Rattle.store.proofs.Search.{Search, start, up, down, hit, none-left}
+use Rattle.store.specs.Tables.{tableOf}
+use Rattle.store.proofs.Search.{Search, start, read, up, down, hit, none-left}
 use Rattle.store.proofs.find.Statement.{statement}
 use Rattle.store.proofs.find.Tie as tie
 
 abbrev Inv-loop : tie.InvT-loop
-Inv-loop src dir file t lo₀ hi₀ lo hi = Search src t dir file lo hi
+Inv-loop src t n dir file lo₀ hi₀ lo hi = Search src (tableOf t n) dir file lo hi
 
 abbrev μ-loop : tie.MeasureT-loop
-μ-loop src dir file t lo₀ hi₀ lo hi = hi - lo
+μ-loop src t n dir file lo₀ hi₀ lo hi = hi - lo
 
 loop-holds : tie.Need-loop-holds Inv-loop μ-loop
 loop-holds c = start (c .before .pre .0) (c .before .pre .1 .0) (c .before .pre .1 .1)
@@ -20,14 +20,11 @@ loop-holds c = start (c .before .pre .0) (c .before .pre .1 .0) (c .before .pre 
 middle-requires : tie.Need-middle-requires Inv-loop μ-loop
 middle-requires c κs = search needs
 
-mul-x : tie.Need-mul-x Inv-loop μ-loop
-mul-x c = search needs
-
-element-copy-out-x : tie.Need-element-copy-out-x Inv-loop μ-loop
-element-copy-out-x c = search needs
+node-at-requires : tie.Need-node-at-requires Inv-loop μ-loop
+node-at-requires c κs = search needs
 
 compare-keys-requires : tie.Need-compare-keys-requires Inv-loop μ-loop
-compare-keys-requires c κs = let s = sound-at (c .before .before .before .middle .result) _ (c .before .before .before .before .before .loop .inv .sound) (omega arith) in ((c .before .before .before .before .before .loop .inv .sound-dir, c .before .before .before .before .before .loop .inv .sound-file), (s .dir, s .file))
+compare-keys-requires c κs = let s = read (c .before .before .before .loop .inv) (c .node-at .ensures) (omega arith) (omega arith) in ((c .before .before .before .loop .inv .sound-dir, c .before .before .before .loop .inv .sound-file), (s .dir, s .file))
 
 enum-told : tie.Need-enum-told Inv-loop μ-loop
 enum-told c = search needs
@@ -36,13 +33,13 @@ loop-less : tie.Need-loop-less Inv-loop μ-loop
 loop-less c = search needs
 
 loop-again : tie.Need-loop-again Inv-loop μ-loop
-loop-again c = down (c .before .before .before .before .before .before .before .before .loop .inv) (c .before .before .before .before .before .before .middle .result) _ (omega arith) (omega arith) (c .enum-told .given .1) (c .before .before .compare-keys .ensures) refl refl
+loop-again c = down (c .before .before .before .before .before .before .loop .inv) (c .before .before .before .node-at .ensures) (omega arith) (omega arith) (c .enum-told .given .1) (c .before .before .compare-keys .ensures) refl refl
 
 enum-told-2 : tie.Need-enum-told-2 Inv-loop μ-loop
 enum-told-2 c = search needs
 
 returns : tie.Need-returns Inv-loop μ-loop
-returns c = hit (c .before .before .before .before .before .before .before .before .loop .inv) (c .before .before .before .before .before .before .middle .result) _ (omega arith) (omega arith) (c .enum-told2 .given .1) (c .before .before .compare-keys .ensures)
+returns c = hit (c .before .before .before .before .before .before .loop .inv) (c .before .before .before .node-at .ensures) (omega arith) (omega arith) (c .enum-told2 .given .1) (c .before .before .compare-keys .ensures)
 
 enum-told-3 : tie.Need-enum-told-3 Inv-loop μ-loop
 enum-told-3 c = search needs
@@ -54,7 +51,7 @@ loop-less-2 : tie.Need-loop-less-2 Inv-loop μ-loop
 loop-less-2 c = search needs
 
 loop-again-2 : tie.Need-loop-again-2 Inv-loop μ-loop
-loop-again-2 c = up (c .before .before .before .before .before .before .before .before .loop .inv) (c .before .before .before .before .before .before .middle .result) _ (omega arith) (omega arith) (c .enum-told3 .given .1) (c .before .before .compare-keys .ensures) refl refl
+loop-again-2 c = up (c .before .before .before .before .before .before .loop .inv) (c .before .before .before .node-at .ensures) (omega arith) (omega arith) (c .enum-told3 .given .1) (c .before .before .compare-keys .ensures) refl refl
 
 returns-2 : tie.Need-returns-2 Inv-loop μ-loop
 returns-2 c = none-left (c .before .loop .inv) (omega arith)
@@ -67,8 +64,7 @@ find-spec =
     μ-loop
     loop-holds
     middle-requires
-    mul-x
-    element-copy-out-x
+    node-at-requires
     compare-keys-requires
     enum-told
     loop-less

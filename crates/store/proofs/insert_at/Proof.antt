@@ -1,18 +1,21 @@
 -- `insert_at` moves the nodes from the place on up by one.
 use borrow.Author.Needs.{needs}
 use native.Mathlib.Omega.{arith}
+use Rattle.store.specs.Words.{nodesOf}
+use Rattle.store.specs.Tables.{tableOf}
+use Rattle.store.proofs.Packing.{node-moved}
 use Rattle.store.proofs.Change.{Raised, raised-start, raised-next, raised-end}
 use Rattle.store.proofs.insert_at.Statement.{statement}
 use Rattle.store.proofs.insert_at.Tie as tie
 
 abbrev Inv-loop : tie.InvT-loop
-Inv-loop p x u₀ n i₀ u i = Raised u₀ u p i
+Inv-loop t₀ n p x i₀ t i = Raised (tableOf t₀ n) (nodesOf t) p i
 
 abbrev μ-loop : tie.MeasureT-loop
-μ-loop p x u₀ n i₀ u i = i
+μ-loop t₀ n p x i₀ t i = i
 
 loop-holds : tie.Need-loop-holds Inv-loop μ-loop
-loop-holds c = raised-start _ (c .pre .0) (c .pre .1 .1) (c .pre .1 .0)
+loop-holds c = raised-start (c .pre .0) (c .pre .1 .1) (c .pre .1 .0)
 
 sub-y : tie.Need-sub-y Inv-loop μ-loop
 sub-y c = search needs
@@ -36,19 +39,16 @@ loop-less : tie.Need-loop-less Inv-loop μ-loop
 loop-less c = search needs
 
 loop-again : tie.Need-loop-again Inv-loop μ-loop
-loop-again c = raised-next (c .before .before .loop .inv) _ _ (omega arith)
+loop-again c = raised-next (c .before .before .loop .inv) (omega arith) (node-moved (c .before .before .loop .t) (c .before .before .loop .i) _)
 
-mul-x : tie.Need-mul-x Inv-loop μ-loop
-mul-x c = search needs
+set-node-requires : tie.Need-set-node-requires Inv-loop μ-loop
+set-node-requires c κs = search needs
 
-element-set-from-x : tie.Need-element-set-from-x Inv-loop μ-loop
-element-set-from-x c = search needs
-
-add-u : tie.Need-add-u Inv-loop μ-loop
-add-u c = search needs
+add-result : tie.Need-add-result Inv-loop μ-loop
+add-result c = search needs
 
 returns : tie.Need-returns Inv-loop μ-loop
-returns c = raised-end (c .before .loop .inv) _ (omega arith)
+returns c = raised-end (c .before .before .before .loop .inv) _ (omega arith) (c .set-node .ensures)
 
 pub insert-at-spec : {M : Type 1} → statement M
 insert-at-spec =
@@ -65,7 +65,6 @@ insert-at-spec =
     sub-i
     loop-less
     loop-again
-    mul-x
-    element-set-from-x
-    add-u
+    set-node-requires
+    add-result
     returns)

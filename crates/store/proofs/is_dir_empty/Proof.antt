@@ -1,57 +1,26 @@
--- `is_dir_empty`: no file of the directory was met yet.
+-- `is_dir_empty`: the node where the directory's files start is none of its.
 use borrow.Author.Needs.{needs}
 use native.Mathlib.Omega.{arith}
-use mathlib.Core.Path.{sym, _∙_}
-use Prim.Native.Nat.{_-_}
-use Rattle.store.proofs.Vacant.{Vacant, start, node, hit, pass, none-left}
+use Rattle.store.proofs.Read.{sound-read}
+use Rattle.store.proofs.Files.{vacant-end, vacant-by}
 use Rattle.store.proofs.is_dir_empty.Statement.{statement}
 use Rattle.store.proofs.is_dir_empty.Tie as tie
 
-abbrev Inv-loop : tie.InvT-loop
-Inv-loop src dir t n i₀ i = Vacant src t dir i
+files-from-requires : tie.Need-files-from-requires
+files-from-requires c κs = search needs
 
-abbrev μ-loop : tie.MeasureT-loop
-μ-loop src dir t n i₀ i = n - i
+returns : tie.Need-returns
+returns c = vacant-end (c .before .before .before .pre .0) (c .before .files-from .ensures) (omega arith)
 
-loop-holds : tie.Need-loop-holds Inv-loop μ-loop
-loop-holds c = start (c .before .pre .0) (c .before .pre .1)
+node-at-requires : tie.Need-node-at-requires
+node-at-requires c κs = search needs
 
-mul-x : tie.Need-mul-x Inv-loop μ-loop
-mul-x c = search needs
+same-requires : tie.Need-same-requires
+same-requires c κs = (c .before .before .before .before .pre .1, sound-read (c .before .before .before .before .pre .0) {i = c .before .before .files-from .result} (omega arith) (c .node-at .ensures) .dir)
 
-element-copy-out-x : tie.Need-element-copy-out-x Inv-loop μ-loop
-element-copy-out-x c = search needs
-
-is-file-of-requires : tie.Need-is-file-of-requires Inv-loop μ-loop
-is-file-of-requires c κs = (node (c .before .before .loop .inv) _ (omega arith), c .before .before .loop .inv .sound-dir)
-
-returns : tie.Need-returns Inv-loop μ-loop
-returns c = hit (c .before .before .before .before .loop .inv) _ (omega arith) (sym (c .before .is-file-of .ensures) ∙ c .if1 .taken)
-
-add-i : tie.Need-add-i Inv-loop μ-loop
-add-i c = search needs
-
-loop-less : tie.Need-loop-less Inv-loop μ-loop
-loop-less c = search needs
-
-loop-again : tie.Need-loop-again Inv-loop μ-loop
-loop-again c = pass (c .before .before .before .before .loop .inv) _ (omega arith) (sym (c .before .is-file-of .ensures) ∙ c .if1 .left)
-
-returns-2 : tie.Need-returns-2 Inv-loop μ-loop
-returns-2 c = none-left (c .before .loop .inv) (omega arith)
+returns-2 : tie.Need-returns-2
+returns-2 c = vacant-by (c .before .before .before .before .before .pre .0) (c .before .before .before .files-from .ensures) (omega arith) (c .before .node-at .ensures) (c .same .ensures)
 
 pub is-dir-empty-spec : {M : Type 1} → statement M
 is-dir-empty-spec =
-    tie.close
-    (tie.spec
-    Inv-loop
-    μ-loop
-    loop-holds
-    mul-x
-    element-copy-out-x
-    is-file-of-requires
-    returns
-    add-i
-    loop-less
-    loop-again
-    returns-2)
+    tie.close (tie.spec files-from-requires returns node-at-requires same-requires returns-2)

@@ -11,22 +11,18 @@ find-requires c κs = search needs
 enum-known-f : tie.Need-enum-known-f
 enum-known-f c = search needs
 
-mul-x : tie.Need-mul-x
-mul-x c = omega (arith, hit-in (c .before .before .before .before .before .pre .0) (c .before .before .before .find .ensures) (c .before .f .given .1))
-
-element-copy-out-x : tie.Need-element-copy-out-x
-element-copy-out-x c = omega (arith, hit-in (c .before .before .before .before .before .pre .0) (c .before .before .before .find .ensures) (c .before .f .given .1))
+node-at-requires : tie.Need-node-at-requires
+node-at-requires c κs = omega (arith, hit-in (c .before .before .before .before .before .pre .0) (c .before .before .before .find .ensures) (c .before .f .given .1), c .before .before .before .before .before .pre .0 .sized .room)
 
 enum-told : tie.Need-enum-told
 enum-told c = search needs
 
 returns : tie.Need-returns
-returns c = look-at (c .before .before .before .before .before .before .pre .0) (c .before .before .before .before .find .ensures) _ (c .before .before .f .given .1)
+returns c = look-at (c .before .before .before .before .before .before .pre .0) (c .before .before .before .before .find .ensures) (c .node-at .ensures) (c .before .before .f .given .1)
 
 returns-2 : tie.Need-returns-2
 returns-2 c = look-missing (c .before .before .before .before .pre .0) (c .before .before .find .ensures) (c .enum-told .given .1)
 
 pub look-spec : {M : Type 1} → statement M
 look-spec =
-    tie.close
-    (tie.spec find-requires enum-known-f mul-x element-copy-out-x enum-told returns returns-2)
+    tie.close (tie.spec find-requires enum-known-f node-at-requires enum-told returns returns-2)

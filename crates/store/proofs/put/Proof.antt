@@ -15,23 +15,20 @@ find-requires c κs = search needs
 enum-known-f : tie.Need-enum-known-f
 enum-known-f c = search needs
 
-mul-x : tie.Need-mul-x
-mul-x c = omega (arith, hit-in (c .before .before .before .before .before .before .before .before .pre .0) (c .before .before .before .find .ensures) (c .before .f .given .1))
-
-element-set-from-x : tie.Need-element-set-from-x
-element-set-from-x c = omega (arith, hit-in (c .before .before .before .before .before .before .before .before .pre .0) (c .before .before .before .find .ensures) (c .before .f .given .1))
+set-node-requires : tie.Need-set-node-requires
+set-node-requires c κs = omega (arith, hit-in (c .before .before .before .before .before .before .before .before .pre .0) (c .before .before .before .before .find .ensures) (c .before .before .f .given .1))
 
 enum-known-f-2 : tie.Need-enum-known-f-2
 enum-known-f-2 c = search needs
 
 insert-at-requires : tie.Need-insert-at-requires
-insert-at-requires c κs = (c .before .before .before .before .before .before .before .before .pre .0 .sized, (gap-in (c .before .before .before .before .before .before .before .before .pre .0) (c .before .before .before .find .ensures) (c .before .f2 .given .1), omega arith))
+insert-at-requires c κs = (c .before .before .before .before .before .before .before .before .pre .0 .sized, (gap-in (c .before .before .before .before .before .before .before .before .pre .0) (c .before .before .before .before .find .ensures) (c .before .before .f2 .given .1), omega arith))
 
 returns-2 : tie.Need-returns-2
-returns-2 c = put-over (c .before .before .before .before .before .before .before .before .pre .0) (c .before .before .before .before .before .before .before .before .pre .1) (omega arith) (c .before .before .before .find .ensures .at _ (c .before .f .given .1) .1)
+returns-2 c = put-over (c .before .before .before .before .before .before .before .before .before .pre .0) (c .before .before .before .before .before .before .before .before .before .pre .1) (omega arith) (c .before .before .before .before .before .find .ensures .at _ (c .before .before .before .f .given .1) .1) (c .set-node .ensures)
 
 returns-3 : tie.Need-returns-3
-returns-3 c = put-new (c .before .before .before .before .before .before .before .before .before .pre .0) (c .before .before .before .before .before .before .before .before .before .pre .1) (omega arith) _ (c .before .before .before .before .find .ensures .missing _ (c .before .before .f2 .given .1)) (c .insert-at .ensures .0) (c .insert-at .ensures .1)
+returns-3 c = put-new (c .before .before .before .before .before .before .before .before .before .pre .0) (c .before .before .before .before .before .before .before .before .before .pre .1) (omega arith) _ (c .before .before .before .before .before .find .ensures .missing _ (c .before .before .before .f2 .given .1)) (c .insert-at .ensures .0) (c .insert-at .ensures .1)
 
 pub put-spec : {M : Type 1} → statement M
 put-spec =
@@ -40,8 +37,7 @@ put-spec =
     returns
     find-requires
     enum-known-f
-    mul-x
-    element-set-from-x
+    set-node-requires
     enum-known-f-2
     insert-at-requires
     returns-2

@@ -2,18 +2,21 @@
 use borrow.Author.Needs.{needs}
 use native.Mathlib.Omega.{arith}
 use Prim.Native.Nat.{_-_}
+use Rattle.store.specs.Words.{nodesOf}
+use Rattle.store.specs.Tables.{tableOf}
+use Rattle.store.proofs.Packing.{node-moved}
 use Rattle.store.proofs.Change.{Lowered, lowered-start, lowered-next, lowered-end}
 use Rattle.store.proofs.remove_at.Statement.{statement}
 use Rattle.store.proofs.remove_at.Tie as tie
 
 abbrev Inv-loop : tie.InvT-loop
-Inv-loop p u₀ n i₀ u i = Lowered u₀ u p i
+Inv-loop t₀ n p i₀ t i = Lowered (tableOf t₀ n) (nodesOf t) p i
 
 abbrev μ-loop : tie.MeasureT-loop
-μ-loop p u₀ n i₀ u i = n - i
+μ-loop t₀ n p i₀ t i = n - i
 
 loop-holds : tie.Need-loop-holds Inv-loop μ-loop
-loop-holds c = lowered-start _ (c .pre .0) (c .pre .1)
+loop-holds c = lowered-start (c .pre .0) (c .pre .1)
 
 add-loop : tie.Need-add-loop Inv-loop μ-loop
 add-loop c = search needs
@@ -40,10 +43,10 @@ loop-less : tie.Need-loop-less Inv-loop μ-loop
 loop-less c = search needs
 
 loop-again : tie.Need-loop-again Inv-loop μ-loop
-loop-again c = lowered-next (c .before .before .loop .inv) _ _ (omega arith)
+loop-again c = lowered-next (c .before .before .loop .inv) (omega arith) (node-moved (c .before .before .loop .t) (c .before .before .loop .i) _)
 
-sub-u : tie.Need-sub-u Inv-loop μ-loop
-sub-u c = search needs
+sub-result : tie.Need-sub-result Inv-loop μ-loop
+sub-result c = search needs
 
 returns : tie.Need-returns Inv-loop μ-loop
 returns c = lowered-end (c .before .loop .inv) (omega arith)
@@ -64,5 +67,5 @@ remove-at-spec =
     add-i
     loop-less
     loop-again
-    sub-u
+    sub-result
     returns)

@@ -21,7 +21,7 @@ returns-2 : tie.Need-returns-2
 returns-2 c = λ n m w u. copy-6 (c .before .before .before .before .before .pre .0 .sound) (c .before .before .before .refusal .ensures) w u (c .before .before .if1 .left) (c .before .if2 .taken) (c .refused2 .ensures)
 
 has-dir-requires : tie.Need-has-dir-requires
-has-dir-requires c κs = (c .before .before .before .before .pre .0 .sound, c .before .before .before .before .pre .1 .0 (not-false (c .before .before .before .before .args .valid-source) (c .if2 .left)))
+has-dir-requires c κs = (c .before .before .before .before .pre .0 .sound .tree, c .before .before .before .before .pre .1 .0 (not-false (c .before .before .before .before .args .valid-source) (c .if2 .left)))
 
 refused-requires-3 : tie.Need-refused-requires-3
 refused-requires-3 c κs = search needs
@@ -36,7 +36,7 @@ returns-4 : tie.Need-returns-4
 returns-4 c = λ n m w u. copy-6-again (c .before .before .before .before .before .before .before .before .pre .0 .sound) (c .before .before .before .before .before .before .refusal .ensures) w u (c .before .before .before .before .before .if1 .left) (c .before .before .before .before .if2 .left) (c .before .before .before .has-dir .ensures) (c .before .before .if3 .left) (c .before .if4 .taken) (c .refused4 .ensures)
 
 has-dir-requires-2 : tie.Need-has-dir-requires-2
-has-dir-requires-2 c κs = (c .before .before .before .before .before .before .before .pre .0 .sound, c .before .before .before .before .before .before .before .pre .1 .1 (not-false (c .before .before .before .before .before .before .before .args .valid-dest) (c .if4 .left)))
+has-dir-requires-2 c κs = (c .before .before .before .before .before .before .before .pre .0 .sound .tree, c .before .before .before .before .before .before .before .pre .1 .1 (not-false (c .before .before .before .before .before .before .before .args .valid-dest) (c .if4 .left)))
 
 accepted-requires : tie.Need-accepted-requires
 accepted-requires c κs = search needs

@@ -21,22 +21,22 @@ returns-2 : tie.Need-returns-2
 returns-2 c = λ n m w. delete-6 (c .before .before .before .before .before .pre .0 .0 .sound) (c .before .before .before .refusal .ensures) w (c .before .before .if1 .left) (c .before .if2 .taken) (c .refused2 .ensures)
 
 ensure-normalized-on-disk-requires : tie.Need-ensure-normalized-on-disk-requires
-ensure-normalized-on-disk-requires c κs = (record { sound = c .before .before .before .before .pre .0 .0 .sound; within = c .before .before .before .before .pre .0 .1 }, (c .before .before .before .before .pre .1 (not-false (c .before .before .before .before .args .valid) (c .if2 .left))))
+ensure-normalized-on-disk-requires c κs = (record { sound = c .before .before .before .before .before .before .pre .0 .0 .sound; within = c .before .before .before .before .before .before .pre .0 .1 }, c .before .before .before .before .before .before .pre .1 (not-false (c .before .before .before .before .before .before .args .valid) (c .before .before .if2 .left)))
 
 exists-requires : tie.Need-exists-requires
-exists-requires c κs = (c .ensure-normalized-on-disk .ensures .fits .sound .tree, ((c .before .before .before .before .before .pre .1 (not-false (c .before .before .before .before .before .args .valid) (c .before .if2 .left))) .0, (c .before .before .before .before .before .pre .1 (not-false (c .before .before .before .before .before .args .valid) (c .before .if2 .left))) .1 .sound))
+exists-requires c κs = (c .before .ensure-normalized-on-disk .ensures .fits .sound .tree, ((c .before .before .before .before .before .before .before .before .pre .1 (not-false (c .before .before .before .before .before .before .before .before .args .valid) (c .before .before .before .before .if2 .left))) .0, (c .before .before .before .before .before .before .before .before .pre .1 (not-false (c .before .before .before .before .before .before .before .before .args .valid) (c .before .before .before .before .if2 .left))) .1 .sound))
 
 refused-requires-3 : tie.Need-refused-requires-3
 refused-requires-3 c κs = search needs
 
 returns-3 : tie.Need-returns-3
-returns-3 c = λ n m w. delete-8 (c .before .before .before .before .before .before .before .before .pre .0 .0 .sound) (c .before .before .before .before .before .before .refusal .ensures) w (c .before .before .before .before .before .if1 .left) (c .before .before .before .before .if2 .left) (c .before .before .before .ensure-normalized-on-disk .ensures) (c .before .before .exists .ensures) (c .before .if3 .taken) (c .refused3 .ensures)
+returns-3 c = λ n m w. delete-8 (c .before .before .before .before .before .before .before .before .before .before .before .pre .0 .0 .sound) (c .before .before .before .before .before .before .before .before .before .refusal .ensures) w (c .before .before .before .before .before .before .before .before .if1 .left) (c .before .before .before .before .before .before .before .if2 .left) (c .before .before .before .before .ensure-normalized-on-disk .ensures) (c .before .before .exists .ensures) (c .before .if3 .taken) (c .refused3 .ensures)
 
 accepted-requires : tie.Need-accepted-requires
 accepted-requires c κs = search needs
 
 returns-4 : tie.Need-returns-4
-returns-4 c = λ n m w. delete-0 (c .before .before .before .before .before .before .before .before .pre .0 .0 .sound) (c .before .before .before .before .before .before .refusal .ensures) w (c .before .before .before .before .before .if1 .left) (c .before .before .before .before .if2 .left) (c .before .before .before .ensure-normalized-on-disk .ensures) (c .before .before .exists .ensures) (c .before .if3 .left) (c .accepted .ensures)
+returns-4 c = λ n m w. delete-0 (c .before .before .before .before .before .before .before .before .before .before .before .pre .0 .0 .sound) (c .before .before .before .before .before .before .before .before .before .refusal .ensures) w (c .before .before .before .before .before .before .before .before .if1 .left) (c .before .before .before .before .before .before .before .if2 .left) (c .before .before .before .before .ensure-normalized-on-disk .ensures) (c .before .before .exists .ensures) (c .before .if3 .left) (c .accepted .ensures)
 
 pub delete-spec : {M : Type 1} → statement M
 delete-spec =

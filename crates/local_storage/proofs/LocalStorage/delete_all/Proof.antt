@@ -11,19 +11,19 @@ refused-requires : tie.Need-refused-requires
 refused-requires c κs = search needs
 
 returns : tie.Need-returns
-returns c = λ n w. all-4-5 (c .before .before .before .before .pre .0 .sound) (c .before .before .refusal .ensures) w (c .before .if1 .taken) (c .refused .ensures)
+returns c = λ tree staging g n w. all-4-5 g (c .before .before .refusal .ensures) w (c .before .if1 .taken) (c .refused .ensures)
 
 refused-requires-2 : tie.Need-refused-requires-2
 refused-requires-2 c κs = search needs
 
 returns-2 : tie.Need-returns-2
-returns-2 c = λ n w. all-6 (c .before .before .before .before .before .pre .0 .sound) (c .before .before .before .refusal .ensures) w (c .before .before .if1 .left) (c .before .if2 .taken) (c .refused2 .ensures)
+returns-2 c = λ tree staging g n w. all-6 g (c .before .before .before .refusal .ensures) w (c .before .before .if1 .left) (c .before .if2 .taken) (c .refused2 .ensures)
 
 accepted-requires : tie.Need-accepted-requires
 accepted-requires c κs = search needs
 
 returns-3 : tie.Need-returns-3
-returns-3 c = λ n w. all-0 (c .before .before .before .before .before .pre .0 .sound) (c .before .before .before .refusal .ensures) w (c .before .before .if1 .left) (c .before .if2 .left) (c .accepted .ensures)
+returns-3 c = λ tree staging g n w. all-0 g (c .before .before .before .refusal .ensures) w (c .before .before .if1 .left) (c .before .if2 .left) (c .accepted .ensures)
 
 pub delete-all-spec : {M : Type 1} → statement M
 delete-all-spec =

@@ -11,13 +11,13 @@ refused-requires : tie.Need-refused-requires
 refused-requires c κs = search needs
 
 returns : tie.Need-returns
-returns c = not-open (c .before .before .before .before .before .pre .sound) (c .before .before .before .open-transaction .ensures) (c .before .if1 .taken) (c .refused .ensures)
+returns c = λ tree staging g. not-open g (c .before .before .before .open-transaction .ensures) (c .before .if1 .taken) (c .refused .ensures)
 
 discarded-requires : tie.Need-discarded-requires
 discarded-requires c κs = search needs
 
 returns-2 : tie.Need-returns-2
-returns-2 c = rolled-back (c .before .before .before .before .before .pre .sound) (c .before .before .before .open-transaction .ensures) (c .before .if1 .left) (c .discarded .ensures _)
+returns-2 c = λ tree staging g. rolled-back g (c .before .before .before .open-transaction .ensures) (c .before .if1 .left) (c .discarded .ensures _)
 
 pub rollback-spec : {M : Type 1} → statement M
 rollback-spec =

@@ -17,13 +17,13 @@ returns : tie.Need-returns
 returns c = stands-already _ _ _ (sym (bare-place (c .before .before .empty .ensures _) _ _ (c .before .exists .ensures)) ∙ c .if1 .taken)
 
 returns-2 : tie.Need-returns-2
-returns-2 c = too-many _ _ _ (sym (bare-place (c .before .before .before .before .empty .ensures _) _ _ (c .before .before .before .exists .ensures)) ∙ c .before .before .if1 .left) (omega (arith, table-length (c .before .before .before .before .before .before .pre .0)))
+returns-2 c = too-many _ _ _ (sym (bare-place (c .before .before .before .empty .ensures _) _ _ (c .before .before .exists .ensures)) ∙ c .before .if1 .left) (omega (arith, table-length (c .before .before .before .before .before .pre .0)))
 
 returns-3 : tie.Need-returns-3
-returns-3 c = no-number _ _ _ (sym (bare-place (c .before .before .before .before .before .empty .ensures _) _ _ (c .before .before .before .before .exists .ensures)) ∙ c .before .before .before .if1 .left) (omega (arith, table-length (c .before .before .before .before .before .before .before .pre .0))) (c .if3 .taken)
+returns-3 c = no-number _ _ _ (sym (bare-place (c .before .before .before .before .empty .ensures _) _ _ (c .before .before .before .exists .ensures)) ∙ c .before .before .if1 .left) (omega (arith, table-length (c .before .before .before .before .before .before .pre .0))) (c .if3 .taken)
 
 returns-4 : tie.Need-returns-4
-returns-4 c = a-number _ _ _ (sym (bare-place (c .before .before .before .before .before .empty .ensures _) _ _ (c .before .before .before .before .exists .ensures)) ∙ c .before .before .before .if1 .left) (omega (arith, table-length (c .before .before .before .before .before .before .before .pre .0))) (c .if3 .left) (omega (arith, c .before .before .before .before .before .before .before .fits .number))
+returns-4 c = a-number _ _ _ (sym (bare-place (c .before .before .before .before .empty .ensures _) _ _ (c .before .before .before .exists .ensures)) ∙ c .before .before .if1 .left) (omega (arith, table-length (c .before .before .before .before .before .before .pre .0))) (c .if3 .left) (omega (arith, c .before .before .before .before .before .before .fits .number))
 
 pub can-stage-spec : {M : Type 1} → statement M
 can-stage-spec =

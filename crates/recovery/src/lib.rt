@@ -1,4 +1,4 @@
-// Recovery of an interrupted transaction: recovery.rs. A walk goes through the table as it stood where the walk starts: 01, Listings and
+// Recovery of an interrupted transaction: recovery.rs. A walk goes through names that are listed where the walk starts: 01, Listings and
 // file steps, "A directory is listed as it stands when its walk starts, in ascending byte order".
 ghost use mathlib.Core.Path.{_≡_};
 ghost use mathlib.Core.List.{[], reverse};

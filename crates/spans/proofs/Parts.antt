@@ -9,9 +9,10 @@ use lib.Dec.{ltb}
 use lib.Seq.{length-take-le, take-take, take-append-le, getD-take, getD-drop, getD-append-add, drop-drop}
 use borrow.Author.Tests.{ltb-true, ltb-false}
 use Rattle.model.specs.Order.{Name}
-use Rattle.model.specs.Base.{Bytes}
+use Rattle.model.specs.Base.{Bytes, sameBytes}
 use Rattle.model.specs.Name.{backupName, backupExtension}
 use Rattle.laws.specs.ListLaws.{drop-take}
+use Rattle.laws.specs.Tests.{same-refl}
 use Rattle.spans.specs.Spans.{backups, nameOf, lengthOf, Sound}
 use Rattle.spans.specs.declared.NameRef.{NameRef}
 
@@ -87,3 +88,9 @@ module _ {src : Bytes} {r : NameRef} (s : Sound src r) where
       let z : i + k - i ≡ k = omega arith in
       let cut : (l : Bytes) → drop i (take (i + k) l) ≡ take k (drop i l) = λ l. rw z at (drop-take i (i + k) l) in
       rw (e, ← (drop-drop i (r .start) src)) (sym (cut (nameOf src r)) ∙ ap (drop i) (front (i + k) h) ∙ cut (drop (r .start) src))
+
+-- What stands at one place is the same name.
+pub same-place : (src : Bytes) (a b : NameRef) → a .start ≡ b .start → a .len ≡ b .len → a .baks ≡ b .baks
+    → true ≡ sameBytes (nameOf src a) (nameOf src b)
+unfolding nameOf
+same-place src a b s l k = rw (s, l, k) (sym (same-refl (nameOf src b)))

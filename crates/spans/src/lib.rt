@@ -213,11 +213,14 @@ fn compare_from(src: &[u8], a: NameRef, b: NameRef, at: usize) -> Order
     if i < m { Order::Less } else { Order::Equal }
 }
 
-// Whether two names are the same.
+// Whether two names are the same. Names at one place are, and their bytes are not looked at.
 pub fn same(src: &[u8], a: NameRef, b: NameRef) -> bool
     requires { ⌜ Sound (now src) a × Sound (now src) b ⌝ }
     ensures { λ r. ⌜ r ≡ sameBytes (nameOf (now (src .entry)) a) (nameOf (now (src .entry)) b) ⌝ }
 {
+    if a.start == b.start && (a.len == b.len && a.baks == b.baks) {
+        return true;
+    }
     let o = compare(src, a, b);
     match o {
         Order::Equal => true,

@@ -1,4 +1,4 @@
--- `paths::are_name_bytes` meets its contract. The loop's invariant: the bytes passed are right, so those that are left decide.
+-- `paths::are_name_bytes` meets its contract. The loop's invariant: the bytes passed are right, so those that are left decide, and so do the last eight.
 use mathlib.Core.Path.{sym, _∙_}
 use Prim.Native.Nat.{_-_}
 use native.Mathlib.Omega.{arith}
@@ -6,27 +6,33 @@ use lib.ListN.{length}
 use borrow.Author.Needs.{needs}
 use borrow.Author.Tests.{not-true, not-false}
 use Rattle.model.specs.Name.{isNameByte}
-use Rattle.paths.proofs.Checks.{Passed, passed, wrong, right, all}
+use Rattle.paths.proofs.Checks.{Passed, passed, part-wrong, part-right, last-part}
 use Rattle.paths.proofs.are_name_bytes.Statement.{statement}
 use Rattle.paths.proofs.are_name_bytes.Tie as tie
 
 abbrev Inv-loop : tie.InvT-loop
-Inv-loop s i₀ i = Passed isNameByte s i
+Inv-loop s n i₀ i = Passed isNameByte s i
 
 abbrev μ-loop : tie.MeasureT-loop
-μ-loop s i₀ i = length s - i
+μ-loop s n i₀ i = length s - i
+
+are-few-requires : tie.Need-are-few-requires Inv-loop μ-loop
+are-few-requires c κs = search needs
+
+returns : tie.Need-returns Inv-loop μ-loop
+returns c = c .are-few .ensures
 
 loop-holds : tie.Need-loop-holds Inv-loop μ-loop
 loop-holds c = passed _ _
 
-shared-slice-read-is-name-byte : tie.Need-shared-slice-read-is-name-byte Inv-loop μ-loop
-shared-slice-read-is-name-byte c = search needs
+add-loop : tie.Need-add-loop Inv-loop μ-loop
+add-loop c = search needs
 
-is-name-byte-requires : tie.Need-is-name-byte-requires Inv-loop μ-loop
-is-name-byte-requires c κs = search needs
+are-eight-requires : tie.Need-are-eight-requires Inv-loop μ-loop
+are-eight-requires c κs = search needs
 
-returns : tie.Need-returns Inv-loop μ-loop
-returns c = wrong (c .before .before .before .before .loop .inv) (omega arith) (sym (c .before .is-name-byte .ensures) ∙ not-true _ (c .if1 .taken))
+returns-2 : tie.Need-returns-2 Inv-loop μ-loop
+returns-2 c = part-wrong (c .before .before .before .loop .inv) 8 (sym (c .before .are-eight .ensures) ∙ not-true _ (c .if2 .taken))
 
 add-i : tie.Need-add-i Inv-loop μ-loop
 add-i c = search needs
@@ -35,10 +41,13 @@ loop-less : tie.Need-loop-less Inv-loop μ-loop
 loop-less c = search needs
 
 loop-again : tie.Need-loop-again Inv-loop μ-loop
-loop-again c = right (c .before .before .before .before .loop .inv) (omega arith) (sym (c .before .is-name-byte .ensures) ∙ not-false _ (c .if1 .left))
+loop-again c = part-right (c .before .before .before .loop .inv) 8 (omega arith) (sym (c .before .are-eight .ensures) ∙ not-false _ (c .if2 .left))
 
-returns-2 : tie.Need-returns-2 Inv-loop μ-loop
-returns-2 c = all (c .before .loop .inv) (omega arith)
+are-eight-requires-2 : tie.Need-are-eight-requires-2 Inv-loop μ-loop
+are-eight-requires-2 c κs = search needs
+
+returns-3 : tie.Need-returns-3 Inv-loop μ-loop
+returns-3 c = last-part (c .before .before .loop .inv) 8 (omega arith) (omega arith) (c .are-eight2 .ensures)
 
 pub are-name-bytes-spec : {M : Type 1} → statement M
 are-name-bytes-spec =
@@ -46,11 +55,14 @@ are-name-bytes-spec =
     (tie.spec
     Inv-loop
     μ-loop
-    loop-holds
-    shared-slice-read-is-name-byte
-    is-name-byte-requires
+    are-few-requires
     returns
+    loop-holds
+    add-loop
+    are-eight-requires
+    returns-2
     add-i
     loop-less
     loop-again
-    returns-2)
+    are-eight-requires-2
+    returns-3)

@@ -1,4 +1,4 @@
--- The keys among the nodes of a tree, and what the functions over them answer.
+-- The keys among the files of a directory, and what the functions over them answer.
 use mathlib.Core.Path.{_≡_}
 use Prim.Native.Nat.{ℕ, _≤_}
 use mathlib.Core.List.{List, []}
@@ -6,7 +6,7 @@ use mathlib.Core.Option.{Option, none, some}
 use mathlib.Core.Bool.{Bool, not, _&&_, _||_}
 use lib.ListN.{length}
 use Rattle.model.specs.Order.{Name}
-use Rattle.model.specs.Map.{Node, Map}
+use Rattle.model.specs.Map.{Map}
 use Rattle.model.specs.Base.{Bytes, if_then_else_, flatMap}
 use Rattle.model.specs.Name.{lower, isBackup, isTmp}
 use Rattle.model.specs.Field.{encodeField}
@@ -15,7 +15,6 @@ use Rattle.model.specs.Record.{otherCase, caseRenamed}
 use Rattle.field.specs.Writing.{written, field}
 use Rattle.spans.specs.Spans.{nameOf}
 use Rattle.spans.specs.declared.NameRef.{NameRef}
-use Rattle.store.specs.Nodes.{isFileOf}
 use Rattle.store.specs.Stores.{LentStore, storeOf}
 use Rattle.steps.specs.Steps.{FileName, Fits}
 use Rattle.local_collection.specs.declared.OtherCase.{OtherCase}
@@ -24,10 +23,6 @@ use Rattle.local_collection.specs.declared.OtherCase.the-variants.{Is, N
 -- A name that is listed as a key: no backup's and no staging file's.
 unfoldable pub isKey : Name → Bool
 isKey f = not (isBackup f) && not (isTmp f)
-
--- A file of a directory that is listed as a key.
-unfoldable pub isKeyOf : Name → Node → Bool
-isKeyOf d n = isFileOf d n && isKey (n .0 .1)
 
 -- The key list of a tree (Record, `keyList`).
 unfoldable pub keysOf : Name → Map → Bytes

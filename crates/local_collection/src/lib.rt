@@ -5,17 +5,16 @@ ghost use lib.ListN.{length};
 ghost use Rattle.model.specs.Base.{sameBytes};
 ghost use Rattle.model.specs.Name.{lower};
 ghost use Rattle.model.specs.Store.{files};
-ghost use Rattle.field.specs.Writing.{written, Writes, field};
+ghost use Rattle.field.specs.Writing.{written, Writes};
 ghost use Rattle.spans.specs.Spans.{nameOf, Sound};
 ghost use Rattle.model.specs.Record.{keyList};
-ghost use Rattle.store.specs.Tables.{nodeOf, tableOf, mapOf, SoundNode, SoundTable};
+ghost use Rattle.store.specs.Tables.{tableOf, mapOf, SoundTable};
 ghost use Rattle.store.specs.Stores.{storeIn, storeOf, SoundStore};
 ghost use Rattle.steps.specs.Steps.{FileName, Fits};
-ghost use Rattle.local_collection.specs.Keys.{isKey, isKeyOf, keysOf, Puts, OtherCaseOf, Normalized};
+ghost use Rattle.local_collection.specs.Keys.{isKey, keysOf, Puts, OtherCaseOf, Normalized};
 use spans::NameRef;
 use steps::Step;
 use store::Held;
-use store::Node;
 use store::Nodes;
 use store::Store;
 
@@ -60,31 +59,18 @@ pub fn is_valid_key(src: &[u8], file: NameRef) -> bool
     !spans::is_tmp(src, file)
 }
 
-// Whether a node is a file of a directory that is listed as a key.
-fn is_key_of(src: &[u8], x: Node, dir: NameRef) -> bool
-    requires { ⌜ SoundNode (now src) x × Sound (now src) dir ⌝ }
-    ensures { λ r. ⌜ r ≡ isKeyOf (nameOf (now (src .entry)) dir) (nodeOf (now (src .entry)) x) ⌝ }
-{
-    if !store::is_file_of(src, x, dir) {
-        return false;
-    }
-    let f = x.file;
-    is_valid_key(src, f)
-}
-
 // The first file of a listing that is the key in another case.
 pub fn other_case(src: &[u8], t: &Nodes, n: usize, dir: NameRef, key: NameRef) -> OtherCase
     requires { ⌜ SoundTable (now src) (tableOf (now t) n) × (Sound (now src) dir × Sound (now src) key) ⌝ }
     ensures { λ r. ⌜ OtherCaseOf (now (src .entry)) (nameOf (now (src .entry)) key) (files (nameOf (now (src .entry)) dir) (mapOf (now (src .entry)) (tableOf (now (t .entry)) n))) r ⌝ }
 {
+    let mut names = [0u32; store::ROOM];
+    let m = store::list_files(src, t, n, dir, &mut names);
     let mut i: usize = 0;
-    while i < n {
-        let x = store::node_at(t, i);
-        if is_key_of(src, x, dir) {
-            let f = x.file;
-            if lowers_to(src, f, key) {
-                return OtherCase::Is(f);
-            }
+    while i < m {
+        let f = store::name_at(&names, i);
+        if is_valid_key(src, f) && lowers_to(src, f, key) {
+            return OtherCase::Is(f);
         }
         i += 1;
     }
@@ -156,12 +142,13 @@ fn put_keys(src: &[u8], t: &Nodes, n: usize, dir: NameRef, out: &mut [u8]) -> us
     requires { ⌜ (SoundTable (now src) (tableOf (now t) n) × Sound (now src) dir) × (length (keysOf (nameOf (now src) dir) (mapOf (now src) (tableOf (now t) n))) ≤ length (now out)) ⌝ }
     ensures { λ r. ⌜ Writes (keysOf (nameOf (now (src .entry)) dir) (mapOf (now (src .entry)) (tableOf (now (t .entry)) n))) 0 (now (out .entry)) (now (out .exit)) r ⌝ }
 {
+    let mut names = [0u32; store::ROOM];
+    let m = store::list_files(src, t, n, dir, &mut names);
     let mut at: usize = 0;
     let mut i: usize = 0;
-    while i < n {
-        let x = store::node_at(t, i);
-        if is_key_of(src, x, dir) {
-            let f = x.file;
+    while i < m {
+        let f = store::name_at(&names, i);
+        if is_valid_key(src, f) {
             at += put_key(src, f, out, at);
         }
         i += 1;

@@ -1,6 +1,6 @@
 -- Loops that do one step for each file of a directory, and the loop through the operations.
-use mathlib.Core.Path.{_≡_, sym, ap, subst, _∙_}
-use mathlib.Core.List.{List, [], map}
+use mathlib.Core.Path.{_≡_, ap, subst, _∙_}
+use mathlib.Core.List.{List, map}
 use Prim.Native.Nat.{ℕ, _+_, _≤_, _<_}
 use native.Mathlib.Omega.{arith}
 use lib.ListN.{drop, getD, drop-of-length-le}
@@ -11,26 +11,24 @@ use Rattle.model.specs.Operation.{Op}
 use Rattle.model.specs.Store.{Store, files}
 use Rattle.model.specs.Step.{Step, renameFile, apply}
 use Rattle.model.specs.Plan.{opSteps, operationSteps}
-use Rattle.laws.specs.Listings.{files-named}
 use Rattle.laws.specs.OperationLaws.{ValidOp}
-use Rattle.laws.specs.Tests.{All, all-drop, in-all}
+use Rattle.laws.specs.Tests.{All}
 use Rattle.plans.specs.Machine.{single, seqOver, Going}
 use Rattle.plans.specs.MachineLaws.{begin, turn, goes-as, finish}
 use Rattle.plans.specs.ModelPlans.{careful, in-turn, in-turn-single}
-use Rattle.spans.specs.Spans.{nameOf}
 use Rattle.spans.specs.declared.NameRef.{NameRef}
 use Rattle.store.specs.Words.{nameAt}
 use Rattle.store.specs.Tables.{mapOf}
 use Rattle.store.proofs.Lists.{all-getD}
 use Rattle.steps.specs.Steps.{FileName}
 use Rattle.steps.specs.CodeRuns.{LentRun, runOf, SoundRun, Follows}
-use Rattle.steps.proofs.FileNames.{file-name}
+use Rattle.steps.proofs.FileNames.{listed-named}
 use Rattle.transaction.specs.Operations.{opOf, SoundOp}
 use Rattle.wal.specs.declared.Logged.{Logged}
 use Rattle.wal.specs.declared.WalRead.{WalRead}
 use Rattle.wal.specs.Logs.{loggedOf, opsRead, SoundRead}
 use Rattle.recovery.proofs.Follow.{follows-as}
-use Rattle.recovery.proofs.Over.{listed-rest, Over, name, end}
+use Rattle.recovery.proofs.Over.{Over, end}
 use Rattle.recovery.proofs.Entries.{length-read, op-at, read-at, read-rest}
 use Rattle.operations.proofs.Careful.{lawful}
 
@@ -44,15 +42,7 @@ backUpFile d f = renameFile d f (backupName f)
 module _ {src : Bytes} {run now : LentRun} {listing : List ℕ} {n i : ℕ} (h : Name → Step) (d : Name) (w : Over lawful src (each h) listing n (files d (mapOf src (run .store .tree))) run now i) where
   -- The name at i is not empty.
   pub each-name : {r : NameRef} → r ≡ nameAt (getD listing i 0) → i < n → FileName src r
-  each-name {r} e l =
-      file-name (name lawful w e l)
-      (subst (λ (q : NameRef). nameOf src q ≡ [] → ⊥) (sym e) (subst (All Named) (listed-rest (w .lists) i l) (all-drop Named i names (in-all Named names (files-named d (mapOf src (run .store .tree))))) .0))
-    where
-      names : List Name
-      names = files d (mapOf src (run .store .tree))
-
-      Named : Name → Type 0
-      Named f = f ≡ [] → ⊥
+  each-name e l = listed-named d (mapOf src (run .store .tree)) (w .lists) e l
 
   pub each-end : n ≤ i → Follows careful src (λ s. map h (files d (s .tree))) run now
   each-end l = follows-as lawful (end lawful w l) (in-turn (each h) (files d (mapOf src (run .store .tree))) _ ∙ in-turn-single h (files d (mapOf src (run .store .tree))) _)

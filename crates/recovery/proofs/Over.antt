@@ -1,11 +1,9 @@
 -- Loops over a listing: the names as they stood where the walk starts, and what is done at each in turn.
-use mathlib.Core.Path.{_≡_, sym, ap, subst, _∙_}
-use mathlib.Core.List.{List, _∷_, map}
-use Prim.Native.Nat.{ℕ, suc, _+_, _≤_, _<_}
-use native.Mathlib.Numerals.{add-one}
+use mathlib.Core.Path.{_≡_, ap, _∙_}
+use mathlib.Core.List.{List}
+use Prim.Native.Nat.{ℕ, _+_, _≤_, _<_}
 use native.Mathlib.Omega.{arith}
-use lib.ListN.{length, take, drop, getD, length-map, List·getD-map, drop-of-length-le}
-use lib.Seq.{drop-cons, length-take-le, getD-take}
+use lib.ListN.{drop, getD}
 use Rattle.model.specs.Order.{Name}
 use Rattle.model.specs.Base.{Bytes}
 use Rattle.model.specs.Store.{Store, dirs, files, stagingNames}
@@ -18,31 +16,10 @@ use Rattle.spans.specs.Spans.{nameOf, Sound}
 use Rattle.spans.specs.declared.NameRef.{NameRef}
 use Rattle.store.specs.Words.{nameAt}
 use Rattle.store.specs.Tables.{mapOf, Lists}
-use Rattle.store.proofs.Lists.{all-getD}
+use Rattle.store.proofs.Listed.{listed-end, listed-sound, listed-rest}
 use Rattle.steps.specs.CodeRuns.{LentRun, ModelRun, runOf, SoundRun, Follows}
 use Rattle.recovery.specs.Walks.{overFiles}
 use Rattle.recovery.proofs.Follow.{lawful, follows-as}
-
--- The names of a listing: how many there are, the one at i, and what is left from i on.
-module _ {src : Bytes} {l : List ℕ} {n : ℕ} {names : List Name} (s : Lists src l n names) where
-  pub length-listed : length names ≡ n
-  length-listed = ap length (sym (s .same)) ∙ length-map (take n l) (λ w. nameOf src (nameAt w)) ∙ length-take-le n l (s .within)
-
-  module _ (i : ℕ) (h : i < n) where
-    pub listed-sound : Sound src (nameAt (getD l i 0))
-    listed-sound =
-        let e : length (map nameAt (take n l)) ≡ n = length-map (take n l) nameAt ∙ length-take-le n l (s .within) in
-        subst (Sound src) (List·getD-map nameAt (take n l) i 0 ∙ ap nameAt (getD-take n l i 0 h)) (all-getD (Sound src) (map nameAt (take n l)) i (nameAt 0) (s .each) (omega arith))
-
-    at : getD names i (nameOf src (nameAt 0)) ≡ nameOf src (nameAt (getD l i 0))
-    at =
-        ap (λ (k : List Name). getD k i (nameOf src (nameAt 0))) (sym (s .same)) ∙ List·getD-map (λ w. nameOf src (nameAt w)) (take n l) i 0
-        ∙ ap (λ (w : ℕ). nameOf src (nameAt w)) (getD-take n l i 0 h)
-
-    pub listed-rest : drop i names ≡ nameOf src (nameAt (getD l i 0)) ∷ drop (i + 1) names
-    listed-rest =
-        let k : i < length names = omega (arith, length-listed) in
-        drop-cons names i (nameOf src (nameAt 0)) k ∙ ap (λ (x : Name). x ∷ drop (suc i) names) at ∙ ap (λ (j : ℕ). nameOf src (nameAt (getD l i 0)) ∷ drop j names) (sym (add-one i))
 
 module _ {m : Machine Store Step ModelRun} (l : Lawful m) where
   -- The first i names of a listing are done.
@@ -59,20 +36,20 @@ module _ {m : Machine Store Step ModelRun} (l : Lawful m) where
     pub end : n ≤ i → Follows m src (seqOver (m .apply) g names) start now
     end h = record {
       sound = w .sound;
-      does = finish l (goes-as l (w .going) (ap (λ (r : List Name). seqOver (m .apply) g r (m .store (runOf src now))) (drop-of-length-le names {i = i} (omega (arith, length-listed (w .lists))))));
+      does = finish l (goes-as l (w .going) (ap (λ (r : List Name). seqOver (m .apply) g r (m .store (runOf src now))) (listed-end (w .lists) h)));
     }
 
     -- The name at i.
     module _ {r : NameRef} (e : r ≡ nameAt (getD listing i 0)) (h : i < n) where
       pub name : Sound src r
-      name = subst (Sound src) (sym e) (listed-sound (w .lists) i h)
+      name = listed-sound (w .lists) e h
 
       pub done : {next : LentRun} → Follows m src (g (nameOf src r)) now next → Over src g listing n names start next (i + 1)
       done p = record {
         lists = w .lists;
         sound = p .sound;
         within = omega arith;
-        going = turn l (goes-as l (w .going) (ap (λ (k : List Name). seqOver (m .apply) g k (m .store (runOf src now))) (listed-rest (w .lists) i h ∙ ap (λ (q : NameRef). nameOf src q ∷ drop (i + 1) names) (sym e)))) (p .does);
+        going = turn l (goes-as l (w .going) (ap (λ (k : List Name). seqOver (m .apply) g k (m .store (runOf src now))) (listed-rest (w .lists) e h))) (p .does);
       }
 
 -- A walk through the tree, or through the staging files, of the run that it started with.

@@ -1,14 +1,21 @@
--- The name of a file is not empty, and a name that is not empty is one.
-use mathlib.Core.Path.{_≡_, refl, ap}
-use mathlib.Core.List.{[], _∷_}
-use Prim.Native.Nat.{_≤_}
+-- The name of a file is not empty, and a name that is not empty is one; so is every name of a directory's listing.
+use mathlib.Core.Path.{_≡_, refl, ap, subst}
+use mathlib.Core.List.{List, [], _∷_}
+use Prim.Native.Nat.{ℕ, _≤_, _<_}
 use native.Mathlib.Omega.{arith}
-use lib.ListN.{length}
+use lib.ListN.{length, getD}
 use Rattle.model.specs.Order.{Name}
+use Rattle.model.specs.Map.{Map}
 use Rattle.model.specs.Base.{Bytes}
+use Rattle.model.specs.Store.{files}
+use Rattle.laws.specs.Listings.{files-named}
+use Rattle.laws.specs.Tests.{All, all-drop, in-all}
 use Rattle.spans.specs.Spans.{nameOf, Sound}
 use Rattle.spans.specs.declared.NameRef.{NameRef}
 use Rattle.spans.proofs.Parts.{length-name}
+use Rattle.store.specs.Words.{nameAt}
+use Rattle.store.specs.Tables.{Lists}
+use Rattle.store.proofs.Listed.{listed-sound, listed-rest}
 use Rattle.steps.specs.Steps.{FileName}
 
 module _ {src : Bytes} {r : NameRef} where
@@ -21,3 +28,13 @@ module _ {src : Bytes} {r : NameRef} where
       some : (f : Name) → (f ≡ [] → ⊥) → 1 ≤ length f
       some [] h = absurd (h refl)
       some (y ∷ ys) h = omega arith
+
+-- A directory's files are listed: the name r at i is a file's.
+module _ {src : Bytes} {l : List ℕ} {n : ℕ} (d : Name) (m : Map) (s : Lists src l n (files d m)) where
+  pub listed-named : {i : ℕ} {r : NameRef} → r ≡ nameAt (getD l i 0) → i < n → FileName src r
+  listed-named {i} e h =
+      file-name (listed-sound s e h)
+      (subst (All Named) (listed-rest s e h) (all-drop Named i (files d m) (in-all Named (files d m) (files-named d m))) .0)
+    where
+      Named : Name → Type 0
+      Named f = f ≡ [] → ⊥

@@ -13,4 +13,5 @@ pub mod Rename
 pub mod Nodes
 pub mod Files
 pub mod Listing
+pub mod Listed
 pub mod Prefix

@@ -11,7 +11,7 @@ ghost use Rattle.model.specs.Store.{dirs, files, stagingNames};
 ghost use Rattle.model.specs.Step.{removeDir, renameDir};
 ghost use Rattle.spans.specs.Spans.{nameOf, orderOf, Sound};
 ghost use Rattle.store.specs.Places.{tableRoom, putIn};
-ghost use Rattle.store.specs.Nodes.{isFileOf, isDir};
+ghost use Rattle.store.specs.Nodes.{isDir};
 ghost use Rattle.store.specs.Words.{word, nameAt, nodesOf, blank};
 ghost use Rattle.store.specs.Tables.{keyOf, nodeOf, tableOf, live, mapOf, SoundNode, Sized, SoundTable, Holds, Finds, heldOf, Counted, FilesFrom, Lists};
 use spans::NameRef;
@@ -313,24 +313,12 @@ pub fn rename_dir(src: &[u8], t: &mut Nodes, n: usize, from: NameRef, to: NameRe
 }
 
 // Whether a node is a directory's own.
-pub fn is_dir(src: &[u8], x: Node) -> bool
+fn is_dir(src: &[u8], x: Node) -> bool
     requires { ⌜ SoundNode (now src) x ⌝ }
     ensures { λ r. ⌜ r ≡ isDir (nodeOf (now (src .entry)) x) ⌝ }
 {
     let file = x.file;
     spans::length_of(file) == 0
-}
-
-// Whether a node is a file of a directory.
-pub fn is_file_of(src: &[u8], x: Node, dir: NameRef) -> bool
-    requires { ⌜ SoundNode (now src) x × Sound (now src) dir ⌝ }
-    ensures { λ r. ⌜ r ≡ isFileOf (nameOf (now (src .entry)) dir) (nodeOf (now (src .entry)) x) ⌝ }
-{
-    if is_dir(src, x) {
-        return false;
-    }
-    let of = x.dir;
-    spans::same(src, dir, of)
 }
 
 // The place behind a directory's own, where its files start.

@@ -1,33 +1,47 @@
--- `other_case` goes through the nodes until it finds a key of the directory that is the given one in another case.
+-- `other_case` goes through the listing until it finds a key that is the given one in another case.
 use mathlib.Core.Logic.{⊎-elim}
+use mathlib.Core.Path.{sym, _∙_}
 use Prim.Native.Nat.{_-_}
-use Rattle.store.specs.Tables.{tableOf}
-use Rattle.local_collection.proofs.Listed.{Seeking, seeking, seeking-node, sought-past, sought-other, sought-found, sought-nothing}
+use Rattle.store.proofs.Listed.{namesIn, listed-sound}
+use Rattle.steps.proofs.FileNames.{listed-named}
+use Rattle.local_collection.proofs.Listed.{Seeking, seeking, sought-past, sought-other, sought-found, sought-nothing, among-listed}
 use borrow.Author.Needs.{needs}
 use native.Mathlib.Omega.{arith}
 use Rattle.local_collection.proofs.other_case.Statement.{statement}
 use Rattle.local_collection.proofs.other_case.Tie as tie
 
 abbrev Inv-loop : tie.InvT-loop
-Inv-loop src t n dir key i₀ i = Seeking src (tableOf t n) dir key i
+Inv-loop src t n key names m i₀ i = Seeking src names m (namesIn src names m) key i
 
 abbrev μ-loop : tie.MeasureT-loop
-μ-loop src t n dir key i₀ i = n - i
+μ-loop src t n key names m i₀ i = m - i
+
+list-files-requires : tie.Need-list-files-requires Inv-loop μ-loop
+list-files-requires c κs = search needs
 
 loop-holds : tie.Need-loop-holds Inv-loop μ-loop
-loop-holds c = seeking (c .before .pre .0) (c .before .pre .1 .0) (c .before .pre .1 .1)
+loop-holds c = seeking (c .list-files .ensures)
 
-node-at-requires : tie.Need-node-at-requires Inv-loop μ-loop
-node-at-requires c κs = omega (arith, c .before .loop .inv .sound .sized .room)
+name-at-requires : tie.Need-name-at-requires Inv-loop μ-loop
+name-at-requires c κs = search needs
 
-is-key-of-requires : tie.Need-is-key-of-requires Inv-loop μ-loop
-is-key-of-requires c κs = (seeking-node (c .before .before .loop .inv) (c .node-at .ensures) (omega arith), c .before .before .loop .inv .dir-sound)
+is-valid-key-requires : tie.Need-is-valid-key-requires Inv-loop μ-loop
+is-valid-key-requires c κs = listed-sound (c .before .before .before .loop .inv .lists) (c .name-at .ensures) (omega arith)
 
 lowers-to-requires : tie.Need-lowers-to-requires Inv-loop μ-loop
-lowers-to-requires c κs = (seeking-node (c .before .before .before .before .before .loop .inv) (c .before .before .before .node-at .ensures) (omega arith) .file, c .before .before .before .before .before .loop .inv .key-sound)
+lowers-to-requires c κs = (
+  listed-sound (c .before .before .before .before .before .loop .inv .lists) (c .before .before .name-at .ensures) (omega arith),
+  c .before .before .before .before .before .before .before .before .before .pre .1 .1,
+)
 
 returns : tie.Need-returns Inv-loop μ-loop
-returns c = sought-found (c .before .before .before .before .before .before .before .loop .inv) (c .before .before .before .before .before .node-at .ensures) (omega arith) (c .before .before .before .before .is-key-of .ensures) (c .before .lowers-to .ensures) (c .before .before .before .if1 .taken) (c .if2 .taken)
+returns c =
+    among-listed (c .before .before .before .before .before .before .before .before .list-files .ensures)
+    (sought-found (c .before .before .before .before .before .before .before .loop .inv)
+    (c .before .before .before .before .name-at .ensures) (omega arith) (sym (c .before .before .before .is-valid-key .ensures) ∙ c .before .before .if1 .taken)
+    (listed-named _ _ (c .before .before .before .before .before .before .before .before .list-files .ensures)
+    (c .before .before .before .before .name-at .ensures) (omega arith))
+    (sym (c .before .lowers-to .ensures) ∙ c .if2 .taken))
 
 add-i : tie.Need-add-i Inv-loop μ-loop
 add-i c = search needs
@@ -36,10 +50,18 @@ loop-less : tie.Need-loop-less Inv-loop μ-loop
 loop-less c = search needs
 
 loop-again : tie.Need-loop-again Inv-loop μ-loop
-loop-again c = ⊎-elim (λ w. sought-other (c .before .before .before .before .loop .inv) (c .before .before .node-at .ensures) (omega arith) (c .before .is-key-of .ensures) (w .2 .ensures) (w .0 .taken) (w .3 .left)) (λ w. sought-past (c .before .before .before .before .loop .inv) (c .before .before .node-at .ensures) (omega arith) (c .before .is-key-of .ensures) (w .left)) (c .if1 .came)
+loop-again c =
+    ⊎-elim
+    (λ w.
+    sought-other (c .before .before .before .before .before .loop .inv) (c .before .before .name-at .ensures) (omega arith)
+    (sym (c .before .is-valid-key .ensures) ∙ w .0 .taken) (sym (w .1 .ensures) ∙ w .2 .left))
+    (λ w.
+    sought-past (c .before .before .before .before .before .loop .inv) (c .before .before .name-at .ensures) (omega arith)
+    (sym (c .before .is-valid-key .ensures) ∙ w .left))
+    (c .if1 .came)
 
 returns-2 : tie.Need-returns-2 Inv-loop μ-loop
-returns-2 c = sought-nothing (c .before .loop .inv) (omega arith)
+returns-2 c = among-listed (c .before .before .list-files .ensures) (sought-nothing (c .before .loop .inv) (omega arith))
 
 pub other-case-spec : {M : Type 1} → statement M
 other-case-spec =
@@ -47,9 +69,10 @@ other-case-spec =
     (tie.spec
     Inv-loop
     μ-loop
+    list-files-requires
     loop-holds
-    node-at-requires
-    is-key-of-requires
+    name-at-requires
+    is-valid-key-requires
     lowers-to-requires
     returns
     add-i

@@ -1,6 +1,6 @@
 -- A store that was decoded is one that steps can be done on.
 use mathlib.Core.Path.{_≡_, ap, subst}
-use Prim.Native.Nat.{ℕ, _<_}
+use Prim.Native.Nat.{ℕ, _≤_, _<_}
 use native.Mathlib.Omega.{arith}
 use mathlib.Core.List.{_∷_}
 use mathlib.Core.Bool.{true}
@@ -13,11 +13,15 @@ use Rattle.spans.specs.declared.BackupName.the-variants.{Is}
 use Rattle.spans.proofs.Parts.{length-name}
 use Rattle.model.specs.Base.{Bytes}
 use Rattle.model.specs.Store.{dirs, fileCount}
+use Rattle.model.specs.Image.{encode}
 use Rattle.store.specs.Words.{Words}
 use Rattle.store.specs.Tables.{tableOf, mapOf}
 use Rattle.store.specs.Stores.{storeIn, storeOf}
 use Rattle.laws.specs.Tests.{leb-le}
 use Rattle.laws.specs.ImageLaws.{parts, decode-only}
+use Rattle.laws.specs.ValidNames.{validNaming}
+use Rattle.laws.specs.LengthLaws.{encode-length}
+use Rattle.laws.specs.EntryLaws.{lent-good}
 use Rattle.decode.specs.Decoding.{Decodes}
 use Rattle.decode.specs.declared.Decoded.{Decoded}
 use Rattle.steps.specs.Steps.{SoundStep, Fits, FileName}
@@ -34,6 +38,10 @@ started src tree staging d h e =
         files = leb-le (fileCount (mapOf src (tableOf tree (d .store .tree)))) 128 (p .filesFit);
       };
     }
+
+-- Its image has at most so many bytes.
+pub image-room : (src : Bytes) (tree staging : Words) (d : Decoded) → Decodes src tree staging d → d .ok ≡ true → length (encode (storeOf src (storeIn tree staging (d .store)))) ≤ 19262
+image-room src tree staging d h e = let s = storeOf src (storeIn tree staging (d .store)) in encode-length validNaming s (lent-good src s (h .accepted e))
 
 -- A file's own name, and its backup name, can be given to a rename.
 pub file-name : (src : Bytes) (r : NameRef) → Sound src r → (n : ℕ) → n ≡ lengthOf r → 0 < n → FileName src r

@@ -9,14 +9,22 @@ use store::Nodes;
 use store::Store;
 use wal::Tail;
 
-// Reads an image and writes it again; how many bytes were written.
+// The room that any image needs.
+const IMAGE_ROOM: usize = 19_262;
+
+// Reads an image and writes it again, its tree too; how many bytes were written.
 #[no_mangle]
 pub extern "C" fn bench_codec(image: &[u8], out: &mut [u8]) -> usize {
     let mut tree = [[0u32; 3]; store::ROOM];
     let mut staging = [[0u32; 3]; store::ROOM];
     let d = decode::decode(image, &mut tree, &mut staging);
-    let s = d.store;
-    encode::encode(image, &tree, &staging, s, Tail::Nothing, out)
+    if d.ok {
+        if IMAGE_ROOM <= out.len() {
+            let s = d.store;
+            return encode::encode(image, &tree, &staging, s, Tail::Nothing, 0, out);
+        }
+    }
+    0
 }
 
 // Does a sync `rounds` times.

@@ -56,7 +56,7 @@ pub extern "C" fn cda_storage_begin(image: &[u8], out: &mut [u8], written: &mut 
     let s = o.store;
     let storage = LocalStorage { store: s };
     let r = storage.begin_transaction();
-    handover::hand_on(image, &tree, &staging, r, out, written)
+    handover::hand_on(image, &tree, &staging, r, o.tree_end, out, written)
 }
 
 // Records a Write of the caller's staging file and number. Refusals: 1, 2, 4, 5, 6, 10.
@@ -322,7 +322,7 @@ pub extern "C" fn cda_storage_rollback(image: &[u8], out: &mut [u8], written: &m
     let s = o.store;
     let storage = LocalStorage { store: s };
     let r = storage.rollback(image);
-    handover::hand_on(image, &tree, &staging, r, out, written)
+    handover::hand_on(image, &tree, &staging, r, o.tree_end, out, written)
 }
 
 // Commits the transaction. Refusals: 1, 2, 4; 14 and 15 hand back the rolled-back image.
@@ -343,7 +343,7 @@ pub extern "C" fn cda_storage_commit(image: &[u8], out: &mut [u8], written: &mut
     if found {
         let kept = r.storage;
         let t = kept.store;
-        handover::hand_image(image, &tree, &staging, t, Tail::Nothing, out, written);
+        handover::hand_image(image, &tree, &staging, t, Tail::Nothing, 0, out, written);
         return r.number;
     }
     4
@@ -427,7 +427,7 @@ pub extern "C" fn cda_storage_recover(image: &[u8], out: &mut [u8], written: &mu
     }
     let run = r.run;
     let t = run.store;
-    handover::hand_image(image, &tree, &staging, t, Tail::Nothing, out, written);
+    handover::hand_image(image, &tree, &staging, t, Tail::Nothing, 0, out, written);
     0
 }
 

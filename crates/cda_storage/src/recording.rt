@@ -37,10 +37,10 @@ pub fn write(
     let s = o.store;
     let storage = LocalStorage { store: s };
     let r = storage.write(src, staging, valid, c.name, k.name, f.name, number);
-    handover::hand_on(src, tree, staging, r, out, written)
+    handover::hand_on(src, tree, staging, r, o.tree_end, out, written)
 }
 
-// A Delete: a collection and a key.
+// A Delete: a collection and a key. Its case rename may change the tree, which is written anew.
 pub fn delete(
     src: &mut [u8],
     image: &[u8],
@@ -62,7 +62,7 @@ pub fn delete(
     let s = o.store;
     let storage = LocalStorage { store: s };
     let r = storage.delete(src, tree, staging, valid, c.name, k.name);
-    handover::hand_on(src, tree, staging, r, out, written)
+    handover::hand_on(src, tree, staging, r, 0, out, written)
 }
 
 // A DeleteAll.
@@ -84,7 +84,7 @@ pub fn delete_all(
     let s = o.store;
     let storage = LocalStorage { store: s };
     let r = storage.delete_all(src, c.valid, c.name);
-    handover::hand_on(src, tree, staging, r, out, written)
+    handover::hand_on(src, tree, staging, r, o.tree_end, out, written)
 }
 
 // A CreateCollection.
@@ -106,7 +106,7 @@ pub fn create_collection(
     let s = o.store;
     let storage = LocalStorage { store: s };
     let r = storage.create_collection(src, tree, staging, c.valid, c.name);
-    handover::hand_on(src, tree, staging, r, out, written)
+    handover::hand_on(src, tree, staging, r, o.tree_end, out, written)
 }
 
 // A DeleteCollection.
@@ -128,7 +128,7 @@ pub fn delete_collection(
     let s = o.store;
     let storage = LocalStorage { store: s };
     let r = storage.delete_collection(src, tree, staging, c.valid, c.name);
-    handover::hand_on(src, tree, staging, r, out, written)
+    handover::hand_on(src, tree, staging, r, o.tree_end, out, written)
 }
 
 // A CopyCollection: source and destination.
@@ -152,7 +152,7 @@ pub fn copy_collection(
     let s = o.store;
     let storage = LocalStorage { store: s };
     let r = storage.copy_collection(src, tree, staging, a.valid, a.name, b.valid, b.name);
-    handover::hand_on(src, tree, staging, r, out, written)
+    handover::hand_on(src, tree, staging, r, o.tree_end, out, written)
 }
 
 // The key list of a collection.

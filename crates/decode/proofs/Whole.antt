@@ -6,7 +6,8 @@ use mathlib.Core.Option.{Option, none, some}
 use Prim.Native.Nat.{ℕ, _≤_, _<_}
 use native.Mathlib.Omega.{arith}
 use lib.Dec.{eqb}
-use lib.ListN.{length, drop-of-length-le}
+use lib.ListN.{length, take, drop, length-append, length-drop, drop-of-length-le}
+use lib.Seq.{take-at}
 use borrow.Author.Tests.{eq-eqb, eqb-true}
 use Rattle.model.specs.Limits.{imageRoom}
 use Rattle.model.specs.Map.{Map}
@@ -16,7 +17,7 @@ use Rattle.model.specs.Store as model
 use Rattle.model.specs.Store.{dirs, fileCount, wellFormed}
 use Rattle.model.specs.Image.{nodeField, stagedField, logField, markField, imageFields, decode}
 use Rattle.laws.specs.Tests.{and-both, and-made, le-leb}
-use Rattle.laws.specs.ImageLaws.{Parts, parts, of-parts, regroup, encode-parts, tail, split-encode, decode-encode, decode-only}
+use Rattle.laws.specs.ImageLaws.{listed, Parts, parts, of-parts, regroup, encode-parts, tail, split-encode, decode-encode, decode-only}
 use Rattle.laws.specs.TreeLaws.{size, isFile, one, dir-size, file-size, length-size}
 use Rattle.laws.specs.StoreLaws.{LogFits, fits-log, Good, good}
 use Rattle.laws.specs.ValidNames.{Valid, validNaming}
@@ -24,6 +25,8 @@ use Rattle.laws.specs.LengthLaws.{encode-length}
 use Rattle.store.specs.declared.Store.{Store}
 use Rattle.store.specs.Words.{Words, nodesOf}
 use Rattle.store.specs.Places.{tableRoom}
+use Rattle.store.specs.Tables.{tableOf, mapOf}
+use Rattle.store.specs.Kept.{Kept}
 use Rattle.store.specs.Stores.{storeIn, storeOf}
 use Rattle.store.proofs.Lists.{drop-zero}
 use Rattle.decode.specs.declared.NodesPart.{NodesPart}
@@ -112,6 +115,22 @@ module _ {src : Bytes} {u v : Words} {t g : NodesPart} {l : LogPart} {m : MarkPa
           sym (drop-zero src) ∙ T .reads .bytes (r .tree)
           ∙ ap (a ++_) (G .reads .bytes (r .staging) ∙ ap (b ++_) (L .reads .bytes (r .log) ∙ ap (encodeFields (logField (s .log)) ++_) (M .reads .bytes (r .mark) ∙ rw (r .end, drop-of-length-le src {i = length src} (omega arith)) (append-nil (encodeFields (markField (s .openMark)))))))
 
+  -- The tree's fields are the bytes up to its end.
+  tree-kept : t .ok ≡ true → Kept src (t .next) (mapOf src (tableOf u (t .len)))
+  tree-kept e = record { within = T .reads .within; same = λ z. front }
+    where
+      fields : Bytes
+      fields = encodeFields (map (listed false) (mapOf src (tableOf u (t .len))))
+
+      whole : src ≡ fields ++ drop (t .next) src
+      whole = sym (drop-zero src) ∙ T .reads .bytes e
+
+      size : t .next ≡ length fields
+      size = let n = ap length whole ∙ length-append fields (drop (t .next) src) in let d = length-drop (t .next) src in let w = T .reads .within in omega arith
+
+      front : take (t .next) src ≡ fields
+      front = ap (take (t .next)) whole ∙ take-at fields (drop (t .next) src) (t .next) (sym size)
+
   all-read : (s : model.Store) → decode src ≡ some s → Read
   all-read s e =
       let w = decode-only src s e .1 in
@@ -123,12 +142,13 @@ module _ {src : Bytes} {u v : Words} {t g : NodesPart} {l : LogPart} {m : MarkPa
       let d = M .reads .only (s .openMark) [] tt refl (rw (append-nil (markField (s .openMark))) (c .1 .1)) in
       record { tree = a .0; staging = b .0; log = c .0; mark = d .0; end = ended src (m .next) (M .reads .within) (d .1 .1) }
 
-  pub decided : (ok : Bool) → ok ≡ ((t .ok && g .ok) && (l .ok && (m .ok && eqb (m .next) (length src)))) → Decodes src u v (record { ok = ok; store = joined t g l m })
+  pub decided : (ok : Bool) → ok ≡ ((t .ok && g .ok) && (l .ok && (m .ok && eqb (m .next) (length src)))) → Decodes src u v (record { ok = ok; store = joined t g l m; «tree_end» = t .next })
   decided ok e = record {
     sound = record { tree = T .sound; staging = G .sound; log = L .sound };
     plain = L .plain;
     accepted = λ z. accepted (read z);
     refused = λ z. no z (decode src) refl;
+    kept = λ z. tree-kept (read z .tree);
   }
     where
       read : ok ≡ true → Read
@@ -148,12 +168,13 @@ module _ {src : Bytes} {u v : Words} {t g : NodesPart} {l : LogPart} {m : MarkPa
 
 -- A longer image than any store's.
 pub too-long : (src : Bytes) {t g : Words} → imageRoom < length src → length (nodesOf t) ≡ tableRoom → length (nodesOf g) ≡ tableRoom →
-    Decodes src t g (record { ok = false; store = record { tree = 0; staging = 0; log = record { start = 0; len = 0; stands = false; marked = false }; «open_mark» = false } })
+    Decodes src t g (record { ok = false; store = record { tree = 0; staging = 0; log = record { start = 0; len = 0; stands = false; marked = false }; «open_mark» = false }; «tree_end» = 0 })
 too-long src {t} {g} h T G = record {
   sound = record { tree = unused T .sound; staging = unused G .sound; log = record { inside = omega arith } };
   plain = refl;
   accepted = λ z. absurd (false≢true z);
   refused = λ z. no (decode src) refl;
+  kept = λ z. absurd (false≢true z);
 }
   where
     no : (o : Option model.Store) → decode src ≡ o → decode src ≡ none

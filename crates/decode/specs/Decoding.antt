@@ -12,6 +12,7 @@ use Rattle.laws.specs.StoreLaws.{LogFits}
 use Rattle.laws.specs.ImageLaws.{listed}
 use Rattle.store.specs.Words.{Words}
 use Rattle.store.specs.Tables.{tableOf, mapOf, SoundTable}
+use Rattle.store.specs.Kept.{Kept}
 use Rattle.store.specs.Stores.{storeIn, logBytes, storeOf, SoundLog, SoundStore}
 use Rattle.decode.specs.declared.NodesPart.{NodesPart}
 use Rattle.decode.specs.declared.LogPart.{LogPart}
@@ -33,9 +34,11 @@ pub record ReadsLog (src : Bytes) (at : ℕ) (r : LogPart) : Type 0 where
 pub record ReadsMark (src : Bytes) (at : ℕ) (r : MarkPart) : Type 0 where
   pub reads : Reads markField (λ b. Unit {0}) (λ t. eqb t 0x14) src at (r .ok) (r .mark) (r .next)
 
--- 01, Sixteen numbers: "1. The image breaks its layout or a limit." The store of the image; an image that the definition refuses is refused.
+-- 01, Sixteen numbers: "1. The image breaks its layout or a limit." The store of the image, and where its tree stands in it; an image that the
+-- definition refuses is refused.
 pub record Decodes (src : Bytes) (tree staging : Words) (r : Decoded) : Type 0 where
   pub sound : SoundStore src (storeIn tree staging (r .store))
   pub plain : r .store .log .marked ≡ false
   pub accepted : r .ok ≡ true → decode src ≡ some (storeOf src (storeIn tree staging (r .store)))
   pub refused : r .ok ≡ false → decode src ≡ none
+  pub kept : r .ok ≡ true → Kept src (r .«tree_end») (mapOf src (tableOf tree (r .store .tree)))

@@ -68,10 +68,11 @@ pub struct MarkPart {
     pub next: usize,
 }
 
-// The store of an image, where that is not refused.
+// The store of an image, where that is not refused, and where its tree ends.
 pub struct Decoded {
     pub ok: bool,
     pub store: Store,
+    pub tree_end: usize,
 }
 
 fn file_limit(staged: bool) -> usize
@@ -347,6 +348,7 @@ fn read_image(src: &[u8], tree: &mut Nodes, staging: &mut Nodes) -> Decoded
             log: log,
             open_mark: m.mark,
         },
+        tree_end: t.next,
     }
 }
 
@@ -365,6 +367,7 @@ pub fn decode(src: &[u8], tree: &mut Nodes, staging: &mut Nodes) -> Decoded
                 log: NO_LOG,
                 open_mark: false,
             },
+            tree_end: 0,
         };
     }
     read_image(src, tree, staging)

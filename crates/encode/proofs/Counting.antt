@@ -2,7 +2,7 @@
 use mathlib.Core.Path.{_≡_, sym, ap, _∙_}
 use mathlib.Core.Bool.{Bool, true, false}
 use mathlib.Core.List.{[], _++_, map}
-use Prim.Native.Nat.{ℕ, _+_, _*_, _-_, _≤_, _<_}
+use Prim.Native.Nat.{ℕ, _+_, _-_, _≤_, _<_}
 use native.Mathlib.Omega.{arith}
 use lib.ListN.{length, take, drop, getD, length-append}
 use Rattle.model.specs.Base.{Bytes}
@@ -17,30 +17,29 @@ use Rattle.spans.proofs.Parts.{length-name}
 use Rattle.store.specs.declared.Node.{Node}
 use Rattle.store.specs.declared.LogRef.{LogRef}
 use Rattle.store.specs.Words.{blank}
-use Rattle.store.specs.Tables.{Table, nodeOf, mapOf, SoundNode, Sized, SoundTable}
+use Rattle.store.specs.Tables.{Table, nodeOf, mapOf, SoundNode, Sized}
 use Rattle.store.specs.Stores.{SoundLog}
-use Rattle.store.proofs.Lists.{drop-zero}
-use Rattle.store.proofs.Live.{rest, finished, sound-at}
-use Rattle.encode.specs.Sizes.{nodeBound, NodeSize, NodesSize, LogSize}
+use Rattle.store.proofs.Live.{rest, finished}
+use Rattle.encode.specs.Sizes.{NodeSize, LogSize}
 use Rattle.encode.proofs.Shapes.{staged-field, dir-field, file-field, numbered-length, marked-length, log-absent, log-plain, log-marked, log-length}
 
 -- One node.
-module _ {x : Node} {n : ℕ} (e : n ≡ lengthOf (x .file)) (b : n < 2_048) where
+module _ {x : Node} {n : ℕ} (e : n ≡ lengthOf (x .file)) where
   name-length : {src : Bytes} → SoundNode src x → length (nameOf src (x .file)) ≡ n
   name-length s = length-name (s .file) ∙ sym e
 
   pub staged-size : {staged : Bool} → staged ≡ true → NodeSize staged x (7 + n)
-  staged-size w = record { bound = omega arith; same = λ src s. rw (staged-field s w) (sym (numbered-length 0x12 (x .number) (nameOf src (x .file)) ∙ ap (7 +_) (name-length s))) }
+  staged-size w = record {
+    same = λ src s. rw (staged-field s w) (sym (numbered-length 0x12 (x .number) (nameOf src (x .file)) ∙ ap (7 +_) (name-length s)));
+  }
 
   pub file-size : {staged : Bool} → staged ≡ false → (n ≡ 0 → ⊥) → NodeSize staged x (7 + n)
   file-size w h = record {
-    bound = omega arith;
     same = λ src s. rw (file-field s w (λ z. h (e ∙ z))) (sym (numbered-length 0x11 (x .number) (nameOf src (x .file)) ∙ ap (7 +_) (name-length s)));
   }
 
-  pub dir-size : {staged : Bool} {m : ℕ} → staged ≡ false → n ≡ 0 → m ≡ lengthOf (x .dir) → m < 2_048 → NodeSize staged x (3 + m)
-  dir-size w h f c = record {
-    bound = omega arith;
+  pub dir-size : {staged : Bool} {m : ℕ} → staged ≡ false → n ≡ 0 → m ≡ lengthOf (x .dir) → NodeSize staged x (3 + m)
+  dir-size w h f = record {
     same = λ src s. rw (dir-field s w (sym e ∙ h)) (sym (encoded-length (field 0x10 (nameOf src (x .dir))) ∙ ap (3 +_) (length-name (s .dir) ∙ sym f)));
   }
 
@@ -65,33 +64,6 @@ module _ (staged : Bool) (src : Bytes) {t : Table} (i : ℕ) (s : Sized t) where
   pub last-bytes : t .len ≤ i → bytesFrom staged src t i ≡ []
   unfolding encodeFields
   last-bytes h = rw (finished src i s h)
-
--- The loop over the nodes: those before i are counted.
-pub record Counting (staged : Bool) (t : Table) (n i : ℕ) : Type 0 where
-  pub sized : Sized t
-  pub within : i ≤ t .len
-  pub bound : n ≤ i * nodeBound
-  pub same : (src : Bytes) → SoundTable src t → n + length (bytesFrom staged src t i) ≡ length (bytesOf staged src t)
-
-pub start : {staged : Bool} {t : Table} → Sized t → Counting staged t 0 0
-start {staged} {t} s = record { sized = s; within = omega arith; bound = omega arith; same = λ src h. rw (drop-zero (mapOf src t)) (omega arith) }
-
-module _ {staged : Bool} {t : Table} {n i : ℕ} (w : Counting staged t n i) where
-  pub counted : {x : Node} {k : ℕ} → i < t .len → x ≡ getD (t .nodes) i blank → NodeSize staged x k → Counting staged t (n + k) (i + 1)
-  counted {x} {k} h e z =
-      let y : NodeSize staged (getD (t .nodes) i blank) k = rw e at z in
-      record {
-        sized = w .sized;
-        within = omega arith;
-        bound = omega (arith, w .bound, z .bound);
-        same = λ src s. omega (arith, next-length staged src i (w .sized) h, w .same src s, y .same src (sound-at i blank s h));
-      }
-
-  pub all-counted : t .len ≤ i → NodesSize staged t n
-  all-counted h = record {
-    bound = omega (arith, w .bound, w .within, w .sized .room);
-    same = λ src s. omega (arith, ap length (last-bytes staged src i (w .sized) h), w .same src s);
-  }
 
 -- The log.
 module _ {l : LogRef} where

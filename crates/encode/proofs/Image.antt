@@ -1,25 +1,37 @@
 -- The four parts of an image, one behind the other.
-use mathlib.Core.Path.{_≡_, sym, ap, _∙_}
+use mathlib.Core.Path.{_≡_, ap, _∙_}
 use mathlib.Core.Bool.{true, false}
-use mathlib.Core.List.{_++_, append-assoc}
-use Prim.Native.Nat.{ℕ, _+_, _≤_, _<_}
+use mathlib.Core.List.{_++_}
+use Prim.Native.Nat.{ℕ, _+_, _≤_}
 use native.Mathlib.Omega.{arith}
 use lib.ListN.{length, drop, length-append}
-use borrow.Author.Tests.{le-leb, lt-leb}
 use Rattle.model.specs.Base.{Bytes}
 use Rattle.model.specs.Field.{encodeFields}
 use Rattle.model.specs.Image.{markField, encode}
 use Rattle.laws.specs.ImageLaws.{encode-parts}
-use Rattle.field.specs.Writing.{written}
-use Rattle.field.proofs.Written.{written-full, length-written, written-then, written-front}
-use Rattle.store.specs.Stores.{LentStore, storeOf, SoundStore}
+use Rattle.field.proofs.Written.{length-written, written-then, written-front}
+use Rattle.store.specs.Stores.{LentStore, storeOf}
 use Rattle.wal.specs.declared.Tail.{Tail}
 use Rattle.wal.specs.declared.Tail.the-variants.{Nothing, Header, Entry}
 use Rattle.wal.specs.Tails.{withTail}
 use Rattle.encode.specs.Logs.{fieldAfter}
-use Rattle.encode.specs.Sizes.{NodesSize, TailSize}
-use Rattle.encode.specs.Encoding.{writtenCount, Encodes}
+use Rattle.encode.specs.Encoding.{Puts}
 use Rattle.encode.proofs.Counting.{bytesOf}
+
+-- A part with room for it and what follows has room for itself.
+front-room : (at : ℕ) {n : ℕ} (a b : Bytes) → at + length (a ++ b) ≤ n → at + length a ≤ n
+front-room at a b r = omega (arith, length-append a b)
+
+-- A part written, and what follows it: this has room behind the part, and written there it makes the whole.
+module _ {a : Bytes} (b : Bytes) {at p : ℕ} {out mid : Bytes} (A : Puts a at out mid p) (r : at + length (a ++ b) ≤ length out) where
+  behind-room : p + length b ≤ length mid
+  behind-room = omega (arith, length-append a b, ap length (A .same) ∙ length-written at a out)
+
+  joined : {end : Bytes} {q : ℕ} → Puts b p mid end q → Puts (a ++ b) at out end q
+  joined B = record {
+    same = written-then at p a b out (A .same) (B .same) (A .place) (omega (arith, length-append a b));
+    place = omega (arith, length-append a b);
+  }
 
 -- The bytes of the parts.
 abbrev tree : Bytes → LentStore → Bytes
@@ -43,54 +55,39 @@ in-parts src Nothing s = encode-parts (withTail src Nothing (storeOf src s))
 in-parts src Header s = encode-parts (withTail src Header (storeOf src s))
 in-parts src (Entry o) s = encode-parts (withTail src (Entry o) (storeOf src s))
 
-module _ {src : Bytes} {s : LentStore} {tail : Tail} (h : SoundStore src s) {a g l m : ℕ} (A : NodesSize false (s .tree) a) (G : NodesSize true (s .staging) g) (L : TailSize src (s .log) tail l) (M : m ≡ length (mark s)) where
-  tree-size : a ≡ length (tree src s)
-  tree-size = A .same src (h .tree)
+-- Each part has room, and all are the image.
+module _ (src : Bytes) (tail : Tail) (s : LentStore) (out : Bytes) (r : length (image src tail s) ≤ length out) where
+  room : 0 + length (tree src s ++ (staging src s ++ (log src tail s ++ mark s))) ≤ length out
+  room = omega (arith, ap length (in-parts src tail s))
 
-  staging-size : g ≡ length (staging src s)
-  staging-size = G .same src (h .staging)
+  pub tree-room : length (tree src s) ≤ length out
+  tree-room = omega (arith, front-room 0 (tree src s) (staging src s ++ (log src tail s ++ mark s)) room)
 
-  log-size : l ≡ length (log src tail s)
-  log-size = L .same
+  module _ {a : ℕ} {one : Bytes} (A : Puts (tree src s) 0 out one a) where
+    behind-tree : a + length (staging src s ++ (log src tail s ++ mark s)) ≤ length one
+    behind-tree = behind-room (staging src s ++ (log src tail s ++ mark s)) A room
 
-  grouped : image src tail s ≡ tree src s ++ staging src s ++ log src tail s ++ mark s
-  grouped = in-parts src tail s ∙ simp append-assoc
+    pub staging-room : a + length (staging src s) ≤ length one
+    staging-room = front-room a (staging src s) (log src tail s ++ mark s) behind-tree
 
-  image-size : length (image src tail s) ≡ a + g + l + m
-  image-size = ap length grouped ∙ omega (arith, length-append (tree src s ++ staging src s ++ log src tail s) (mark s), length-append (tree src s ++ staging src s) (log src tail s), length-append (tree src s) (staging src s), tree-size, staging-size, log-size)
+    module _ {b : ℕ} {two : Bytes} (B : Puts (staging src s) a one two b) where
+      behind-staging : b + length (log src tail s ++ mark s) ≤ length two
+      behind-staging = behind-room (log src tail s ++ mark s) B behind-tree
 
-  module _ (out : Bytes) where
-    -- No room: nothing is written.
-    pub no-room : length out < a + g + l + m → Encodes (image src tail s) out out 0
-    unfolding writtenCount
-    no-room r = record { count = rw (image-size, lt-leb (a + g + l + m) (length out) r); same = sym (written-full 0 (image src tail s) out (omega (arith, image-size))) }
+      pub log-room : b + length (log src tail s) ≤ length two
+      log-room = front-room b (log src tail s) (mark s) behind-staging
 
-    module _ (r : a + g + l + m ≤ length out) where
-      pub tree-room : 0 + length (tree src s) ≤ length out
-      tree-room = omega (arith, tree-size)
+      module _ {c : ℕ} {three : Bytes} (C : Puts (log src tail s) b two three c) where
+        pub mark-room : c + length (mark s) ≤ length three
+        mark-room = behind-room (mark s) C behind-staging
 
-      module _ {one : Bytes} (p : one ≡ written 0 (tree src s) out) where
-        pub staging-room : a + length (staging src s) ≤ length one
-        staging-room = omega (arith, staging-size, ap length p ∙ length-written 0 (tree src s) out)
-
-        pub log-room : {two : Bytes} → two ≡ written a (staging src s) one → a + g + length (log src tail s) ≤ length two
-        log-room q = omega (arith, log-size, ap length q ∙ length-written a (staging src s) one, ap length p ∙ length-written 0 (tree src s) out)
-
-        pub all-written : {two three four : Bytes} → two ≡ written a (staging src s) one → three ≡ written (a + g) (log src tail s) two → four ≡ written (a + g + l) (mark s) three → Encodes (image src tail s) out four (a + g + l + m)
-        unfolding writtenCount
-        all-written q u v =
-            let t = length-append (tree src s) (staging src s) in
-            let w = length-append (tree src s ++ staging src s) (log src tail s) in
-            record {
-              count = rw (image-size, le-leb (a + g + l + m) (length out) r);
-              same =
-                  written-then 0 (a + g + l) (tree src s ++ staging src s ++ log src tail s) (mark s) out
-                  (written-then 0 (a + g) (tree src s ++ staging src s) (log src tail s) out (written-then 0 a (tree src s) (staging src s) out p q (omega (arith, tree-size)) (omega (arith, staging-size))) u (omega (arith, tree-size, staging-size)) (omega (arith, log-size)))
-                  v (omega (arith, tree-size, staging-size, log-size)) (omega arith)
-                  ∙ ap (λ (b : Bytes). written 0 b out) (sym grouped);
-            }
+        pub all-written : {n : ℕ} {four : Bytes} → Puts (mark s) c three four n → Puts (image src tail s) 0 out four n
+        all-written D =
+            let z = joined (mark s) C behind-staging D in
+            let y = joined (log src tail s ++ mark s) B behind-tree z in
+            rw (in-parts src tail s) (joined (staging src s ++ (log src tail s ++ mark s)) A room y)
 
 -- For callers: where the image has room, it stands at the front, and the bytes behind it are as they were.
-pub in-room : {image out after : Bytes} {n : ℕ} → Encodes image out after n → length image ≤ length out → (n ≡ length image) × (after ≡ image ++ drop (length image) out)
-unfolding writtenCount
-in-room {image} {out} e h = (e .count ∙ rw (le-leb (length image) (length out) h), e .same ∙ written-front image out h)
+pub in-room : {image out after : Bytes} {n : ℕ} → Puts image 0 out after n → length image ≤ length out →
+    (n ≡ length image) × (after ≡ image ++ drop (length image) out)
+in-room {image} {out} e h = (omega arith, e .same ∙ written-front image out h)

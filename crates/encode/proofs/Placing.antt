@@ -1,15 +1,16 @@
 -- Parts of an image written one behind the other.
 use mathlib.Core.Path.{_≡_, refl, sym, ap, _∙_}
 use mathlib.Core.Bool.{Bool, true, false}
-use mathlib.Core.List.{_∷_, _++_}
+use mathlib.Core.List.{_∷_, _++_, map}
 use mathlib.Core.Option.{Option, some}
 use Prim.Native.Nat.{ℕ, _+_, _-_, _≤_, _<_}
 use native.Mathlib.Omega.{arith}
 use lib.ListN.{length, take, drop, getD, length-append, length-drop}
-use lib.Seq.{drop-drop}
+use lib.Seq.{length-take-le, drop-drop}
 use native.Mathlib.Decide.{decLe}
 use Rattle.model.specs.Base.{Bytes}
-use Rattle.model.specs.Field.{littleEndian, encodeField}
+use Rattle.model.specs.Map.{Map}
+use Rattle.model.specs.Field.{littleEndian, encodeField, encodeFields}
 use Rattle.model.specs.Log.{header, markCommitting}
 use Rattle.laws.specs.ListLaws.{take-zero, part-length, drop-take}
 use Rattle.laws.specs.ImageLaws.{listed}
@@ -23,10 +24,12 @@ use Rattle.store.specs.declared.Node.{Node}
 use Rattle.store.specs.Words.{blank}
 use Rattle.store.specs.Tables.{Table, nodeOf, mapOf, SoundTable}
 use Rattle.store.specs.Stores.{logBytes}
+use Rattle.store.specs.Kept.{Kept}
 use Rattle.store.proofs.Lists.{drop-zero}
 use Rattle.store.proofs.Read.{sound-read}
 use Rattle.encode.specs.Logs.{logStart}
 use Rattle.encode.specs.Sizes.{NodeSize}
+use Rattle.encode.specs.Encoding.{Puts}
 use Rattle.encode.proofs.Shapes.{header-length, log-absent, log-plain, log-marked, start-length, start-head}
 use Rattle.encode.proofs.Counting.{bytesOf, bytesAt, bytesFrom, next-bytes, next-length, last-bytes}
 
@@ -147,5 +150,14 @@ module _ {staged : Bool} {src : Bytes} {t : Table} where
                   ∙ ap (λ (b : Bytes). written p b now) (sym (next-bytes staged src i (s .sized) h)) ∙ w .same;
             }
 
-    pub all-placed : t .len ≤ i → now ≡ written at (bytesOf staged src t) out
-    all-placed h = sym (ap (λ (b : Bytes). written p b now) (last-bytes staged src i (s .sized) h) ∙ written-nil p now) ∙ w .same
+    pub all-placed : t .len ≤ i → Puts (bytesOf staged src t) at out now p
+    all-placed h =
+        let e = last-bytes staged src i (s .sized) h in
+        record { same = sym (ap (λ (b : Bytes). written p b now) e ∙ written-nil p now) ∙ w .same; place = omega (arith, ap length e) }
+
+-- A tree that stands in the lent bytes as it is to be written.
+pub kept-copied : {src : Bytes} {kept : ℕ} {m : Map} (out : Bytes) {after : Bytes} → Kept src kept m → (kept ≡ 0 → ⊥) →
+    after ≡ written 0 (take kept src) out → Puts (encodeFields (map (listed false) m)) 0 out after kept
+kept-copied {src} {kept} out k h p =
+    let e = k .same h in
+    record { same = p ∙ ap (λ (b : Bytes). written 0 b out) e; place = omega (arith, ap length e, length-take-le kept src (k .within)) }

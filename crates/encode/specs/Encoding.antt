@@ -1,16 +1,12 @@
--- What `encode` leaves in the lent output.
+-- What the parts of an image leave in the lent output, each behind the one before.
 use mathlib.Core.Path.{_≡_}
-use Prim.Native.Nat.{ℕ}
+use Prim.Native.Nat.{ℕ, _+_}
 use lib.ListN.{length}
-use lib.Dec.{leb}
-use Rattle.model.specs.Base.{Bytes, if_then_else_}
+use Rattle.model.specs.Base.{Bytes}
 use Rattle.field.specs.Writing.{written}
 
--- 01, Sixteen numbers: "An answer says how many bytes were written; the lent output keeps its bytes behind them." An image that has no room
--- is not written.
-unfoldable pub writtenCount : Bytes → Bytes → ℕ
-writtenCount image out = if leb (length image) (length out) then length image else 0
-
-pub record Encodes (image out after : Bytes) (n : ℕ) : Type 0 where
-  pub count : n ≡ writtenCount image out
-  pub same : after ≡ written 0 image out
+-- 01, Sixteen numbers: "An answer says how many bytes were written; the lent output keeps its bytes behind them." Some bytes written at a place,
+-- and the place behind them.
+pub record Puts (bytes : Bytes) (at : ℕ) (before after : Bytes) (end : ℕ) : Type 0 where
+  pub same : after ≡ written at bytes before
+  pub place : end ≡ at + length bytes

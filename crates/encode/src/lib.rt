@@ -1,24 +1,25 @@
 // A store's image, written at the front of the lent output: 01, How a store is handed over.
 ghost use mathlib.Core.Path.{_≡_};
+ghost use mathlib.Core.Bool.{false};
 ghost use mathlib.Core.List.{_++_, map};
 ghost use mathlib.Core.Option.{some};
 ghost use Prim.Native.Nat.{_+_, _-_, _≤_, _<_};
 ghost use lib.ListN.{length, take, drop};
 ghost use Rattle.model.specs.Field.{littleEndian, encodeField, encodeFields};
-ghost use Rattle.model.specs.Operation.{encodePayload};
-ghost use Rattle.model.specs.Log.{header, entry, markCommitting};
+ghost use Rattle.model.specs.Log.{header, markCommitting};
 ghost use Rattle.model.specs.Image.{markField, encode};
 ghost use Rattle.laws.specs.ImageLaws.{listed};
 ghost use Rattle.field.specs.Writing.{written, field};
 ghost use Rattle.spans.specs.Spans.{nameOf, Sound};
-ghost use Rattle.store.specs.Tables.{nodeOf, tableOf, mapOf, SoundNode, Sized, SoundTable};
+ghost use Rattle.store.specs.Tables.{nodeOf, tableOf, mapOf, SoundNode, SoundTable};
+ghost use Rattle.store.specs.Kept.{Kept};
 ghost use Rattle.store.specs.Stores.{storeIn, logBytes, storeOf, SoundLog, SoundStore};
-ghost use Rattle.transaction.specs.Operations.{opOf, SoundOp};
+ghost use Rattle.transaction.specs.Operations.{SoundOp};
 ghost use Rattle.wal.specs.Tails.{withTail, SoundTail};
 ghost use Rattle.wal.specs.declared.Tail.the-variants.{Entry};
 ghost use Rattle.encode.specs.Logs.{fieldAfter, logStart};
-ghost use Rattle.encode.specs.Sizes.{NodeSize, NodesSize, LogSize, entryBound, EntrySize, TailSize};
-ghost use Rattle.encode.specs.Encoding.{Encodes};
+ghost use Rattle.encode.specs.Sizes.{NodeSize, LogSize};
+ghost use Rattle.encode.specs.Encoding.{Puts};
 use spans::NameRef;
 use store::LogRef;
 use store::Node;
@@ -63,21 +64,6 @@ fn node_size(x: Node, staged: bool) -> usize
     7 + n
 }
 
-// How many bytes the directories with their files, or the staging files, have.
-fn nodes_size(t: &Nodes, n: usize, staged: bool) -> usize
-    requires { ⌜ Sized (tableOf (now t) n) ⌝ }
-    ensures { λ r. ⌜ NodesSize staged (tableOf (now (t .entry)) n) r ⌝ }
-{
-    let mut size: usize = 0;
-    let mut i: usize = 0;
-    while i < n {
-        let x = store::node_at(t, i);
-        size += node_size(x, staged);
-        i += 1;
-    }
-    size
-}
-
 fn log_size(l: LogRef) -> usize
     ensures { λ r. ⌜ LogSize l r ⌝ }
 {
@@ -89,38 +75,6 @@ fn log_size(l: LogRef) -> usize
         return 11 + (n - header_of(n));
     }
     3 + n
-}
-
-// How many bytes the entry of an operation has.
-fn entry_size(src: &[u8], op: Operation) -> usize
-    requires { ⌜ SoundOp (now src) op ⌝ }
-    ensures { λ r. ⌜ EntrySize (now (src .entry)) op r ⌝ }
-{
-    let p = transaction::payload_of(src, op);
-    8 + p.len
-}
-
-// How many bytes the log's field has, with what stands behind the log.
-fn tail_size(src: &[u8], l: LogRef, tail: Tail) -> usize
-    requires { ⌜ SoundLog (now src) l × SoundTail (now src) tail ⌝ }
-    ensures { λ r. ⌜ TailSize (now (src .entry)) l tail r ⌝ }
-{
-    match tail {
-        Tail::Nothing => log_size(l),
-        Tail::Header => 11,
-        Tail::Entry(op) => {
-            if !l.stands {
-                return 0;
-            }
-            log_size(l) + entry_size(src, op)
-        }
-    }
-}
-
-fn mark_size(mark: bool) -> usize
-    ensures { λ r. ⌜ (r ≤ 3) × (r ≡ length (encodeFields (markField mark))) ⌝ }
-{
-    if mark { 3 } else { 0 }
 }
 
 // "0x11 (number, name)" and "0x12 (number, name)".
@@ -155,9 +109,9 @@ fn put_node(src: &[u8], x: Node, staged: bool, out: &mut [u8], at: usize)
 }
 
 // The directories with their files, or the staging files.
-fn put_nodes(src: &[u8], t: &Nodes, n: usize, staged: bool, out: &mut [u8], at: usize)
+fn put_nodes(src: &[u8], t: &Nodes, n: usize, staged: bool, out: &mut [u8], at: usize) -> usize
     requires { ⌜ SoundTable (now src) (tableOf (now t) n) × (at + length (encodeFields (map (listed staged) (mapOf (now src) (tableOf (now t) n)))) ≤ length (now out)) ⌝ }
-    ensures { λ _. ⌜ now (out .exit) ≡ written at (encodeFields (map (listed staged) (mapOf (now (src .entry)) (tableOf (now (t .entry)) n)))) (now (out .entry)) ⌝ }
+    ensures { λ r. ⌜ Puts (encodeFields (map (listed staged) (mapOf (now (src .entry)) (tableOf (now (t .entry)) n)))) at (now (out .entry)) (now (out .exit)) r ⌝ }
 {
     let mut p = at;
     let mut i: usize = 0;
@@ -167,11 +121,24 @@ fn put_nodes(src: &[u8], t: &Nodes, n: usize, staged: bool, out: &mut [u8], at: 
         p += node_size(x, staged);
         i += 1;
     }
+    p
+}
+
+// The directories with their files, at the front. Where they stand in the lent bytes as they are to be written, these `kept` bytes are copied.
+fn put_tree(src: &[u8], t: &Nodes, n: usize, kept: usize, out: &mut [u8]) -> usize
+    requires { ⌜ (SoundTable (now src) (tableOf (now t) n) × Kept (now src) kept (mapOf (now src) (tableOf (now t) n))) × (length (encodeFields (map (listed false) (mapOf (now src) (tableOf (now t) n)))) ≤ length (now out)) ⌝ }
+    ensures { λ r. ⌜ Puts (encodeFields (map (listed false) (mapOf (now (src .entry)) (tableOf (now (t .entry)) n)))) 0 (now (out .entry)) (now (out .exit)) r ⌝ }
+{
+    if kept == 0 {
+        return put_nodes(src, t, n, false, out, 0);
+    }
+    field::put_bytes(out, 0, &src[..kept]);
+    kept
 }
 
 // A log whose header was rewritten with Committing, in a field that has `more` bytes behind it.
 fn put_marked(src: &[u8], start: usize, len: usize, more: usize, out: &mut [u8], at: usize)
-    requires { ⌜ (start + len ≤ length (now src)) × ((len < 65536) × (more ≤ entryBound)) ⌝ }
+    requires { ⌜ (start + len ≤ length (now src)) × ((len < 65536) × (more ≤ length (now out))) ⌝ }
     ensures { λ _. ⌜ now (out .exit) ≡ written at (logStart more (some (markCommitting (take len (drop start (now (src .entry))))))) (now (out .entry)) ⌝ }
 {
     let h = header_of(len);
@@ -187,7 +154,7 @@ fn put_marked(src: &[u8], start: usize, len: usize, more: usize, out: &mut [u8],
 
 // "the log, 0x13, absent if there is none", in a field that has `more` bytes behind it.
 fn put_log(src: &[u8], l: LogRef, more: usize, out: &mut [u8], at: usize)
-    requires { ⌜ SoundLog (now src) l × (more ≤ entryBound) ⌝ }
+    requires { ⌜ SoundLog (now src) l × (more ≤ length (now out)) ⌝ }
     ensures { λ _. ⌜ now (out .exit) ≡ written at (logStart more (logBytes (now (src .entry)) l)) (now (out .entry)) ⌝ }
 {
     if !l.stands {
@@ -214,71 +181,67 @@ fn put_header(out: &mut [u8], at: usize)
     field::write_field(out, at, 0x13, &h);
 }
 
-// The entry of an operation.
-fn put_entry(src: &[u8], op: Operation, out: &mut [u8], at: usize)
-    requires { ⌜ SoundOp (now src) op ⌝ }
-    ensures { λ _. ⌜ now (out .exit) ≡ written at (entry (encodePayload (opOf (now (src .entry)) op))) (now (out .entry)) ⌝ }
-{
-    wal::append_operation(src, op, out, at);
-}
-
-// The log with an operation's entry behind it (wal.rs, `append_operation`); nothing where no log stands.
-fn put_appended(src: &[u8], l: LogRef, op: Operation, out: &mut [u8], at: usize)
+// The log with an operation's entry behind it (wal.rs, `append_operation`); nothing where no log stands. The entry is written first: its length
+// belongs to that of the log's field.
+fn put_appended(src: &[u8], l: LogRef, op: Operation, out: &mut [u8], at: usize) -> usize
     requires { ⌜ SoundLog (now src) l × (SoundOp (now src) op × (at + length (fieldAfter (now src) (Entry op) l) ≤ length (now out))) ⌝ }
-    ensures { λ _. ⌜ now (out .exit) ≡ written at (fieldAfter (now (src .entry)) (Entry op) l) (now (out .entry)) ⌝ }
+    ensures { λ r. ⌜ Puts (fieldAfter (now (src .entry)) (Entry op) l) at (now (out .entry)) (now (out .exit)) r ⌝ }
 {
     if !l.stands {
-        return;
+        return at;
     }
     let next = at + log_size(l);
-    put_log(src, l, entry_size(src, op), out, at);
-    put_entry(src, op, out, next);
+    let more = wal::append_operation(src, op, out, next);
+    put_log(src, l, more, out, at);
+    next + more
 }
 
 // The log as it stands, that of a begun transaction, or the log with one more entry.
-fn put_tail(src: &[u8], l: LogRef, tail: Tail, out: &mut [u8], at: usize)
+fn put_tail(src: &[u8], l: LogRef, tail: Tail, out: &mut [u8], at: usize) -> usize
     requires { ⌜ SoundLog (now src) l × (SoundTail (now src) tail × (at + length (fieldAfter (now src) tail l) ≤ length (now out))) ⌝ }
-    ensures { λ _. ⌜ now (out .exit) ≡ written at (fieldAfter (now (src .entry)) tail l) (now (out .entry)) ⌝ }
+    ensures { λ r. ⌜ Puts (fieldAfter (now (src .entry)) tail l) at (now (out .entry)) (now (out .exit)) r ⌝ }
 {
     match tail {
-        Tail::Nothing => put_log(src, l, 0, out, at),
-        Tail::Header => put_header(out, at),
+        Tail::Nothing => {
+            put_log(src, l, 0, out, at);
+            at + log_size(l)
+        }
+        Tail::Header => {
+            put_header(out, at);
+            at + 11
+        }
         Tail::Entry(op) => put_appended(src, l, op, out, at),
     }
 }
 
 // "0x14 of length 0 if a transaction is open"
-fn put_mark(mark: bool, out: &mut [u8], at: usize)
-    ensures { λ _. ⌜ now (out .exit) ≡ written at (encodeFields (markField mark)) (now (out .entry)) ⌝ }
+fn put_mark(mark: bool, out: &mut [u8], at: usize) -> usize
+    requires { ⌜ at + length (encodeFields (markField mark)) ≤ length (now out) ⌝ }
+    ensures { λ r. ⌜ Puts (encodeFields (markField mark)) at (now (out .entry)) (now (out .exit)) r ⌝ }
 {
     if mark {
         field::put_field_head(out, at, 0x14, 0);
+        return at + 3;
     }
+    at
 }
 
-// "A store image is, in this order": written whole, or not at all where it has no room. The answer is how many bytes were written.
+// "A store image is, in this order": each part behind the one before. The answer is how many bytes were written.
 pub fn encode(
     src: &[u8],
     tree: &Nodes,
     staging: &Nodes,
     s: Store,
     tail: Tail,
+    kept: usize,
     out: &mut [u8],
 ) -> usize
-    requires { ⌜ SoundStore (now src) (storeIn (now tree) (now staging) s) × SoundTail (now src) tail ⌝ }
-    ensures { λ r. ⌜ Encodes (encode (withTail (now (src .entry)) tail (storeOf (now (src .entry)) (storeIn (now (tree .entry)) (now (staging .entry)) s)))) (now (out .entry)) (now (out .exit)) r ⌝ }
+    requires { ⌜ (SoundStore (now src) (storeIn (now tree) (now staging) s) × SoundTail (now src) tail) × (Kept (now src) kept (mapOf (now src) (tableOf (now tree) (s .tree))) × (length (encode (withTail (now src) tail (storeOf (now src) (storeIn (now tree) (now staging) s)))) ≤ length (now out))) ⌝ }
+    ensures { λ r. ⌜ Puts (encode (withTail (now (src .entry)) tail (storeOf (now (src .entry)) (storeIn (now (tree .entry)) (now (staging .entry)) s)))) 0 (now (out .entry)) (now (out .exit)) r ⌝ }
 {
     let log = s.log;
-    let a = nodes_size(tree, s.tree, false);
-    let b = a + nodes_size(staging, s.staging, true);
-    let c = b + tail_size(src, log, tail);
-    let n = c + mark_size(s.open_mark);
-    if out.len() < n {
-        return 0;
-    }
-    put_nodes(src, tree, s.tree, false, out, 0);
-    put_nodes(src, staging, s.staging, true, out, a);
-    put_tail(src, log, tail, out, b);
-    put_mark(s.open_mark, out, c);
-    n
+    let a = put_tree(src, tree, s.tree, kept, out);
+    let b = put_nodes(src, staging, s.staging, true, out, a);
+    let c = put_tail(src, log, tail, out, b);
+    put_mark(s.open_mark, out, c)
 }

@@ -7,7 +7,7 @@ use native.Mathlib.Omega.{arith}
 use native.Mathlib.Nat.{zero-add}
 use native.Mathlib.Numerals.{add-one}
 use lib.ListN.{length, take, drop, getD, set, length-append, length-set}
-use lib.Seq.{take-length, length-take-le, take-at, drop-at, drop-drop, paste, paste-zero, paste-suc, length-paste, sets, sets-eq}
+use lib.Seq.{take-length, length-take-le, take-append-le, take-take, take-at, drop-at, drop-drop, paste, paste-zero, paste-suc, length-paste, sets, sets-eq}
 use lib.Dec.{leb}
 use borrow.Author.Tests.{le-leb, lt-leb, leb-true, leb-false}
 use Rattle.model.specs.Base.{Bytes, if_then_else_}
@@ -69,6 +69,20 @@ written-written at next a b out e h =
 -- The same, of two calls that wrote.
 pub written-then : (at next : ℕ) (a b out : Bytes) {mid end : Bytes} → mid ≡ written at a out → end ≡ written next b mid → next ≡ at + length a → next + length b ≤ length out → end ≡ written at (a ++ b) out
 written-then at next a b out p q e h = q ∙ ap (written next b) p ∙ written-written at next a b out e h
+
+-- Two writings are one also if the second part is written first.
+pub written-before : (at next : ℕ) (a b out : Bytes) → next ≡ at + length a → next + length b ≤ length out →
+    written at a (written next b out) ≡ written at (a ++ b) out
+written-before at next a b out e h =
+    let p : Bytes = take next out in
+    let r : Bytes = b ++ drop (next + length b) out in
+    let one : written next b out ≡ p ++ r = written-room next b out h ∙ append-assoc p b (drop (next + length b) out) in
+    let l : length p ≡ next = length-take-le next out (omega arith) in
+    let size : length (p ++ r) ≡ length out = sym (ap length one) ∙ length-written next b out in
+    let front : take at (p ++ r) ≡ take at out = take-append-le at p r (omega arith) ∙ take-take at next out (omega arith) in
+    let two : written at a (p ++ r) ≡ take at out ++ a ++ r = written-room at a (p ++ r) (omega arith) ∙ rw (front, ← e, drop-at p r next l) in
+    let n : at + length (a ++ b) ≡ next + length b = ap (at +_) (length-append a b) ∙ omega arith in
+    ap (written at a) one ∙ two ∙ sym (written-room at (a ++ b) out (omega arith) ∙ rw n (simp append-assoc))
 
 -- Stores one behind the other.
 pub stored : (at : ℕ) (v out : Bytes) → length v ≤ length out - at → 0 < length v → sets out at v ≡ written at v out

@@ -37,14 +37,14 @@ module _ {image : Bytes} {tree staging : Words} {d : Decoded} (w : Decodes image
         let g = lent-good image (storeOf image (storeIn tree staging (d .store))) e in
         record { sound = w .sound; plain = w .plain; short = omega (arith, ap length (decode-only image (storeOf image (storeIn tree staging (d .store))) e .0), encode-length validNaming (storeOf image (storeIn tree staging (d .store))) g); accepted = e; well = g }
 
-    pub opened : {room : Bool} → room ≡ true → Opens image room tree staging (record { number = 0; store = d .store })
-    opened {room} r = record { held = λ z. held; roomy = λ z. r; alone = λ h. absurd (h refl); broken = λ t h. absurd (h refl); given = λ z next. rw (w .accepted ok, r); refused = λ h next. absurd (h refl) }
+    pub opened : {room : Bool} → room ≡ true → Opens image room tree staging (record { number = 0; store = d .store; «tree_end» = d .«tree_end» })
+    opened {room} r = record { held = λ z. held; roomy = λ z. r; alone = λ h. absurd (h refl); broken = λ t h. absurd (h refl); given = λ z next. rw (w .accepted ok, r); refused = λ h next. absurd (h refl); kept = λ z. w .kept ok }
 
-    pub no-room : {room : Bool} → room ≡ false → Opens image room tree staging (record { number = 2; store = d .store })
-    no-room {room} r = record { held = λ z. absurd (omega arith); roomy = λ z. absurd (omega arith); alone = λ h. refl; broken = λ t h. absurd (false≢true (sym r ∙ t)); given = λ z next. absurd (omega arith); refused = λ h next. rw (w .accepted ok, r) }
+    pub no-room : {room : Bool} → room ≡ false → Opens image room tree staging (record { number = 2; store = d .store; «tree_end» = d .«tree_end» })
+    no-room {room} r = record { held = λ z. absurd (omega arith); roomy = λ z. absurd (omega arith); alone = λ h. refl; broken = λ t h. absurd (false≢true (sym r ∙ t)); given = λ z next. absurd (omega arith); refused = λ h next. rw (w .accepted ok, r); kept = λ z. absurd (omega arith) }
 
-  pub broken : d .ok ≡ false → (room : Bool) → Opens image room tree staging (record { number = 1; store = d .store })
-  broken e room = record { held = λ z. absurd (omega arith); roomy = λ z. absurd (omega arith); alone = λ h. refl; broken = λ t h. (w .refused e, refl); given = λ z next. absurd (omega arith); refused = λ h next. rw (w .refused e) }
+  pub broken : d .ok ≡ false → (room : Bool) → Opens image room tree staging (record { number = 1; store = d .store; «tree_end» = d .«tree_end» })
+  broken e room = record { held = λ z. absurd (omega arith); roomy = λ z. absurd (omega arith); alone = λ h. refl; broken = λ t h. (w .refused e, refl); given = λ z next. absurd (omega arith); refused = λ h next. rw (w .refused e); kept = λ z. absurd (omega arith) }
 
 -- A refusal leaves all outputs.
 module _ {n : ℕ} {out : Bytes} {written : ℕ} (h : handsBack n ≡ false) where

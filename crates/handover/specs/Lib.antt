@@ -1,3 +1,4 @@
 pub mod Contract
 pub mod Opening
 pub mod Numbers
+pub mod Trees

@@ -15,6 +15,8 @@ use Rattle.model.specs.Answers.{Answer, refusal, onImage}
 use Rattle.laws.specs.ValidNames.{Valid}
 use Rattle.laws.specs.StoreLaws.{Good}
 use Rattle.store.specs.Words.{Words}
+use Rattle.store.specs.Tables.{tableOf, mapOf}
+use Rattle.store.specs.Kept.{Kept}
 use Rattle.store.specs.Stores.{LentStore, storeIn, storeOf, SoundStore}
 use Rattle.steps.specs.Steps.{stepOf, SoundStep}
 use Rattle.steps.specs.declared.Step.{Step}
@@ -37,6 +39,7 @@ pub record Opens (image : Bytes) (room : Bool) (tree staging : Words) (r : Opene
   pub broken : room ≡ true → (r .number ≡ 0 → ⊥) → (decode image ≡ none) × (r .number ≡ 1)
   pub given : r .number ≡ 0 → (next : model.Store → Answer) → onImage image room next ≡ next (storeOf image (storeIn tree staging (r .store)))
   pub refused : (r .number ≡ 0 → ⊥) → (next : model.Store → Answer) → onImage image room next ≡ refusal (r .number)
+  pub kept : r .number ≡ 0 → Kept image (r .«tree_end») (mapOf image (tableOf tree (r .store .tree)))
 
 -- The field of the step that was done last, as the n-th; none for n = 0.
 unfoldable pub fieldOf : Bytes → Step → ℕ → Bytes

@@ -5,6 +5,8 @@ ghost use Prim.Native.Nat.{_≤_};
 ghost use lib.ListN.{length};
 ghost use Rattle.model.specs.Image.{encode};
 ghost use Rattle.model.specs.Answers.{outcome};
+ghost use Rattle.store.specs.Tables.{tableOf, mapOf};
+ghost use Rattle.store.specs.Kept.{Kept};
 ghost use Rattle.store.specs.Stores.{storeIn, storeOf, SoundStore};
 ghost use Rattle.wal.specs.Tails.{withTail, SoundTail};
 ghost use Rattle.steps.specs.Steps.{SoundStep};
@@ -17,10 +19,11 @@ use store::Nodes;
 use store::Store;
 use wal::Tail;
 
-// A store image, where it is accepted and the output has room: `number` is 0; else the refusal 1 or 2.
+// A store image, where it is accepted and the output has room: `number` is 0; else the refusal 1 or 2. The image's tree ends at `tree_end`.
 pub struct Opened {
     pub number: u32,
     pub store: Store,
+    pub tree_end: usize,
 }
 
 // 01, Sixteen numbers: "1. The image breaks its layout or a limit. 2. The lent output has under 19,262 bytes".
@@ -30,38 +33,44 @@ pub fn open_image(image: &[u8], tree: &mut Nodes, staging: &mut Nodes, room: boo
     let d = decode::decode(image, tree, staging);
     let ok = d.ok;
     let s = d.store;
+    let end = d.tree_end;
     if ok {
         if room {
             return Opened {
                 number: 0,
                 store: s,
+                tree_end: end,
             };
         }
         return Opened {
             number: 2,
             store: s,
+            tree_end: end,
         };
     }
     Opened {
         number: 1,
         store: s,
+        tree_end: end,
     }
 }
 
-// A store's image, with the log that a tail leaves, written at the front of the output, and how many bytes it has.
+// A store's image, with the log that a tail leaves, written at the front of the output, and how many bytes it has. The tree is copied where it
+// stands in the first `kept` bytes.
 pub fn hand_image(
     src: &[u8],
     tree: &Nodes,
     staging: &Nodes,
     s: Store,
     tail: Tail,
+    kept: usize,
     out: &mut [u8],
     written: &mut usize,
 )
-    requires { ⌜ (SoundStore (now src) (storeIn (now tree) (now staging) s) × SoundTail (now src) tail) × (length (encode (withTail (now src) tail (storeOf (now src) (storeIn (now tree) (now staging) s)))) ≤ length (now out)) ⌝ }
+    requires { ⌜ (SoundStore (now src) (storeIn (now tree) (now staging) s) × SoundTail (now src) tail) × (Kept (now src) kept (mapOf (now src) (tableOf (now tree) (s .tree))) × (length (encode (withTail (now src) tail (storeOf (now src) (storeIn (now tree) (now staging) s)))) ≤ length (now out))) ⌝ }
     ensures { λ _. ⌜ Writes (encode (withTail (now (src .entry)) tail (storeOf (now (src .entry)) (storeIn (now (tree .entry)) (now (staging .entry)) s)))) (now (out .entry)) (now (out .exit)) (now (written .exit)) ⌝ }
 {
-    *written = encode::encode(src, tree, staging, s, tail, out);
+    *written = encode::encode(src, tree, staging, s, tail, kept, out);
 }
 
 // What a method that records answered.
@@ -70,10 +79,11 @@ pub fn hand_on(
     tree: &Nodes,
     staging: &Nodes,
     r: Recorded,
+    kept: usize,
     out: &mut [u8],
     written: &mut usize,
 ) -> u32
-    requires { ⌜ (SoundStore (now src) (storeIn (now tree) (now staging) (r .storage .store)) × SoundTail (now src) (r .tail)) × ((length (outcome (outcomeOf (now src) (now tree) (now staging) r) .image) ≤ length (now out)) × ((r .number ≡ 0 → ⊥) → handsBack (r .number) ≡ false)) ⌝ }
+    requires { ⌜ ((SoundStore (now src) (storeIn (now tree) (now staging) (r .storage .store)) × SoundTail (now src) (r .tail)) × (r .number ≡ 0 → Kept (now src) kept (mapOf (now src) (tableOf (now tree) (r .storage .store .tree))))) × ((length (outcome (outcomeOf (now src) (now tree) (now staging) r) .image) ≤ length (now out)) × ((r .number ≡ 0 → ⊥) → handsBack (r .number) ≡ false)) ⌝ }
     ensures { λ n. ⌜ Gives (outcome (outcomeOf (now (src .entry)) (now (tree .entry)) (now (staging .entry)) r)) n (now (out .entry)) (now (out .exit)) (now (written .entry)) (now (written .exit)) ⌝ }
 {
     let n = r.number;
@@ -83,7 +93,7 @@ pub fn hand_on(
     let storage = r.storage;
     let s = storage.store;
     let tail = r.tail;
-    hand_image(src, tree, staging, s, tail, out, written);
+    hand_image(src, tree, staging, s, tail, kept, out, written);
     0
 }
 
@@ -119,7 +129,7 @@ pub fn hand_step(
     if left != 0 {
         return 16;
     }
-    hand_image(src, tree, staging, s, Tail::Nothing, out, written);
+    hand_image(src, tree, staging, s, Tail::Nothing, 0, out, written);
     hand_field(src, last, n, step, step_written);
     0
 }

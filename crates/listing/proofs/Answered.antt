@@ -28,7 +28,7 @@ use Rattle.recovery.specs.Recoveries.{Recovers}
 use Rattle.recovery.specs.RecoveryLaws as recovery
 use Rattle.decode.specs.declared.Decoded.{Decoded}
 use Rattle.decode.specs.Decoding.{Decodes}
-use Rattle.encode.specs.Encoding.{Encodes}
+use Rattle.listing.specs.Writing.{Writes}
 use Rattle.listing.specs.Lines.{numberEnd, answerLine, linesOf, textOf}
 use Rattle.listing.specs.Room.{done-number}
 use Rattle.listing.proofs.Decimal.{two-digits}
@@ -61,18 +61,18 @@ module _ (b : Bytes) where
     all-done f = rw (d, f) (numbered 0 (done-number b s d f) (flatMap listingLine (recovered s .tree)))
 
 -- The same text, written.
-same-text : {a b out after : Bytes} {n : ℕ} → a ≡ b → Encodes b out after n → Encodes a out after n
+same-text : {a b out after : Bytes} {n : ℕ} → a ≡ b → Writes b out after n → Writes a out after n
 same-text e w = rw e w
 
 module _ {b : Bytes} {t g : Words} {d : Decoded} (w : Decodes b t g d) {out after : Bytes} {k : ℕ} where
-  pub broken : {n : Table} → d .ok ≡ false → Holds b n [] → Encodes (textOf 1 (mapOf b n)) out after k → Encodes (listing b) out after k
+  pub broken : {n : Table} → d .ok ≡ false → Holds b n [] → Writes (textOf 1 (mapOf b n)) out after k → Writes (listing b) out after k
   broken e h v = same-text (image-refused b (w .refused e) ∙ ap (textOf 1) (sym (h .same))) v
 
   module _ (e : d .ok ≡ true) {limited : Bool} {u v : Words} {r : Recovered} (c : Recovers b (storeIn t g (d .store)) limited 0 u v r) where
-    pub turned-down : {n : Table} → (r .number ≡ 0 → ⊥) → Holds b n [] → Encodes (textOf (r .number) (mapOf b n)) out after k → Encodes (listing b) out after k
+    pub turned-down : {n : Table} → (r .number ≡ 0 → ⊥) → Holds b n [] → Writes (textOf (r .number) (mapOf b n)) out after k → Writes (listing b) out after k
     turned-down z h v = same-text (log-refused b (w .accepted e) (recovery.refused c z) ∙ ap (textOf (r .number)) (sym (h .same))) v
 
-    pub listed : limited ≡ false → r .number ≡ 0 → Encodes (textOf 0 (mapOf b (tableOf u (r .run .store .tree)))) out after k → Encodes (listing b) out after k
+    pub listed : limited ≡ false → r .number ≡ 0 → Writes (textOf 0 (mapOf b (tableOf u (r .run .store .tree)))) out after k → Writes (listing b) out after k
     listed l z v = same-text (all-done b (w .accepted e) (recovery.not-refused c z) ∙ ap (λ (s : model.Store). textOf 0 (s .tree)) (recovery.recovered-is c z l)) v
 
 -- An image that is read can be recovered.

@@ -13,7 +13,7 @@ use Rattle.store.specs.Words.{blank}
 use Rattle.store.specs.Tables.{Table, nodeOf, mapOf, SoundTable}
 use Rattle.store.proofs.Lists.{drop-zero}
 use Rattle.store.proofs.Read.{sound-read}
-use Rattle.encode.specs.Encoding.{writtenCount, Encodes}
+use Rattle.listing.specs.Writing.{writtenCount, Writes}
 use Rattle.listing.specs.Lines.{answerLine, linesOf, textOf, LineSize, LinesSize}
 use Rattle.listing.proofs.Counting.{lineAt, linesFrom, next-line, next-length, no-line}
 
@@ -64,7 +64,7 @@ module _ {src : Bytes} {t : Table} (s : SoundTable src t) (number : ℕ) {a b : 
   text-size : length (textOf number (mapOf src t)) ≡ a + b
   text-size = omega (arith, length-append (answerLine number) (linesOf (mapOf src t)), A, B .same src s)
 
-  pub no-room : length out < a + b → Encodes (textOf number (mapOf src t)) out out 0
+  pub no-room : length out < a + b → Writes (textOf number (mapOf src t)) out out 0
   unfolding writtenCount
   no-room r = record { count = rw (text-size, lt-leb (a + b) (length out) r); same = sym (written-full 0 (textOf number (mapOf src t)) out (omega (arith, text-size))) }
 
@@ -73,7 +73,7 @@ module _ {src : Bytes} {t : Table} (s : SoundTable src t) (number : ℕ) {a b : 
       pub lines-room : a + length (linesOf (mapOf src t)) ≤ length first
       lines-room = omega (arith, B .same src s, ap length p ∙ length-written 0 (answerLine number) out)
 
-      pub all-written : {end : Bytes} → end ≡ written a (linesOf (mapOf src t)) first → Encodes (textOf number (mapOf src t)) out end (a + b)
+      pub all-written : {end : Bytes} → end ≡ written a (linesOf (mapOf src t)) first → Writes (textOf number (mapOf src t)) out end (a + b)
       unfolding writtenCount
       all-written q = record {
         count = rw (text-size, le-leb (a + b) (length out) r);

@@ -25,8 +25,7 @@ use Rattle.laws.specs.StoreLaws.{Tree}
 use Rattle.laws.specs.WellFormed.{recover-keeps, recovered-keeps}
 use Rattle.laws.specs.EntryLaws.{lent-good}
 use Rattle.field.proofs.Written.{length-written}
-use Rattle.encode.specs.Encoding.{writtenCount, Encodes}
-use Rattle.encode.proofs.Image.{in-room}
+use Rattle.listing.specs.Writing.{writtenCount, Writes, in-room}
 
 abbrev pub listingRoom : ℕ
 listingRoom = 19_113
@@ -93,11 +92,11 @@ listing-length b = go (decode b) refl
             omega (arith, text-length number (flatMap listingLine (recovered s .tree)), tree-length restoredNaming (recovered s .tree) (recovered-keeps s (recover-keeps s (lent-good b s d)) .tree))
 
 -- For callers: an output of so many bytes holds the text at its front, and its bytes behind it are as they were.
-pub listed-whole : (b : Bytes) {out after : Bytes} {n : ℕ} → Encodes (listing b) out after n → listingRoom ≤ length out → (n ≡ length (listing b)) × (after ≡ listing b ++ drop (length (listing b)) out)
+pub listed-whole : (b : Bytes) {out after : Bytes} {n : ℕ} → Writes (listing b) out after n → listingRoom ≤ length out → (n ≡ length (listing b)) × (after ≡ listing b ++ drop (length (listing b)) out)
 listed-whole b e h = in-room e (omega (arith, listing-length b))
 
 -- Never are more bytes counted than the output has.
-pub listed-within : {text out after : Bytes} {n : ℕ} → Encodes text out after n → n ≤ length after
+pub listed-within : {text out after : Bytes} {n : ℕ} → Writes text out after n → n ≤ length after
 unfolding writtenCount
 listed-within {text} {out} {after} {n} e = go (leb (length text) (length out)) refl (e .count)
   where

@@ -5,7 +5,7 @@ ghost use lib.ListN.{length};
 ghost use Rattle.model.specs.Answers.{decimal, listingLine, listing};
 ghost use Rattle.field.specs.Writing.{written};
 ghost use Rattle.store.specs.Tables.{tableOf, nodeOf, mapOf, SoundNode, Sized, SoundTable};
-ghost use Rattle.encode.specs.Encoding.{Encodes};
+ghost use Rattle.listing.specs.Writing.{Writes};
 ghost use Rattle.listing.specs.Lines.{numberEnd, answerLine, linesOf, textOf, Digits, LineSize, LinesSize};
 use store::Node;
 use store::Nodes;
@@ -144,7 +144,7 @@ fn put_lines(src: &[u8], t: &Nodes, n: usize, out: &mut [u8], at: usize)
 // The number's line and the lines of a tree, written whole, or not at all where they have no room. The answer is how many bytes were written.
 fn put_text(src: &[u8], number: u32, t: &Nodes, len: usize, out: &mut [u8]) -> usize
     requires { ⌜ SoundTable (now src) (tableOf (now t) len) ⌝ }
-    ensures { λ r. ⌜ Encodes (textOf number (mapOf (now (src .entry)) (tableOf (now (t .entry)) len))) (now (out .entry)) (now (out .exit)) r ⌝ }
+    ensures { λ r. ⌜ Writes (textOf number (mapOf (now (src .entry)) (tableOf (now (t .entry)) len))) (now (out .entry)) (now (out .exit)) r ⌝ }
 {
     let a = answer_size(number);
     let n = a + lines_size(t, len);
@@ -159,7 +159,7 @@ fn put_text(src: &[u8], number: u32, t: &Nodes, len: usize, out: &mut [u8]) -> u
 // An image is recovered: "answer " and the number; "after 0 follow" the directories and files that recovery leaves. No text is longer than
 // 19,113 bytes (specs/Room.antt).
 pub fn listing(image: &[u8], out: &mut [u8]) -> usize
-    ensures { λ r. ⌜ Encodes (listing (now (image .entry))) (now (out .entry)) (now (out .exit)) r ⌝ }
+    ensures { λ r. ⌜ Writes (listing (now (image .entry))) (now (out .entry)) (now (out .exit)) r ⌝ }
 {
     let none = [[0u32; 3]; store::ROOM];
     let mut tree = [[0u32; 3]; store::ROOM];

@@ -3,3 +3,4 @@ pub mod Places
 pub mod Nodes
 pub mod Tables
 pub mod Stores
+pub mod Kept

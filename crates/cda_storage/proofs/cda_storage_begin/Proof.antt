@@ -2,11 +2,13 @@ use mathlib.Core.Path.{refl}
 use mathlib.Core.List.{[], _∷_}
 use borrow.Author.Needs.{needs}
 use lib.ListN.{length}
+use lib.Seq.{take-length}
 use Rattle.model.specs.Answers.{begin}
 use Rattle.model.specs.Record.{beginTransaction}
 use Rattle.laws.specs.Bounds.{begin-bounded}
 use Rattle.handover.specs.Numbers.{begin-numbers}
-use Rattle.cda_storage.proofs.Recorded.{not-opened, hands-on, handed}
+use Rattle.handover.specs.Trees.{begin-leaves}
+use Rattle.cda_storage.proofs.Recorded.{not-opened, hands-on, stands, handed}
 use Rattle.cda_storage.proofs.cda_storage_begin.Statement.{statement}
 use Rattle.cda_storage.proofs.cda_storage_begin.Tie as tie
 use Rattle.cda_storage.proofs.cda_storage_begin.Reads as reads
@@ -37,8 +39,9 @@ hand-on-requires c κs =
     let z = c .before .before .before .before .before .before .before .before .before .before .before .before .before in
     let o = c .before .before .before .before .before .before .before .before .open-image in
     let h = c .before .before .before .before .before .before .if1 .left in
-    hands-on beginTransaction (z .args .image .now) (length (z .args .out .now)) (o .ensures) h (c .before .before .before .before .begin-transaction .ensures (z .args .image .now) (o .last .1 .0) (o .last .1 .1 .0) (o .ensures .held h .sound))
-    (begin-bounded (z .args .image .now) (length (z .args .out .now))) (3 ∷ []) (refl, tt) (begin-numbers _)
+    let a = c .before .before .before .before .begin-transaction .ensures (z .args .image .now) (o .last .1 .0) (o .last .1 .1 .0) (o .ensures .held h .sound) in
+    hands-on beginTransaction (z .args .image .now) (length (z .args .out .now)) (o .ensures) h a
+    (begin-bounded (z .args .image .now) (length (z .args .out .now))) (3 ∷ []) (refl, tt) (begin-numbers _) (stands beginTransaction (z .args .image .now) (length (z .args .out .now)) (o .ensures) h a (begin-leaves _) (take-length _))
 
 -- src/lib.rt:37:1
 same-length : tie.Need-same-length

@@ -1,5 +1,6 @@
 -- `cda_storage::cda_storage_commit` meets its contract.
 use lib.ListN.{length}
+use Rattle.store.specs.Kept.{none-kept}
 use Rattle.cda_storage.proofs.Done.{ready, within, commit-refused, no-transaction, commit-room, commit-gives}
 use borrow.Author.Needs.{needs}
 use Rattle.cda_storage.proofs.cda_storage_commit.Statement.{statement}
@@ -24,7 +25,7 @@ hand-image-requires c κs =
     let z = c .before .before .before .before .before .before .before .before .before .before .before .before .before .before .before .before .before .before in
     let o = c .before .before .before .before .before .before .before .before .before .before .before .before .before .open-image in
     let r = c .before .before .before .before .before .before .before .commit .ensures in
-    ((r .sound, tt), commit-room (z .args .image .now) (length (z .args .out .now)) (o .ensures) (c .before .before .before .before .before .before .before .before .before .before .before .if1 .left) r (c .before .before .before .before .before .before .if2 .taken))
+    ((r .sound, tt), (none-kept, commit-room (z .args .image .now) (length (z .args .out .now)) (o .ensures) (c .before .before .before .before .before .before .before .before .before .before .before .if1 .left) r (c .before .before .before .before .before .before .if2 .taken)))
 
 same-length : tie.Need-same-length
 same-length c = search needs

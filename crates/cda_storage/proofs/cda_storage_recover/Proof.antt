@@ -1,5 +1,6 @@
 -- `cda_storage::cda_storage_recover` meets its contract.
 use lib.ListN.{length}
+use Rattle.store.specs.Kept.{none-kept}
 use Rattle.cda_storage.proofs.Done.{recoverable, recover-refused, not-recovered, recover-room, recover-gives}
 use borrow.Author.Needs.{needs}
 use Rattle.cda_storage.proofs.cda_storage_recover.Statement.{statement}
@@ -30,7 +31,7 @@ hand-image-requires c κs =
     let o = c .before .before .before .before .before .before .before .before .before .before .before .before .before .before .open-image in
     let r = c .before .before .before .before .before .before .before .before .recover .ensures in
     let x = c .before .before .before .before .before .before .if2 .left in
-    ((r .run x .sound .fits .sound, tt), recover-room (z .args .image .now) (length (z .args .out .now)) (o .ensures) (c .before .before .before .before .before .before .before .before .before .before .before .before .if1 .left) r x)
+    ((r .run x .sound .fits .sound, tt), (none-kept, recover-room (z .args .image .now) (length (z .args .out .now)) (o .ensures) (c .before .before .before .before .before .before .before .before .before .before .before .before .if1 .left) r x))
 
 same-length : tie.Need-same-length
 same-length c = search needs

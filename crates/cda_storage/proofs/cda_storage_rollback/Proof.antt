@@ -2,11 +2,13 @@
 use mathlib.Core.Path.{refl}
 use mathlib.Core.List.{[], _∷_}
 use lib.ListN.{length}
+use lib.Seq.{take-length}
 use Rattle.model.specs.Answers.{rollback}
 use Rattle.model.specs.Record.{discard}
 use Rattle.laws.specs.Bounds.{rollback-bounded}
 use Rattle.handover.specs.Numbers.{rollback-numbers}
-use Rattle.cda_storage.proofs.Recorded.{not-opened, hands-on, handed}
+use Rattle.handover.specs.Trees.{rollback-leaves}
+use Rattle.cda_storage.proofs.Recorded.{not-opened, hands-on, stands, handed}
 use Rattle.cda_storage.proofs.Done.{readable}
 use borrow.Author.Needs.{needs}
 use Rattle.cda_storage.proofs.cda_storage_rollback.Statement.{statement}
@@ -33,7 +35,9 @@ hand-on-requires c κs =
     let z = c .before .before .before .before .before .before .before .before .before .before .before .before .before in
     let o = c .before .before .before .before .before .before .before .before .open-image in
     let y = c .before .before .before .before .before .before .if1 .left in
-    hands-on discard (z .args .image .now) (length (z .args .out .now)) (o .ensures) y (c .before .before .before .before .rollback .ensures (o .last .1 .0) (o .last .1 .1 .0) (o .ensures .held y .sound)) (rollback-bounded (z .args .image .now) (length (z .args .out .now))) (4 ∷ []) (refl, tt) (rollback-numbers _)
+    let a = c .before .before .before .before .rollback .ensures (o .last .1 .0) (o .last .1 .1 .0) (o .ensures .held y .sound) in
+    hands-on discard (z .args .image .now) (length (z .args .out .now)) (o .ensures) y a
+    (rollback-bounded (z .args .image .now) (length (z .args .out .now))) (4 ∷ []) (refl, tt) (rollback-numbers _) (stands discard (z .args .image .now) (length (z .args .out .now)) (o .ensures) y a (rollback-leaves _) (take-length _))
 
 same-length : tie.Need-same-length
 same-length c = search needs

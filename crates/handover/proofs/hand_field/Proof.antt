@@ -3,25 +3,18 @@ use borrow.Author.Needs.{needs}
 use Rattle.handover.proofs.Outputs.{no-field, field-written}
 use Rattle.handover.proofs.hand_field.Statement.{statement}
 use Rattle.handover.proofs.hand_field.Tie as tie
-use Rattle.handover.proofs.hand_field.Reads as reads
-use Rattle.handover.proofs.hand_field.Lts as lts
-use Rattle.steps.proofs.write_step.Reads as write-step-reads
 
--- src/lib.rt:82:25
 write-step-requires : tie.Need-write-step-requires
 write-step-requires c κs = search needs
 
--- src/lib.rt:75:1
 returns : tie.Need-returns
 returns c =
     let z = c .before .before .before in
     no-field (z .args .src .now) (z .args .last) (z .args .n) (z .args .step .now) (c .if1 .taken)
 
--- src/lib.rt:75:1
 same-length : tie.Need-same-length
 same-length c = search needs
 
--- src/lib.rt:75:1
 returns-2 : tie.Need-returns-2
 returns-2 c =
     let z = c .before .before .before .before .before .before .before in

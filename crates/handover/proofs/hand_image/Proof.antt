@@ -3,22 +3,16 @@ use borrow.Author.Needs.{needs}
 use Rattle.encode.proofs.Image.{in-room}
 use Rattle.handover.proofs.hand_image.Statement.{statement}
 use Rattle.handover.proofs.hand_image.Tie as tie
-use Rattle.handover.proofs.hand_image.Reads as reads
-use Rattle.handover.proofs.hand_image.Lts as lts
-use Rattle.encode.proofs.encode.Reads as encode-reads
 
--- src/lib.rt:55:16
 encode-requires : tie.Need-encode-requires
 encode-requires c κs = search needs
 
--- src/lib.rt:51:1
 same-length : tie.Need-same-length
 same-length c = search needs
 
--- src/lib.rt:51:1
 returns : tie.Need-returns
 returns c =
-    let e = in-room (c .before .before .encode .ensures) (c .before .before .before .before .before .before .pre .1) in
+    let e = in-room (c .before .before .encode .ensures) (c .before .before .before .before .before .before .pre .1 .1) in
     record { same = e .1; size = e .0 }
 
 pub hand-image-spec : {M : Type 1} → statement M

@@ -7,27 +7,20 @@ use Rattle.model.specs.Answers.{Answer}
 use Rattle.handover.proofs.Outputs.{left-alone, turned-down, recorded, gives}
 use Rattle.handover.proofs.hand_on.Statement.{statement}
 use Rattle.handover.proofs.hand_on.Tie as tie
-use Rattle.handover.proofs.hand_on.Reads as reads
-use Rattle.handover.proofs.hand_on.Lts as lts
-use Rattle.handover.proofs.hand_image.Reads as hand-image-reads
 
--- src/lib.rt:65:9
 returns : tie.Need-returns
 returns c =
     let z = c .before .before .before in
     left-alone (z .pre .1 .1 (c .if1 .taken)) (turned-down (z .args .src .now) (z .args .tree .now) (z .args .staging .now) (z .args .r) (c .if1 .taken))
 
--- src/lib.rt:70:5
 hand-image-requires : tie.Need-hand-image-requires
 hand-image-requires c κs =
     let z = c .before .before .before .before .before .before .before in
-    ((z .pre .0 .0, z .pre .0 .1), subst (λ (a : Answer). length (a .image) ≤ length (z .args .out .now)) (recorded (z .args .src .now) (z .args .tree .now) (z .args .staging .now) (z .args .r) (c .before .before .before .before .if1 .left)) (z .pre .1 .0))
+    (z .pre .0 .0, (z .pre .0 .1 (c .before .before .before .before .if1 .left), subst (λ (a : Answer). length (a .image) ≤ length (z .args .out .now)) (recorded (z .args .src .now) (z .args .tree .now) (z .args .staging .now) (z .args .r) (c .before .before .before .before .if1 .left)) (z .pre .1 .0)))
 
--- src/lib.rt:59:1
 same-length : tie.Need-same-length
 same-length c = search needs
 
--- src/lib.rt:59:1
 returns-2 : tie.Need-returns-2
 returns-2 c =
     let z = c .before .before .before .before .before .before .before .before .before .before in

@@ -1,42 +1,33 @@
 -- `handover::hand_step` meets its contract.
 use borrow.Author.Needs.{needs}
 use mathlib.Core.Path.{refl}
+use Rattle.store.specs.Kept.{none-kept}
 use Rattle.store.specs.Stores.{storeIn}
 use Rattle.handover.proofs.Outputs.{step-left-alone, stepped-past, stepped-at, step-gives}
 use Rattle.handover.proofs.hand_step.Statement.{statement}
 use Rattle.handover.proofs.hand_step.Tie as tie
-use Rattle.handover.proofs.hand_step.Reads as reads
-use Rattle.handover.proofs.hand_step.Lts as lts
-use Rattle.handover.proofs.hand_field.Reads as hand-field-reads
-use Rattle.handover.proofs.hand_image.Reads as hand-image-reads
 
--- src/lib.rt:102:9
 returns : tie.Need-returns
 returns c =
     let z = c .before .before .before .before in
     step-left-alone refl (stepped-past (z .args .src .now) (storeIn (z .args .tree .now) (z .args .staging .now) (z .args .s)) (z .args .left) (z .args .last) (z .args .n) (c .if1 .taken))
 
--- src/lib.rt:104:5
 hand-image-requires : tie.Need-hand-image-requires
 hand-image-requires c κs =
     let z = c .before .before .before .before .before .before in
-    ((z .pre .sound, tt), z .pre .room (c .before .before .if1 .left))
+    ((z .pre .sound, tt), (none-kept, z .pre .room (c .before .before .if1 .left)))
 
--- src/lib.rt:105:5
 hand-field-requires : tie.Need-hand-field-requires
 hand-field-requires c κs =
     let z = c .before .before .before .before .before .before .before .before .before .before .before in
     (z .pre .lastSound, z .pre .stepRoom (c .before .before .before .before .before .before .before .if1 .left))
 
--- src/lib.rt:87:1
 same-length : tie.Need-same-length
 same-length c = search needs
 
--- src/lib.rt:87:1
 same-length-2 : tie.Need-same-length-2
 same-length-2 c = search needs
 
--- src/lib.rt:87:1
 returns-2 : tie.Need-returns-2
 returns-2 c =
     let z = c .before .before .before .before .before .before .before .before .before .before .before .before .before .before in

@@ -9,8 +9,9 @@ use Rattle.model.specs.Record.{recordCopy}
 use Rattle.laws.specs.Bounds.{copy-collection-bounded}
 use Rattle.local_storage.proofs.Asked.{given-asks}
 use Rattle.handover.specs.Numbers.{copy-numbers}
+use Rattle.handover.specs.Trees.{copy-leaves}
 use Rattle.cda_storage.proofs.Lent.{copied, lent-next, lend-room, lent-ready, lent-answers, given-first, given-name}
-use Rattle.cda_storage.proofs.Recorded.{hands-on, handed}
+use Rattle.cda_storage.proofs.Recorded.{hands-on, stands, handed}
 use borrow.Author.Needs.{needs}
 use Rattle.cda_storage.proofs.recording.copy_collection.Statement.{statement}
 use Rattle.cda_storage.proofs.recording.copy_collection.Tie as tie
@@ -38,8 +39,9 @@ hand-on-requires c κs =
     let z = c .before .before .before .before .before .before .before .before .before .before .before .before .before .before .before .before .before .before .before .before .before .before .before in
     let l = lent-next (lent-next (copied (c .before .before .before .before .before .before .before .before .before .before .before .before .before .before .before .before .before .before .before .before .before .before .before .pre .1) (c .before .before .before .before .before .before .before .before .before .before .before .before .before .before .before .before .put-bytes .ensures)) (c .before .before .before .before .before .before .before .before .before .before .before .before .lend-name .ensures)) (c .before .before .before .before .before .before .before .before .lend-name2 .ensures) in
     let h = c .before .before .before .before .before .before .before .before .before .before .before .before .before .before .before .before .before .before .before .before .before .before .before .pre .0 .0 .held (c .before .before .before .before .before .before .before .before .before .before .before .before .before .before .before .before .before .before .before .before .before .before .before .pre .0 .1) in
-    hands-on (recordCopy (z .args .source .now) (z .args .dest .now)) (z .args .image .now) (length (z .args .out .now)) (c .before .before .before .before .before .before .before .before .before .before .before .before .before .before .before .before .before .before .before .before .before .before .before .pre .0 .0) (c .before .before .before .before .before .before .before .before .before .before .before .before .before .before .before .before .before .before .before .before .before .before .before .pre .0 .1) (lent-answers l h (recordCopy (z .args .source .now) (z .args .dest .now)) (c .before .before .before .copy-collection .ensures (z .args .source .now) (z .args .dest .now) (given-first (c .before .before .before .before .before .before .before .before .before .before .before .before .lend-name .ensures) (c .before .before .before .before .before .before .before .before .lend-name2 .ensures)) (given-name (c .before .before .before .before .before .before .before .before .lend-name2 .ensures))))
-    (copy-collection-bounded (z .args .source .now) (z .args .dest .now) (z .args .image .now) (length (z .args .out .now))) (4 ∷ 5 ∷ 6 ∷ 7 ∷ []) (refl, (refl, (refl, (refl, tt)))) (copy-numbers (z .args .source .now) (z .args .dest .now) _)
+    let a = lent-answers l h (recordCopy (z .args .source .now) (z .args .dest .now)) (c .before .before .before .copy-collection .ensures (z .args .source .now) (z .args .dest .now) (given-first (c .before .before .before .before .before .before .before .before .before .before .before .before .lend-name .ensures) (c .before .before .before .before .before .before .before .before .lend-name2 .ensures)) (given-name (c .before .before .before .before .before .before .before .before .lend-name2 .ensures))) in
+    hands-on (recordCopy (z .args .source .now) (z .args .dest .now)) (z .args .image .now) (length (z .args .out .now)) (c .before .before .before .before .before .before .before .before .before .before .before .before .before .before .before .before .before .before .before .before .before .before .before .pre .0 .0) (c .before .before .before .before .before .before .before .before .before .before .before .before .before .before .before .before .before .before .before .before .before .before .before .pre .0 .1) a
+    (copy-collection-bounded (z .args .source .now) (z .args .dest .now) (z .args .image .now) (length (z .args .out .now))) (4 ∷ 5 ∷ 6 ∷ 7 ∷ []) (refl, (refl, (refl, (refl, tt)))) (copy-numbers (z .args .source .now) (z .args .dest .now) _) (stands (recordCopy (z .args .source .now) (z .args .dest .now)) (z .args .image .now) (length (z .args .out .now)) (c .before .before .before .before .before .before .before .before .before .before .before .before .before .before .before .before .before .before .before .before .before .before .before .pre .0 .0) (c .before .before .before .before .before .before .before .before .before .before .before .before .before .before .before .before .before .before .before .before .before .before .before .pre .0 .1) a (copy-leaves (z .args .source .now) (z .args .dest .now) _) (l .front))
 
 same-length : tie.Need-same-length
 same-length c =

@@ -8,8 +8,9 @@ use Rattle.model.specs.Record.{recordCreate}
 use Rattle.laws.specs.Bounds.{create-collection-bounded}
 use Rattle.local_storage.proofs.Asked.{given-asks}
 use Rattle.handover.specs.Numbers.{create-numbers}
+use Rattle.handover.specs.Trees.{create-leaves}
 use Rattle.cda_storage.proofs.Lent.{copied, lent-next, lend-room, lent-ready, lent-answers, given-name}
-use Rattle.cda_storage.proofs.Recorded.{hands-on, handed}
+use Rattle.cda_storage.proofs.Recorded.{hands-on, stands, handed}
 use borrow.Author.Needs.{needs}
 use Rattle.cda_storage.proofs.recording.create_collection.Statement.{statement}
 use Rattle.cda_storage.proofs.recording.create_collection.Tie as tie
@@ -33,8 +34,9 @@ hand-on-requires c κs =
     let z = c .before .before .before .before .before .before .before .before .before .before .before .before .before .before .before .before .before .before in
     let l = lent-next (copied (c .before .before .before .before .before .before .before .before .before .before .before .before .before .before .before .before .before .before .pre .1) (c .before .before .before .before .before .before .before .before .before .before .before .before .put-bytes .ensures)) (c .before .before .before .before .before .before .before .before .lend-name .ensures) in
     let h = c .before .before .before .before .before .before .before .before .before .before .before .before .before .before .before .before .before .before .pre .0 .0 .held (c .before .before .before .before .before .before .before .before .before .before .before .before .before .before .before .before .before .before .pre .0 .1) in
-    hands-on (recordCreate (z .args .name .now)) (z .args .image .now) (length (z .args .out .now)) (c .before .before .before .before .before .before .before .before .before .before .before .before .before .before .before .before .before .before .pre .0 .0) (c .before .before .before .before .before .before .before .before .before .before .before .before .before .before .before .before .before .before .pre .0 .1) (lent-answers l h (recordCreate (z .args .name .now)) (c .before .before .before .create-collection .ensures (z .args .name .now) (given-name (c .before .before .before .before .before .before .before .before .lend-name .ensures))))
-    (create-collection-bounded (z .args .name .now) (z .args .image .now) (length (z .args .out .now))) (4 ∷ 5 ∷ 6 ∷ 9 ∷ []) (refl, (refl, (refl, (refl, tt)))) (create-numbers (z .args .name .now) _)
+    let a = lent-answers l h (recordCreate (z .args .name .now)) (c .before .before .before .create-collection .ensures (z .args .name .now) (given-name (c .before .before .before .before .before .before .before .before .lend-name .ensures))) in
+    hands-on (recordCreate (z .args .name .now)) (z .args .image .now) (length (z .args .out .now)) (c .before .before .before .before .before .before .before .before .before .before .before .before .before .before .before .before .before .before .pre .0 .0) (c .before .before .before .before .before .before .before .before .before .before .before .before .before .before .before .before .before .before .pre .0 .1) a
+    (create-collection-bounded (z .args .name .now) (z .args .image .now) (length (z .args .out .now))) (4 ∷ 5 ∷ 6 ∷ 9 ∷ []) (refl, (refl, (refl, (refl, tt)))) (create-numbers (z .args .name .now) _) (stands (recordCreate (z .args .name .now)) (z .args .image .now) (length (z .args .out .now)) (c .before .before .before .before .before .before .before .before .before .before .before .before .before .before .before .before .before .before .pre .0 .0) (c .before .before .before .before .before .before .before .before .before .before .before .before .before .before .before .before .before .before .pre .0 .1) a (create-leaves (z .args .name .now) _) (l .front))
 
 same-length : tie.Need-same-length
 same-length c = search needs

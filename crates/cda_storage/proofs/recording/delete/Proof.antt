@@ -8,6 +8,7 @@ use Rattle.field.proofs.Written.{length-written}
 use Rattle.model.specs.Record.{recordDelete}
 use Rattle.laws.specs.Bounds.{delete-bounded}
 use Rattle.local_storage.proofs.Asked.{delete-asks}
+use Rattle.store.specs.Kept.{none-kept}
 use Rattle.handover.specs.Numbers.{delete-numbers}
 use Rattle.cda_storage.proofs.Lent.{copied, lent-next, lend-room, lent-ready, lent-within, lent-answers, given-key}
 use Rattle.cda_storage.proofs.Recorded.{hands-on, handed}
@@ -42,7 +43,7 @@ hand-on-requires c κs =
     let l = lent-next (lent-next (copied (c .before .before .before .before .before .before .before .before .before .before .before .before .before .before .before .before .before .before .before .before .before .before .before .before .before .before .before .before .pre .1) (c .before .before .before .before .before .before .before .before .before .before .before .before .before .before .before .before .before .before .before .before .before .put-bytes .ensures)) (c .before .before .before .before .before .before .before .before .before .before .before .before .before .before .before .before .before .lend-name .ensures)) (c .before .before .before .before .before .before .before .before .before .before .before .before .before .lend-key .ensures) in
     let h = c .before .before .before .before .before .before .before .before .before .before .before .before .before .before .before .before .before .before .before .before .before .before .before .before .before .before .before .before .pre .0 .0 .held (c .before .before .before .before .before .before .before .before .before .before .before .before .before .before .before .before .before .before .before .before .before .before .before .before .before .before .before .before .pre .0 .1) in
     hands-on (recordDelete (z .args .collection .now) (z .args .key .now)) (z .args .image .now) (length (z .args .out .now)) (c .before .before .before .before .before .before .before .before .before .before .before .before .before .before .before .before .before .before .before .before .before .before .before .before .before .before .before .before .pre .0 .0) (c .before .before .before .before .before .before .before .before .before .before .before .before .before .before .before .before .before .before .before .before .before .before .before .before .before .before .before .before .pre .0 .1) (lent-answers l h (recordDelete (z .args .collection .now) (z .args .key .now)) (c .before .before .before .before .before .delete .ensures (z .args .collection .now) (z .args .key .now) (given-key (c .before .before .before .before .before .before .before .before .before .before .before .before .before .before .before .before .before .lend-name .ensures) (c .before .before .before .before .before .before .before .before .before .before .before .before .before .lend-key .ensures) (c .before .before .before .before .before .before .before .before .before .before .both .ensures))))
-    (delete-bounded (z .args .collection .now) (z .args .key .now) (z .args .image .now) (length (z .args .out .now))) (4 ∷ 5 ∷ 6 ∷ 8 ∷ []) (refl, (refl, (refl, (refl, tt)))) (delete-numbers (z .args .collection .now) (z .args .key .now) _)
+    (delete-bounded (z .args .collection .now) (z .args .key .now) (z .args .image .now) (length (z .args .out .now))) (4 ∷ 5 ∷ 6 ∷ 8 ∷ []) (refl, (refl, (refl, (refl, tt)))) (delete-numbers (z .args .collection .now) (z .args .key .now) _) (λ e. none-kept)
 
 same-length : tie.Need-same-length
 same-length c =

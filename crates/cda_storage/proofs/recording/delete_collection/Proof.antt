@@ -8,8 +8,9 @@ use Rattle.model.specs.Record.{recordDeleteCollection}
 use Rattle.laws.specs.Bounds.{delete-collection-bounded}
 use Rattle.local_storage.proofs.Asked.{given-asks}
 use Rattle.handover.specs.Numbers.{delete-collection-numbers}
+use Rattle.handover.specs.Trees.{delete-collection-leaves}
 use Rattle.cda_storage.proofs.Lent.{copied, lent-next, lend-room, lent-ready, lent-answers, given-name}
-use Rattle.cda_storage.proofs.Recorded.{hands-on, handed}
+use Rattle.cda_storage.proofs.Recorded.{hands-on, stands, handed}
 use borrow.Author.Needs.{needs}
 use Rattle.cda_storage.proofs.recording.delete_collection.Statement.{statement}
 use Rattle.cda_storage.proofs.recording.delete_collection.Tie as tie
@@ -33,8 +34,9 @@ hand-on-requires c κs =
     let z = c .before .before .before .before .before .before .before .before .before .before .before .before .before .before .before .before .before .before in
     let l = lent-next (copied (c .before .before .before .before .before .before .before .before .before .before .before .before .before .before .before .before .before .before .pre .1) (c .before .before .before .before .before .before .before .before .before .before .before .before .put-bytes .ensures)) (c .before .before .before .before .before .before .before .before .lend-name .ensures) in
     let h = c .before .before .before .before .before .before .before .before .before .before .before .before .before .before .before .before .before .before .pre .0 .0 .held (c .before .before .before .before .before .before .before .before .before .before .before .before .before .before .before .before .before .before .pre .0 .1) in
-    hands-on (recordDeleteCollection (z .args .name .now)) (z .args .image .now) (length (z .args .out .now)) (c .before .before .before .before .before .before .before .before .before .before .before .before .before .before .before .before .before .before .pre .0 .0) (c .before .before .before .before .before .before .before .before .before .before .before .before .before .before .before .before .before .before .pre .0 .1) (lent-answers l h (recordDeleteCollection (z .args .name .now)) (c .before .before .before .delete-collection .ensures (z .args .name .now) (given-name (c .before .before .before .before .before .before .before .before .lend-name .ensures))))
-    (delete-collection-bounded (z .args .name .now) (z .args .image .now) (length (z .args .out .now))) (4 ∷ 5 ∷ 6 ∷ 7 ∷ []) (refl, (refl, (refl, (refl, tt)))) (delete-collection-numbers (z .args .name .now) _)
+    let a = lent-answers l h (recordDeleteCollection (z .args .name .now)) (c .before .before .before .delete-collection .ensures (z .args .name .now) (given-name (c .before .before .before .before .before .before .before .before .lend-name .ensures))) in
+    hands-on (recordDeleteCollection (z .args .name .now)) (z .args .image .now) (length (z .args .out .now)) (c .before .before .before .before .before .before .before .before .before .before .before .before .before .before .before .before .before .before .pre .0 .0) (c .before .before .before .before .before .before .before .before .before .before .before .before .before .before .before .before .before .before .pre .0 .1) a
+    (delete-collection-bounded (z .args .name .now) (z .args .image .now) (length (z .args .out .now))) (4 ∷ 5 ∷ 6 ∷ 7 ∷ []) (refl, (refl, (refl, (refl, tt)))) (delete-collection-numbers (z .args .name .now) _) (stands (recordDeleteCollection (z .args .name .now)) (z .args .image .now) (length (z .args .out .now)) (c .before .before .before .before .before .before .before .before .before .before .before .before .before .before .before .before .before .before .pre .0 .0) (c .before .before .before .before .before .before .before .before .before .before .before .before .before .before .before .before .before .before .pre .0 .1) a (delete-collection-leaves (z .args .name .now) _) (l .front))
 
 same-length : tie.Need-same-length
 same-length c = search needs

@@ -1,3 +1,4 @@
+-- `cda_storage::cda_storage_begin` meets its contract.
 use mathlib.Core.Path.{refl}
 use mathlib.Core.List.{[], _∷_}
 use borrow.Author.Needs.{needs}
@@ -11,28 +12,19 @@ use Rattle.handover.specs.Trees.{begin-leaves}
 use Rattle.cda_storage.proofs.Recorded.{not-opened, hands-on, stands, handed}
 use Rattle.cda_storage.proofs.cda_storage_begin.Statement.{statement}
 use Rattle.cda_storage.proofs.cda_storage_begin.Tie as tie
-use Rattle.cda_storage.proofs.cda_storage_begin.Reads as reads
-use Rattle.cda_storage.proofs.cda_storage_begin.Lts as lts
-use Rattle.handover.proofs.hand_on.Reads as hand-on-reads
-use Rattle.handover.proofs.open_image.Reads as open-image-reads
-use Rattle.local_storage.proofs.LocalStorage.begin_transaction.Reads as begin-transaction-reads
 
--- src/lib.rt:41:9
 open-image-requires : tie.Need-open-image-requires
 open-image-requires c κs = search needs
 
--- src/lib.rt:43:9
 returns : tie.Need-returns
 unfolding begin
 returns c =
     let z = c .before .before .before .before .before .before .before in
     not-opened beginTransaction (z .args .image .now) (length (z .args .out .now)) (c .before .before .open-image .ensures) (c .if1 .taken)
 
--- src/lib.rt:47:9
 begin-transaction-requires : tie.Need-begin-transaction-requires
 begin-transaction-requires c κs = search needs
 
--- src/lib.rt:48:5
 hand-on-requires : tie.Need-hand-on-requires
 unfolding begin
 hand-on-requires c κs =
@@ -43,11 +35,9 @@ hand-on-requires c κs =
     hands-on beginTransaction (z .args .image .now) (length (z .args .out .now)) (o .ensures) h a
     (begin-bounded (z .args .image .now) (length (z .args .out .now))) (3 ∷ []) (refl, tt) (begin-numbers _) (stands beginTransaction (z .args .image .now) (length (z .args .out .now)) (o .ensures) h a (begin-leaves _) (take-length _))
 
--- src/lib.rt:37:1
 same-length : tie.Need-same-length
 same-length c = search needs
 
--- src/lib.rt:37:1
 returns-2 : tie.Need-returns-2
 unfolding begin
 returns-2 c =

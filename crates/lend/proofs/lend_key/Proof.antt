@@ -10,52 +10,36 @@ use Rattle.paths.proofs.Lower.{length-lower}
 use Rattle.lend.proofs.Lent.{not-lent, lent, long-key, same-size, kept, written-part}
 use Rattle.lend.proofs.lend_key.Statement.{statement}
 use Rattle.lend.proofs.lend_key.Tie as tie
-use Rattle.lend.proofs.lend_key.Reads as reads
-use Rattle.lend.proofs.lend_key.Lts as lts
-use Rattle.lend.proofs.not_valid.Reads as not-valid-reads
-use Rattle.paths.proofs.normalize_key.Reads as normalize-key-reads
-use Rattle.paths.proofs.sanitize_path_segment.Reads as sanitize-path-segment-reads
-use Rattle.spans.proofs.span.Reads as span-reads
 
--- src/lib.rt:57:9
 not-valid-requires : tie.Need-not-valid-requires
 not-valid-requires c κs = search needs
 
--- src/lib.rt:57:9
 returns : tie.Need-returns
 returns c =
     let z = c .before .before .before .before in
     not-lent (z .args .at) (lower (z .args .key .now)) (z .args .src .now) (z .pre .0) refl refl (long-key (z .args .key .now) (c .before .if1 .taken)) (c .not-valid .ensures)
 
--- src/lib.rt:59:5
 normalize-key-requires : tie.Need-normalize-key-requires
 normalize-key-requires c κs = search needs
 
--- src/lib.rt:60:15
 add-end : tie.Need-add-end
 add-end c = search needs
 
--- src/lib.rt:61:37
 sub-sanitize-path-segment : tie.Need-sub-sanitize-path-segment
 sub-sanitize-path-segment c = search needs
 
--- src/lib.rt:61:37
 part-sanitize-path-segment-start : tie.Need-part-sanitize-path-segment-start
 part-sanitize-path-segment-start c = search needs
 
--- src/lib.rt:61:37
 part-sanitize-path-segment-end : tie.Need-part-sanitize-path-segment-end
 part-sanitize-path-segment-end c = search needs
 
--- src/lib.rt:61:8
 sanitize-path-segment-requires : tie.Need-sanitize-path-segment-requires
 sanitize-path-segment-requires c κs = search needs
 
--- src/lib.rt:64:31
 slice-reshare-prefix-span : tie.Need-slice-reshare-prefix-span
 slice-reshare-prefix-span c = search needs
 
--- src/lib.rt:64:31
 slice-aggregate-span : tie.Need-slice-aggregate-span
 slice-aggregate-span c =
     let b = c .before .before .before .before .before .before .before in
@@ -63,18 +47,15 @@ slice-aggregate-span c =
     let k = z .args .key .now in
     sym (length-take-le _ _ (omega (arith, z .pre .0, length-lower k, b .before .before .if1 .left, same-size (z .args .at) (lower k) (z .args .src .now) (z .pre .0) (omega (arith, length-lower k, b .before .before .if1 .left)) (b .normalize-key .ensures))))
 
--- src/lib.rt:64:19
 span-requires : tie.Need-span-requires
 span-requires c κs =
     let b = c .before .before .before .before .before .before .before in
     let z = b .before .before .before .before .before in
     (omega (arith, z .pre .0, z .pre .1), b .before .before .if1 .left, omega (arith, slice-aggregate-span c))
 
--- src/lib.rt:62:9
 same-length : tie.Need-same-length
 same-length c = search needs
 
--- src/lib.rt:62:9
 returns-2 : tie.Need-returns-2
 returns-2 c =
     let b = c .before .before .before .before .before .before .before .before in
@@ -84,15 +65,12 @@ returns-2 c =
     let e = written-part (z .args .at) (lower k) (z .args .src .now) (z .pre .0) l (b .normalize-key .ensures) (sym (length-lower k)) in
     lent (z .args .at) (lower k) (z .args .src .now) (z .pre .0) l (b .normalize-key .ensures) (ap validName (sym e) ∙ sym (c .before .before .before .sanitize-path-segment .ensures) ∙ c .before .before .if2 .taken) (sym (length-lower k)) (c .span .ensures)
 
--- src/lib.rt:68:5
 not-valid-requires-2 : tie.Need-not-valid-requires-2
 not-valid-requires-2 c κs = search needs
 
--- src/lib.rt:51:1
 same-length-2 : tie.Need-same-length-2
 same-length-2 c = search needs
 
--- src/lib.rt:51:1
 returns-3 : tie.Need-returns-3
 returns-3 c =
     let b = c .before .before .before .before .before .before .before in

@@ -10,26 +10,16 @@ use Rattle.field.proofs.Written.{length-written}
 use Rattle.lend.proofs.Lent.{not-lent, lent, same-size}
 use Rattle.lend.proofs.lend_name.Statement.{statement}
 use Rattle.lend.proofs.lend_name.Tie as tie
-use Rattle.lend.proofs.lend_name.Reads as reads
-use Rattle.lend.proofs.lend_name.Lts as lts
-use Rattle.field.proofs.put_bytes.Reads as put-bytes-reads
-use Rattle.lend.proofs.not_valid.Reads as not-valid-reads
-use Rattle.paths.proofs.sanitize_path_segment.Reads as sanitize-path-segment-reads
-use Rattle.spans.proofs.span.Reads as span-reads
 
--- src/lib.rt:37:8
 sanitize-path-segment-requires : tie.Need-sanitize-path-segment-requires
 sanitize-path-segment-requires c κs = search needs
 
--- src/lib.rt:39:19
 add-end : tie.Need-add-end
 add-end c = search needs
 
--- src/lib.rt:40:9
 put-bytes-requires : tie.Need-put-bytes-requires
 put-bytes-requires c κs = search needs
 
--- src/lib.rt:43:31
 slice-reshare-prefix-span : tie.Need-slice-reshare-prefix-span
 slice-reshare-prefix-span c =
     let b = c .before .before in
@@ -37,11 +27,9 @@ slice-reshare-prefix-span c =
     let v = valid-length (z .args .name .now) (sym (b .before .before .before .sanitize-path-segment .ensures) ∙ b .before .before .if1 .taken) in
     omega (arith, z .pre .0, v .1, ap length (b .put-bytes .ensures) ∙ length-written (z .args .at) (z .args .name .now) (z .args .src .now))
 
--- src/lib.rt:43:31
 slice-aggregate-span : tie.Need-slice-aggregate-span
 slice-aggregate-span c = sym (length-take-le _ _ (slice-reshare-prefix-span (c .before)))
 
--- src/lib.rt:43:19
 span-requires : tie.Need-span-requires
 span-requires c κs =
     let b = c .before .before .before in
@@ -49,11 +37,9 @@ span-requires c κs =
     let v = valid-length (z .args .name .now) (sym (b .before .before .before .sanitize-path-segment .ensures) ∙ b .before .before .if1 .taken) in
     (omega (arith, z .pre .0, z .pre .1), v .1, omega (arith, slice-aggregate-span c))
 
--- src/lib.rt:41:9
 same-length : tie.Need-same-length
 same-length c = search needs
 
--- src/lib.rt:41:9
 returns : tie.Need-returns
 returns c =
     let b = c .before .before .before .before in
@@ -61,11 +47,9 @@ returns c =
     let e = sym (b .before .before .before .sanitize-path-segment .ensures) ∙ b .before .before .if1 .taken in
     lent (z .args .at) (z .args .name .now) (z .args .src .now) (z .pre .0) (valid-length (z .args .name .now) e .1) (b .put-bytes .ensures) e refl (c .span .ensures)
 
--- src/lib.rt:47:5
 not-valid-requires : tie.Need-not-valid-requires
 not-valid-requires c κs = search needs
 
--- src/lib.rt:33:1
 returns-2 : tie.Need-returns-2
 returns-2 c =
     let z = c .before .before .before .before .before in

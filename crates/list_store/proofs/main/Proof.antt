@@ -5,39 +5,30 @@ use borrow.Author.Needs.{needs}
 use Rattle.list_store.proofs.main.Statement.{statement}
 use Rattle.list_store.proofs.main.Tie as tie
 
--- src/main.rt:51:28
 slice-aggregate-read-input : tie.Need-slice-aggregate-read-input
 slice-aggregate-read-input c = search needs
 
--- src/main.rt:51:9
 read-input-requires : tie.Need-read-input-requires
 read-input-requires c κs = search needs
 
--- src/main.rt:54:14
 array-share-prefix-buf : tie.Need-array-share-prefix-buf
 array-share-prefix-buf c = search needs
 
--- src/main.rt:54:14
 slice-aggregate-list : tie.Need-slice-aggregate-list
 slice-aggregate-list c = sym (length-take-le _ _ (c .before .before .before .read-input .ensures))
 
--- src/main.rt:54:9
 list-requires : tie.Need-list-requires
 list-requires c κs = search needs
 
--- src/main.rt:58:13
 slice-aggregate-write-all : tie.Need-slice-aggregate-write-all
 slice-aggregate-write-all c = search needs
 
--- src/main.rt:56:9
 write-all-requires : tie.Need-write-all-requires
 write-all-requires c κs = search needs
 
--- src/main.rt:49:1
 returns : tie.Need-returns
 returns c = search needs
 
--- src/main.rt:49:1
 returns-2 : tie.Need-returns-2
 returns-2 c = search needs
 

@@ -12,63 +12,48 @@ Inv-loop buf₀ n₀ buf n = (n ≤ length buf) × (length buf ≡ length buf₀
 abbrev μ-loop : tie.MeasureT-loop
 μ-loop buf₀ n₀ buf n = length buf - n
 
--- src/main.rt:23:5
 loop-holds : tie.Need-loop-holds Inv-loop μ-loop
 loop-holds c = search needs
 
--- src/main.rt:24:20
 sub-part : tie.Need-sub-part Inv-loop μ-loop
 sub-part c = search needs
 
--- src/main.rt:24:20
 part-part-start : tie.Need-part-part-start Inv-loop μ-loop
 part-part-start c = search needs
 
--- src/main.rt:24:20
 part-part-end : tie.Need-part-part-end Inv-loop μ-loop
 part-part-end c = search needs
 
--- src/main.rt:25:13
 read-requires : tie.Need-read-requires Inv-loop μ-loop
 read-requires c κs = search needs
 
--- src/main.rt:27:13
 same-length : tie.Need-same-length Inv-loop μ-loop
 same-length c = search needs
 
--- src/main.rt:27:13
 returns : tie.Need-returns Inv-loop μ-loop
 returns c = search needs
 
--- src/main.rt:29:13
 count-requires : tie.Need-count-requires Inv-loop μ-loop
 count-requires c κs = search needs
 
--- src/main.rt:31:13
 same-length-2 : tie.Need-same-length-2 Inv-loop μ-loop
 same-length-2 c = search needs
 
--- src/main.rt:31:13
 returns-2 : tie.Need-returns-2 Inv-loop μ-loop
 returns-2 c = search needs
 
--- src/main.rt:33:9
 add-n : tie.Need-add-n Inv-loop μ-loop
 add-n c = search needs
 
--- src/main.rt:23:5
 loop-less : tie.Need-loop-less Inv-loop μ-loop
 loop-less c = search needs
 
--- src/main.rt:23:5
 loop-again : tie.Need-loop-again Inv-loop μ-loop
 loop-again c = search needs
 
--- src/main.rt:19:1
 same-length-3 : tie.Need-same-length-3 Inv-loop μ-loop
 same-length-3 c = search needs
 
--- src/main.rt:19:1
 returns-3 : tie.Need-returns-3 Inv-loop μ-loop
 returns-3 c = search needs
 

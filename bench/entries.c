@@ -106,7 +106,7 @@ static void record(int count) {
     }
 }
 
-// Goes from field to field by their lengths and looks at nothing else. No reading of an image in its order takes less.
+// Goes from field to field by their lengths and looks at nothing else: the least that a reading of the image in its order has to do.
 static uint32_t walk(const Image *image) {
     const uint8_t *at = image->bytes, *end = at + image->len;
     while (at + 3 <= end) {

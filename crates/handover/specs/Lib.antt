@@ -1,4 +1,5 @@
 pub mod Contract
 pub mod Opening
+pub mod Outcomes
 pub mod Numbers
 pub mod Trees

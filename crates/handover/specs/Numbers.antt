@@ -7,7 +7,7 @@ use mathlib.Core.Logic.{inl, inr}
 use Prim.Native.Nat.{ℕ}
 use lib.ListN.{length}
 use lib.Dec.{leb}
-use Rattle.model.specs.Limits.{opLimit, stagingLimit}
+use Rattle.model.specs.Limits.{stagingLimit}
 use Rattle.model.specs.Order.{Name}
 use Rattle.model.specs.Map.{look, put}
 use Rattle.model.specs.Base.{caseOption, if_then_else_, isSome, In}
@@ -16,27 +16,12 @@ use Rattle.model.specs.Operation.{Op, write, delete, deleteAll, createCollectio
 use Rattle.model.specs.Log.{header}
 use Rattle.model.specs.Store.{Store, stagingKey, validNumber}
 use Rattle.model.specs.Record.{Outcome, refuse, give, transaction, require, recordInto, appended, hasDir, caseRenamed, beginTransaction, discard, recordWrite, recordDelete, recordDeleteAll, recordCreate, recordDeleteCollection, recordCopy}
+use Rattle.handover.specs.Outcomes.{into, test}
 
 -- An outcome that refuses with one of these numbers, or does not refuse.
 abbrev pub Numbered : List ℕ → Outcome → Type 0
 Numbered l (refuse n) = In n l
 Numbered l (give s) = Unit {0}
-
--- What follows 4 and 5; a test; two tests.
-into : (l : List ℕ) (s : Store) (next : Outcome) → In 4 l → In 5 l → Numbered l next → Numbered l (recordInto s next)
-into l s next f e h = go (transaction s)
-  where
-    at : (b : Bool) → Numbered l (if b then refuse 5 else next)
-    at true = e
-    at false = h
-
-    go : (o : Option (List Op)) → Numbered l (caseOption o (refuse 4) (λ ops. if leb opLimit (length ops) then refuse 5 else next))
-    go none = f
-    go (some ops) = at (leb opLimit (length ops))
-
-test : (l : List ℕ) (b : Bool) (n : ℕ) (next : Outcome) → In n l → Numbered l next → Numbered l (require b n next)
-test l true n next i h = h
-test l false n next i h = i
 
 -- 4, 5, 6 and one number more.
 abbrev fourTo : ℕ → List ℕ
@@ -44,8 +29,8 @@ fourTo n = 4 ∷ 5 ∷ 6 ∷ n ∷ []
 
 two : (n : ℕ) (s : Store) (a b : Bool) (u : Store) → Numbered (fourTo n) (recordInto s (require a 6 (require b n (give u))))
 two n s a b u =
-    into (fourTo n) s (require a 6 (require b n (give u))) (inl refl) (inr (inl refl))
-    (test (fourTo n) a 6 (require b n (give u)) (inr (inr (inl refl))) (test (fourTo n) b n (give u) (inr (inr (inr (inl refl)))) tt))
+    into (Numbered (fourTo n)) s (require a 6 (require b n (give u))) (inl refl) (inr (inl refl))
+    (test (Numbered (fourTo n)) a 6 (require b n (give u)) (inr (inr (inl refl))) (test (Numbered (fourTo n)) b n (give u) (inr (inr (inr (inl refl)))) tt))
 
 pub begin-numbers : (s : Store) → Numbered (3 ∷ []) (beginTransaction s)
 unfolding beginTransaction
@@ -77,7 +62,7 @@ delete-numbers c k s =
 pub delete-all-numbers : (c : Name) (s : Store) → Numbered (4 ∷ 5 ∷ 6 ∷ []) (recordDeleteAll c s)
 unfolding recordDeleteAll
 delete-all-numbers c s =
-    into (4 ∷ 5 ∷ 6 ∷ []) s (require (validName c) 6 (give (appended (deleteAll c) s))) (inl refl) (inr (inl refl)) (test (4 ∷ 5 ∷ 6 ∷ []) (validName c) 6 (give (appended (deleteAll c) s)) (inr (inr (inl refl))) tt)
+    into (Numbered (4 ∷ 5 ∷ 6 ∷ [])) s (require (validName c) 6 (give (appended (deleteAll c) s))) (inl refl) (inr (inl refl)) (test (Numbered (4 ∷ 5 ∷ 6 ∷ [])) (validName c) 6 (give (appended (deleteAll c) s)) (inr (inr (inl refl))) tt)
 
 pub create-numbers : (c : Name) (s : Store) → Numbered (4 ∷ 5 ∷ 6 ∷ 9 ∷ []) (recordCreate c s)
 unfolding recordCreate
@@ -91,6 +76,6 @@ pub copy-numbers : (a b : Name) (s : Store) → Numbered (4 ∷ 5 ∷ 6 ∷ 7 �
 unfolding recordCopy
 copy-numbers a b s =
     let u : Store = appended (copyCollection a b (hasDir b s)) s in
-    into (fourTo 7) s (require (validName a) 6 (require (hasDir a s) 7 (require (validName b) 6 (give u)))) (inl refl) (inr (inl refl))
-    (test (fourTo 7) (validName a) 6 (require (hasDir a s) 7 (require (validName b) 6 (give u))) (inr (inr (inl refl)))
-    (test (fourTo 7) (hasDir a s) 7 (require (validName b) 6 (give u)) (inr (inr (inr (inl refl)))) (test (fourTo 7) (validName b) 6 (give u) (inr (inr (inl refl))) tt)))
+    into (Numbered (fourTo 7)) s (require (validName a) 6 (require (hasDir a s) 7 (require (validName b) 6 (give u)))) (inl refl) (inr (inl refl))
+    (test (Numbered (fourTo 7)) (validName a) 6 (require (hasDir a s) 7 (require (validName b) 6 (give u))) (inr (inr (inl refl)))
+    (test (Numbered (fourTo 7)) (hasDir a s) 7 (require (validName b) 6 (give u)) (inr (inr (inr (inl refl)))) (test (Numbered (fourTo 7)) (validName b) 6 (give u) (inr (inr (inl refl))) tt)))

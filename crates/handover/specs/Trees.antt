@@ -6,7 +6,7 @@ use mathlib.Core.Option.{Option, none, some}
 use Prim.Native.Nat.{ℕ}
 use lib.ListN.{length}
 use lib.Dec.{leb}
-use Rattle.model.specs.Limits.{opLimit, stagingLimit}
+use Rattle.model.specs.Limits.{stagingLimit}
 use Rattle.model.specs.Order.{Name}
 use Rattle.model.specs.Map.{Map, look}
 use Rattle.model.specs.Base.{caseOption, if_then_else_, isSome}
@@ -14,28 +14,13 @@ use Rattle.model.specs.Name.{validName, lower}
 use Rattle.model.specs.Operation.{Op}
 use Rattle.model.specs.Log.{header}
 use Rattle.model.specs.Store.{Store, stagingKey, validNumber}
-use Rattle.model.specs.Record.{Outcome, refuse, give, transaction, require, recordInto, hasDir, beginTransaction, discard, recordWrite, recordDeleteAll, recordCreate, recordDeleteCollection, recordCopy}
+use Rattle.model.specs.Record.{Outcome, refuse, give, transaction, hasDir, beginTransaction, discard, recordWrite, recordDeleteAll, recordCreate, recordDeleteCollection, recordCopy}
+use Rattle.handover.specs.Outcomes.{into, test}
 
 -- An outcome whose store has this tree, if it has a store.
 abbrev pub Leaves : Map → Outcome → Type 0
 Leaves m (refuse n) = Unit {0}
 Leaves m (give s) = s .tree ≡ m
-
--- What follows 4 and 5, and a test.
-into : (m : Map) (s : Store) (next : Outcome) → Leaves m next → Leaves m (recordInto s next)
-into m s next h = go (transaction s)
-  where
-    at : (b : Bool) → Leaves m (if b then refuse 5 else next)
-    at true = tt
-    at false = h
-
-    go : (o : Option (List Op)) → Leaves m (caseOption o (refuse 4) (λ ops. if leb opLimit (length ops) then refuse 5 else next))
-    go none = tt
-    go (some ops) = at (leb opLimit (length ops))
-
-test : (m : Map) (b : Bool) (n : ℕ) (next : Outcome) → Leaves m next → Leaves m (require b n next)
-test m true n next h = h
-test m false n next h = tt
 
 pub begin-leaves : (s : Store) → Leaves (s .tree) (beginTransaction s)
 unfolding beginTransaction
@@ -56,22 +41,22 @@ rollback-leaves s = go (transaction s)
 pub write-leaves : (c k f : Name) (x : ℕ) (s : Store) → Leaves (s .tree) (recordWrite c k f x s)
 unfolding recordWrite
 write-leaves c k f x s =
-    into (s .tree) s _ (test (s .tree) (validName c && validName (lower k) && validName f) 6 _
-    (test (s .tree) (not (isSome (look (stagingKey f) (s .staging))) && not (leb stagingLimit (length (s .staging))) && validNumber x) 10 _ refl))
+    into (Leaves (s .tree)) s _ tt tt (test (Leaves (s .tree)) (validName c && validName (lower k) && validName f) 6 _ tt
+    (test (Leaves (s .tree)) (not (isSome (look (stagingKey f) (s .staging))) && not (leb stagingLimit (length (s .staging))) && validNumber x) 10 _ tt refl))
 
 pub delete-all-leaves : (c : Name) (s : Store) → Leaves (s .tree) (recordDeleteAll c s)
 unfolding recordDeleteAll
-delete-all-leaves c s = into (s .tree) s _ (test (s .tree) (validName c) 6 _ refl)
+delete-all-leaves c s = into (Leaves (s .tree)) s _ tt tt (test (Leaves (s .tree)) (validName c) 6 _ tt refl)
 
 pub create-leaves : (c : Name) (s : Store) → Leaves (s .tree) (recordCreate c s)
 unfolding recordCreate
-create-leaves c s = into (s .tree) s _ (test (s .tree) (validName c) 6 _ (test (s .tree) (not (hasDir c s)) 9 _ refl))
+create-leaves c s = into (Leaves (s .tree)) s _ tt tt (test (Leaves (s .tree)) (validName c) 6 _ tt (test (Leaves (s .tree)) (not (hasDir c s)) 9 _ tt refl))
 
 pub delete-collection-leaves : (c : Name) (s : Store) → Leaves (s .tree) (recordDeleteCollection c s)
 unfolding recordDeleteCollection
-delete-collection-leaves c s = into (s .tree) s _ (test (s .tree) (validName c) 6 _ (test (s .tree) (hasDir c s) 7 _ refl))
+delete-collection-leaves c s = into (Leaves (s .tree)) s _ tt tt (test (Leaves (s .tree)) (validName c) 6 _ tt (test (Leaves (s .tree)) (hasDir c s) 7 _ tt refl))
 
 pub copy-leaves : (a b : Name) (s : Store) → Leaves (s .tree) (recordCopy a b s)
 unfolding recordCopy
 copy-leaves a b s =
-    into (s .tree) s _ (test (s .tree) (validName a) 6 _ (test (s .tree) (hasDir a s) 7 _ (test (s .tree) (validName b) 6 _ refl)))
+    into (Leaves (s .tree)) s _ tt tt (test (Leaves (s .tree)) (validName a) 6 _ tt (test (Leaves (s .tree)) (hasDir a s) 7 _ tt (test (Leaves (s .tree)) (validName b) 6 _ tt refl)))

@@ -1,0 +1,29 @@
+-- What holds of an outcome, through the tests that come before it: 01, Sixteen numbers.
+use mathlib.Core.Bool.{Bool, true, false}
+use mathlib.Core.List.{List}
+use mathlib.Core.Option.{Option, none, some}
+use Prim.Native.Nat.{ℕ}
+use lib.ListN.{length}
+use lib.Dec.{leb}
+use Rattle.model.specs.Limits.{opLimit}
+use Rattle.model.specs.Base.{caseOption, if_then_else_}
+use Rattle.model.specs.Operation.{Op}
+use Rattle.model.specs.Store.{Store}
+use Rattle.model.specs.Record.{Outcome, refuse, transaction, require, recordInto}
+
+module _ (P : Outcome → Type 0) where
+  -- What follows 4 and 5, and a test.
+  pub into : (s : Store) (next : Outcome) → P (refuse 4) → P (refuse 5) → P next → P (recordInto s next)
+  into s next f e h = go (transaction s)
+    where
+      at : (b : Bool) → P (if b then refuse 5 else next)
+      at true = e
+      at false = h
+
+      go : (o : Option (List Op)) → P (caseOption o (refuse 4) (λ ops. if leb opLimit (length ops) then refuse 5 else next))
+      go none = f
+      go (some ops) = at (leb opLimit (length ops))
+
+  pub test : (b : Bool) (n : ℕ) (next : Outcome) → P (refuse n) → P next → P (require b n next)
+  test true n next i h = h
+  test false n next i h = i

@@ -8,7 +8,7 @@ use native.Mathlib.Omega.{arith}
 use lib.ListN.{length, drop, getD, length-append}
 use Rattle.model.specs.Order.{Name}
 use Rattle.model.specs.Map.{Map}
-use Rattle.model.specs.Base.{Bytes, if_then_else_, sameBytes, flatMap}
+use Rattle.model.specs.Base.{Bytes, if_then_else_, sameBytes}
 use Rattle.model.specs.Name.{lower, isBackup, isTmp}
 use Rattle.model.specs.Field.{encodeField}
 use Rattle.model.specs.Store.{Store, files}
@@ -23,11 +23,7 @@ use Rattle.store.proofs.Listed.{namesIn, listed-own, listed-end, listed-rest}
 use Rattle.steps.specs.Steps.{FileName}
 use Rattle.local_collection.specs.declared.OtherCase.{OtherCase}
 use Rattle.local_collection.specs.declared.OtherCase.the-variants.{Is, Nothing}
-use Rattle.local_collection.specs.Keys.{isKey, keysOf, OtherCaseOf, Puts}
-
--- The fields of those names that are listed as keys.
-unfoldable pub keysIn : List Name → Bytes
-keysIn l = flatMap (λ f. if isBackup f || isTmp f then [] else encodeField (field 3 (lower f))) l
+use Rattle.local_collection.specs.Keys.{isKey, keysIn, keysOf, OtherCaseOf, Puts}
 
 module _ (f : Name) where
   -- The tests of the code, each in its two ways.
@@ -156,7 +152,7 @@ module _ {src : Bytes} {l : List ℕ} {n : ℕ} {names : List Name} {before now 
 -- The names in the listing are a directory's files: where the loop starts, and where it ends.
 module _ (d : Name) (m : Map) {src : Bytes} {l : List ℕ} {n : ℕ} (s : Lists src l n (files d m)) where
   keys-in : keysIn (namesIn src l n) ≡ keysOf d m
-  unfolding keysOf keysIn
+  unfolding keysOf
   keys-in = ap keysIn (s .same)
 
   pub listing : {out : Bytes} → length (keysOf d m) ≤ length out → Listing src l n (namesIn src l n) out out 0 0
@@ -168,9 +164,9 @@ module _ (d : Name) (m : Map) {src : Bytes} {l : List ℕ} {n : ℕ} (s : Lists 
 -- The model's key list is that of its tree.
 module _ (c : Name) (s : Store) where
   pub keys-room : {n : ℕ} → length (keyList c s) ≤ n → length (keysOf c (s .tree)) ≤ n
-  unfolding keysOf keyList
+  unfolding keysOf keysIn keyList
   keys-room h = h
 
   pub keys-listed : {before after : Bytes} {n : ℕ} → Writes (keysOf c (s .tree)) 0 before after n → Writes (keyList c s) 0 before after n
-  unfolding keysOf keyList
+  unfolding keysOf keysIn keyList
   keys-listed w = w

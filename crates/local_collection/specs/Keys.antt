@@ -24,9 +24,12 @@ use Rattle.local_collection.specs.declared.OtherCase.the-variants.{Is, N
 unfoldable pub isKey : Name → Bool
 isKey f = not (isBackup f) && not (isTmp f)
 
--- The key list of a tree (Record, `keyList`).
+-- The fields of those names that are listed as keys, and the key list of a tree (Record, `keyList`).
+unfoldable pub keysIn : List Name → Bytes
+keysIn l = flatMap (λ f. if isBackup f || isTmp f then [] else encodeField (field 3 (lower f))) l
+
 unfoldable pub keysOf : Name → Map → Bytes
-keysOf c t = flatMap (λ f. if isBackup f || isTmp f then [] else encodeField (field 3 (lower f))) (files c t)
+keysOf c t = keysIn (files c t)
 
 abbrev pub caseOf : Bytes → OtherCase → Option Name
 caseOf src (Is f) = some (nameOf src f)

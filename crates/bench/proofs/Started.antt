@@ -11,6 +11,7 @@ use Rattle.spans.specs.declared.NameRef.{NameRef}
 use Rattle.spans.specs.declared.BackupName.{BackupName}
 use Rattle.spans.specs.declared.BackupName.the-variants.{Is}
 use Rattle.spans.proofs.Parts.{length-name}
+use Rattle.model.specs.Limits.{imageRoom}
 use Rattle.model.specs.Base.{Bytes}
 use Rattle.model.specs.Store.{dirs, fileCount}
 use Rattle.model.specs.Image.{encode}
@@ -40,7 +41,7 @@ started src tree staging d h e =
     }
 
 -- Its image has at most so many bytes.
-pub image-room : (src : Bytes) (tree staging : Words) (d : Decoded) → Decodes src tree staging d → d .ok ≡ true → length (encode (storeOf src (storeIn tree staging (d .store)))) ≤ 19262
+pub image-room : (src : Bytes) (tree staging : Words) (d : Decoded) → Decodes src tree staging d → d .ok ≡ true → length (encode (storeOf src (storeIn tree staging (d .store)))) ≤ imageRoom
 image-room src tree staging d h e = let s = storeOf src (storeIn tree staging (d .store)) in encode-length validNaming s (lent-good src s (h .accepted e))
 
 -- A file's own name, and its backup name, can be given to a rename.

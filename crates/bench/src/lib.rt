@@ -10,7 +10,7 @@ use store::Store;
 use wal::Tail;
 
 // The room that any image needs.
-const IMAGE_ROOM: usize = 19_262;
+const IMAGE_ROOM: usize = decode::IMAGE_LIMIT;
 
 // Reads an image and writes it again, its tree too; how many bytes were written.
 #[no_mangle]

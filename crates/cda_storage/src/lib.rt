@@ -13,8 +13,8 @@ mod recording;
 use local_storage::LocalStorage;
 use wal::Tail;
 
-// 01, Sixteen numbers: "2. The lent output has under 19,262 bytes (8,576 for a key list, 197 for a step)."
-const IMAGE_ROOM: usize = 19_262;
+// 02, item 4: "the image limit and least output of refusal 2 become 19,390"; 01, Sixteen numbers, 2: "(8,576 for a key list, 197 for a step)".
+const IMAGE_ROOM: usize = decode::IMAGE_LIMIT;
 
 const KEYS_ROOM: usize = 8_576;
 
@@ -22,11 +22,11 @@ const STEP_ROOM: usize = 197;
 
 // Room for an image and the three names of a Write. A small image takes a small buffer: the large one takes longer to clear than such an image
 // takes to read.
-const SOURCE_ROOM: usize = 19_454;
+const SOURCE_ROOM: usize = IMAGE_ROOM + 192;
 
 const SMALL_IMAGE: usize = 2_048;
 
-const SMALL_ROOM: usize = 2_240;
+const SMALL_ROOM: usize = SMALL_IMAGE + 192;
 
 // Both of two tests.
 fn both(a: bool, b: bool) -> bool

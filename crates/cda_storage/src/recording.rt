@@ -36,7 +36,7 @@ pub fn write(
     let valid = crate::both(crate::both(c.valid, k.valid), f.valid);
     let s = o.store;
     let storage = LocalStorage { store: s };
-    let r = storage.write(src, staging, valid, c.name, k.name, f.name, number);
+    let r = storage.write(src, tree, staging, valid, c.name, k.name, f.name, number);
     handover::hand_on(src, tree, staging, r, o.tree_end, out, written)
 }
 

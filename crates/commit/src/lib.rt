@@ -37,6 +37,7 @@ fn collection_of(op: Operation) -> NameRef
         Operation::CreateCollection(c) => c,
         Operation::DeleteCollection(c) => c,
         Operation::CopyCollection(_, b, _) => b,
+        Operation::MarkedWrite(c, _, _, _) => c,
     }
 }
 

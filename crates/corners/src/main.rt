@@ -1,4 +1,4 @@
-// Asks the exported entries the corners of document 01, and the published check value of the checksum, and prints what they answer. The
+// Asks the exported entries the corners of documents 01 and 02, and the published check value of the checksum, and prints what they answer. The
 // questions are data/questions and the expected lines stdout: `oracle/lists` makes both of oracle/corners.txt and the original's answers.
 mod show;
 
@@ -6,7 +6,7 @@ fn one(tag: u8, buf: &[u8; 65536], len: usize) {
     let value = wal::payload(buf, 0, len);
     match tag {
         questions::TEXT => show::put(value),
-        questions::ASKED | questions::ASKED_BY_01 => {
+        questions::ASKED | questions::ASKED_BY_DOCUMENTS => {
             let mut out = [0u8; questions::ROOM];
             let mut step = [0u8; questions::STEP_ROOM];
             let answer = questions::ask(value, &mut out, &mut step);

@@ -1,14 +1,15 @@
--- Demand 3, the cut rule, over images: 01, 'The words of demand 3'. Quotes are from there. Theorem.antt proves it.
+-- The cut rule over images: 01, 'The words of demand 3', and 02, item 4. Quotes are from 01, or from 02 where an item is named. Theorem.antt proves what
+-- is stated here.
 use mathlib.Core.Path.{_≡_}
 use Prim.Native.Nat.{ℕ, _≤_}
 use mathlib.Core.List.{List, [], _∷_, _++_, map}
-use mathlib.Core.Option.{Option, none, some}
+use mathlib.Core.Option.{none, some}
 use mathlib.Core.Bool.{Bool, false}
 use mathlib.Core.Logic.{_⊎_}
 use Rattle.model.specs.Limits.{imageRoom, stepRoom}
 use Rattle.model.specs.Order.{Name}
 use Rattle.model.specs.Map.{Map, look, put, Has}
-use Rattle.model.specs.Base.{Bytes, caseOption, if_then_else_, In}
+use Rattle.model.specs.Base.{Bytes, caseOption, if_then_else_, isSome, In}
 use Rattle.model.specs.Name.{backupExtension, stagingExtension, backupName}
 use Rattle.model.specs.Field.{hasTag}
 use Rattle.model.specs.Operation.{Write, write, target}
@@ -16,7 +17,7 @@ use Rattle.model.specs.Log.{journal, opsOf}
 use Rattle.model.specs.Store.{Store, stagingKey}
 use Rattle.model.specs.Image.{decode}
 use Rattle.model.specs.Step.{Step, renameFile, stepField}
-use Rattle.model.specs.Answers.{Answer, answer, commit, commitStep, recover}
+use Rattle.model.specs.Answers.{answer, commit, commitStep, recover}
 
 -- A name ends in .bak, or in .tmp: as text, whatever stands before the dot.
 pub record EndsIn (extension n : Name) : Type 0 where
@@ -32,10 +33,10 @@ abbrev pub Distinct : List Write → Type 0
 Distinct [] = Unit {0}
 Distinct (w ∷ l) = ((v : Write) → In v l → target v ≡ target w → ⊥) × Distinct l
 
--- The conditions on a transaction: the image b, the store s that it holds, the Writes ws of its log.
-pub record Conditions (b : Bytes) (s : Store) (ws : List Write) : Type 0 where
-  -- "A transaction is an image for which commit, lent enough output, isn't given 1 or 4"; its commit meets no failing step, 14 or 15.
-  pub committed : commit b imageRoom .number ≡ 0
+-- The conditions on a transaction: the image b, the store s that it holds, the Writes ws of its log, and what is asked of the number that commit gives.
+pub record Meets (N : ℕ → Type 0) (b : Bytes) (s : Store) (ws : List Write) : Type 0 where
+  -- "A transaction is an image for which commit, lent enough output, isn't given 1 or 4".
+  pub committed : N (commit b imageRoom .number)
   -- ""Before" is that image's directories and files."
   pub holds : decode b ≡ some s
   -- "Its Writes and their keys are those of its log": its operations are Writes alone.
@@ -46,6 +47,27 @@ pub record Conditions (b : Bytes) (s : Store) (ws : List Write) : Type 0 where
   -- The keys are distinct, in collections that exist.
   pub distinctKeys : Distinct ws
   pub collections : (w : Write) → In w ws → Has (w .collection, []) (s .tree)
+
+-- The cut rule's: the commit meets no failing step, 14 or 15. And those of a commit that meets one.
+abbrev pub Conditions : Bytes → Store → List Write → Type 0
+Conditions = Meets (λ x. x ≡ 0)
+
+abbrev pub Failing : Bytes → Store → List Write → Type 0
+Failing = Meets (λ x. (x ≡ 14) ⊎ (x ≡ 15))
+
+-- 02, item 4: "every mark is true of the store at commit": 1 exactly if the key's file stands there. A Write of kind 1 has no mark.
+abbrev pub TrueMark : Map → Write → Type 0
+TrueMark t w = (x : Bool) → w .mark ≡ some x → x ≡ isSome (look (target w) t)
+
+abbrev pub TrueMarks : Map → List Write → Type 0
+TrueMarks t ws = (w : Write) → In w ws → TrueMark t w
+
+-- Writes of kind 1 alone; of kind 7 alone, with true marks.
+abbrev pub Unmarked : List Write → Type 0
+Unmarked ws = (w : Write) → In w ws → w .mark ≡ none
+
+abbrev pub TrulyMarked : Map → List Write → Type 0
+TrulyMarked t ws = (w : Write) → In w ws → w .mark ≡ some (isSome (look (target w) t))
 
 -- A key's "rename to the backup name, the key with .bak behind it".
 abbrev pub backupRename : Write → Step
@@ -58,8 +80,9 @@ pub record Renamed (n : ℕ) (b : Bytes) (w : Write) : Type 0 where
   pub given : commitStep place b imageRoom stepRoom .step ≡ stepField (backupRename w)
 
 -- "A written key existed if its collection holds a file of that name before. It waits at n if its rename […] isn't among the first n steps."
+-- Asked of the keys of kind 1 alone: a marked Write may wait (02, item 4).
 abbrev pub NoneWaits : ℕ → Bytes → Store → List Write → Type 0
-NoneWaits n b s ws = (w : Write) → In w ws → Has (target w) (s .tree) → Renamed n b w
+NoneWaits n b s ws = (w : Write) → In w ws → w .mark ≡ none → Has (target w) (s .tree) → Renamed n b w
 
 -- "Recovery gets exactly that image": what commit's step entry hands back at n.
 abbrev pub cutAt : ℕ → Bytes → Bytes
@@ -79,12 +102,41 @@ expectedFiles stood s ws = if stood then s .tree else allWritesDone (s .staging)
 abbrev pub settled : Map → Store
 settled t = record { tree = t; staging = []; log = none; openMark = false }
 
--- "That is one claim over every image, list of Writes and n, and not one for each step or Write." The cut comes at any n of the plan (the step
--- entry's number is 0), where n = 0 or no written key that existed waits at n. "Unless given 2, recovery answers 0, and its image has exactly the
--- directories and files, numbers included, from before if the log stood" ("that image has a 0x13 field"), "else those with all writes done, and no
--- 0x12, 0x13 or 0x14."
+-- "That is one claim over every image, list of Writes and n, and not one for each step or Write." The Writes are of kind 1 and of kind 7, in any mix. The
+-- cut comes at any n of the plan (the step entry's number is 0), where n = 0 or no written key of kind 1 that existed waits at n. "Unless given 2, recovery
+-- answers 0, and its image has exactly the directories and files, numbers included, from before if the log stood" ("that image has a 0x13 field"), "else
+-- those with all writes done, and no 0x12, 0x13 or 0x14."
 abbrev pub CutRule : Type 0
 CutRule =
     (b : Bytes) (s : Store) (ws : List Write) (n out : ℕ) →
-    Conditions b s ws → commitStep n b imageRoom stepRoom .number ≡ 0 → (n ≡ 0) ⊎ NoneWaits n b s ws → (recover (cutAt n b) out .number ≡ 2 → ⊥) →
+    Conditions b s ws → TrueMarks (s .tree) ws → commitStep n b imageRoom stepRoom .number ≡ 0 → (n ≡ 0) ⊎ NoneWaits n b s ws →
+    (recover (cutAt n b) out .number ≡ 2 → ⊥) →
     recover (cutAt n b) out ≡ answer 0 (settled (expectedFiles (hasTag 0x13 (cutAt n b)) s ws))
+
+-- Demand 3: the rule for kind 1 alone. "It waits at n" for every written key that existed.
+abbrev pub Demand3 : Type 0
+Demand3 =
+    (b : Bytes) (s : Store) (ws : List Write) (n out : ℕ) →
+    Conditions b s ws → Unmarked ws → commitStep n b imageRoom stepRoom .number ≡ 0 →
+    (n ≡ 0) ⊎ ((w : Write) → In w ws → Has (target w) (s .tree) → Renamed n b w) → (recover (cutAt n b) out .number ≡ 2 → ⊥) →
+    recover (cutAt n b) out ≡ answer 0 (settled (expectedFiles (hasTag 0x13 (cutAt n b)) s ws))
+
+-- 02, item 4: "The cut rule, for marked Writes alone whose every mark is true of the store at commit, drops its condition about waiting keys and speaks of
+-- every step of the commit."
+abbrev pub MarkedRule : Type 0
+MarkedRule =
+    (b : Bytes) (s : Store) (ws : List Write) (n out : ℕ) →
+    Conditions b s ws → TrulyMarked (s .tree) ws → commitStep n b imageRoom stepRoom .number ≡ 0 → (recover (cutAt n b) out .number ≡ 2 → ⊥) →
+    recover (cutAt n b) out ≡ answer 0 (settled (expectedFiles (hasTag 0x13 (cutAt n b)) s ws))
+
+-- Beyond document 02: a commit of marked Writes with true marks that fails hands back exactly the directories and files from before, and so does recovery
+-- from any cut of it.
+abbrev pub FailingCommit : Type 0
+FailingCommit =
+    (b : Bytes) (s : Store) (ws : List Write) → Failing b s ws → TrulyMarked (s .tree) ws → commit b imageRoom .image ≡ answer 0 (settled (s .tree)) .image
+
+abbrev pub FailingRule : Type 0
+FailingRule =
+    (b : Bytes) (s : Store) (ws : List Write) (n out : ℕ) →
+    Failing b s ws → TrulyMarked (s .tree) ws → commitStep n b imageRoom stepRoom .number ≡ 0 → (recover (cutAt n b) out .number ≡ 2 → ⊥) →
+    recover (cutAt n b) out ≡ answer 0 (settled (s .tree))

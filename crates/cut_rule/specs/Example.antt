@@ -1,33 +1,32 @@
 -- The ten-step case meets the conditions of the cut rule: they are no empty ones.
 use mathlib.Core.Path.{_≡_, refl, sym, _∙_, ap}
-use Prim.Native.Nat.{ℕ, zero, suc, _+_, _≤_}
+use Prim.Native.Nat.{ℕ, _≤_}
 use native.Mathlib.Omega.{arith}
-use mathlib.Core.List.{List, [], _∷_, _++_, map}
+use mathlib.Core.List.{[], _∷_, _++_, map}
 use mathlib.Core.Option.{Option, none, some}
-use mathlib.Core.Bool.{Bool, true, false}
-use mathlib.Core.Logic.{_⊎_, inl, inr}
-use lib.ListN.{length, take, drop, length-append}
-use Rattle.model.specs.Order.{Name, Key, Cmp, lt, eq, gt, cmpKey, cmpName}
-use Rattle.laws.specs.OrderLaws.{nameLaws}
-use Rattle.model.specs.Order.{caseCmp}
+use mathlib.Core.Bool.{true, false}
+use mathlib.Core.Logic.{inl, inr}
+use lib.ListN.{length, length-append}
+use Rattle.model.specs.Order.{Name, Key, cmpKey}
 use Rattle.model.specs.Map.{Map, look, put, del, Has}
-use Rattle.laws.specs.MapLaws.{key-dec, none≢some, look-tail}
-use Rattle.model.specs.Limits.{imageRoom, keysRoom, stepRoom}
-use Rattle.model.specs.Base.{Bytes, caseOption, if_then_else_, isSome, In}
-use Rattle.model.specs.Name.{lastDot, extension, stripExtension, backupExtension, stagingExtension, backupName, originalName, stripTmp, isNameByte, refusedNames, validName, lowerByte, lower}
+use Rattle.model.specs.Limits.{imageRoom, stepRoom}
+use Rattle.model.specs.Base.{Bytes, isSome, In}
+use Rattle.model.specs.Name.{lastDot, extension, stripExtension, backupExtension, stagingExtension, backupName, originalName, stripTmp, isNameByte}
+use Rattle.model.specs.Name.{refusedNames, validName}
 use Rattle.model.specs.Crc32.{crc32, register, feedByte, shifts, shift, addPolynomial}
 use Rattle.model.specs.Field.{littleEndian, fromLittleEndian, encodeField, encodeFields, fieldsFrom, decodeFields, hasTag}
-use Rattle.model.specs.Operation as Operation
-use Rattle.model.specs.Operation.{Op, Write, fieldTable, fieldTags, kind, values, tagged, encodePayload, makers, validValue, opOfFields, decodePayload}
-use Rattle.model.specs.Log.{header, entry, validHeader, firstPayload, walk, entries, readJournal, markCommitting, appendOperation, Journal, absent, recording, committing, journal, Ending, whole, truncated, undecodable, tooMany, opsOf}
-use Rattle.model.specs.Store.{Store, dirs, files, validNode, validNodes, validStaged, ascending, wellFormed, hasBackupFiles, hasPendingWork}
+use Rattle.model.specs.Operation.{Write, write, target, fieldTable, fieldTags, makers, validValue, opOfFields, decodePayload}
+use Rattle.model.specs.Log.{header, validHeader, firstPayload, walk, entries, readJournal, markCommitting, journal, opsOf}
+use Rattle.model.specs.Store.{Store, dirs, files, validNode, validNodes, validStaged, ascending, wellFormed}
 use Rattle.model.specs.Image.{imageFields, encode, treeOf, stagingOf, logOf, storeOf, decode}
 use Rattle.model.specs.Step.{removeDir, renameDir, apply, zeroSeparated, tagAndNames, stepField, stepFault}
-use Rattle.model.specs.Plan.{opSteps, undoSteps, restoreFile, restoreDirectory, removeBackupFile, removeBackupsIn, firstNamings, syncExisting, commitFault, commitPlan, committedAt, isNewArtifact, recoverPlan, recoveredAt, recovered}
-use Rattle.model.specs.Record.{transaction, beginTransaction, discard, recordWrite, otherCase, caseRenamed, recordDelete, recordDeleteAll, recordCreate, recordDeleteCollection, recordCopy, keyList}
-use Rattle.model.specs.Answers.{Answer, answer, begin, rollback, write, delete, deleteAll, createCollection, deleteCollection, copyCollection, commitStore, commit, recoverStore, recover, commitStep, recoverStep, pending, listKeys, decimal, listingLine, listing}
-use Rattle.cut_rule.specs.Demand.{EndsIn, NoExtension, Conditions, backupRename, NoneWaits, cutAt, settled, allWritesDone}
-use Rattle.cut_rule.specs.Theorem.{cut-rule}
+use Rattle.model.specs.Plan.{opSteps, undoSteps, restoreFile, restoreDirectory, removeBackupFile, removeBackupsIn, firstNamings, syncExisting, commitFault}
+use Rattle.model.specs.Plan.{commitPlan, committedAt, recoverPlan, recovered}
+use Rattle.model.specs.Record.{transaction}
+use Rattle.model.specs.Answers.{answer, commitStore, commit, recoverStore, recover, commitStep}
+use Rattle.laws.specs.MapLaws.{key-dec, none≢some, look-tail}
+use Rattle.cut_rule.specs.Demand.{NoExtension, Unmarked, TrulyMarked, Conditions, backupRename, Renamed, cutAt, settled, allWritesDone}
+use Rattle.cut_rule.specs.Theorem.{demand-3, marked-rule}
 
 db : Name
 db = 0x64 ∷ 0x62 ∷ []
@@ -37,11 +36,15 @@ a = 0x61 ∷ []
 
 -- db/a=7, Write of 9 to a, staged as s.tmp.
 ten : Bytes
-ten = 0x10 ∷ 0x02 ∷ 0x00 ∷ 0x64 ∷ 0x62 ∷ 0x11 ∷ 0x05 ∷ 0x00 ∷ 0x07 ∷ 0x00 ∷ 0x00 ∷ 0x00 ∷ 0x61 ∷ 0x12 ∷ 0x09 ∷ 0x00 ∷ 0x09 ∷ 0x00 ∷ 0x00 ∷ 0x00 ∷ 0x73 ∷ 0x2E ∷ 0x74 ∷ 0x6D ∷ 0x70 ∷ 0x13 ∷ 0x25 ∷ 0x00 ∷ 0xCA ∷ 0x00 ∷ 0x00 ∷ 0x00 ∷ 0x3B ∷ 0x2D ∷ 0xCC ∷ 0x70 ∷ 0xF3 ∷ 0x4E ∷ 0xE2 ∷ 0xFA ∷ 0x15 ∷ 0x00 ∷ 0x00 ∷ 0x00 ∷ 0x01 ∷ 0x01 ∷ 0x00 ∷ 0x01 ∷ 0x02 ∷ 0x02 ∷ 0x00 ∷ 0x64 ∷ 0x62 ∷ 0x03 ∷ 0x01 ∷ 0x00 ∷ 0x61 ∷ 0x04 ∷ 0x05 ∷ 0x00 ∷ 0x73 ∷ 0x2E ∷ 0x74 ∷ 0x6D ∷ 0x70 ∷ 0x14 ∷ 0x00 ∷ 0x00 ∷ []
+ten =
+    0x10 ∷ 0x02 ∷ 0x00 ∷ 0x64 ∷ 0x62 ∷ 0x11 ∷ 0x05 ∷ 0x00 ∷ 0x07 ∷ 0x00 ∷ 0x00 ∷ 0x00 ∷ 0x61 ∷ 0x12 ∷ 0x09 ∷ 0x00 ∷ 0x09 ∷ 0x00 ∷ 0x00 ∷ 0x00 ∷ 0x73
+    ∷ 0x2E ∷ 0x74 ∷ 0x6D ∷ 0x70 ∷ 0x13 ∷ 0x25 ∷ 0x00 ∷ 0xCA ∷ 0x00 ∷ 0x00 ∷ 0x00 ∷ 0x3B ∷ 0x2D ∷ 0xCC ∷ 0x70 ∷ 0xF3 ∷ 0x4E ∷ 0xE2 ∷ 0xFA ∷ 0x15 ∷ 0x00
+    ∷ 0x00 ∷ 0x00 ∷ 0x01 ∷ 0x01 ∷ 0x00 ∷ 0x01 ∷ 0x02 ∷ 0x02 ∷ 0x00 ∷ 0x64 ∷ 0x62 ∷ 0x03 ∷ 0x01 ∷ 0x00 ∷ 0x61 ∷ 0x04 ∷ 0x05 ∷ 0x00 ∷ 0x73 ∷ 0x2E ∷ 0x74
+    ∷ 0x6D ∷ 0x70 ∷ 0x14 ∷ 0x00 ∷ 0x00 ∷ []
 
 write9 : Write
 unfolding db a
-write9 = record { collection = db; key = a; staged = 0x73 ∷ 0x2E ∷ 0x74 ∷ 0x6D ∷ 0x70 ∷ [] }
+write9 = record { collection = db; key = a; staged = 0x73 ∷ 0x2E ∷ 0x74 ∷ 0x6D ∷ 0x70 ∷ []; mark = none }
 
 tree7 : Map
 unfolding db a
@@ -49,12 +52,20 @@ tree7 = ((db, []), 0) ∷ ((db, a), 7) ∷ []
 
 store : Store
 unfolding tree7
-store = record { tree = tree7; staging = (([], 0x73 ∷ 0x2E ∷ 0x74 ∷ 0x6D ∷ 0x70 ∷ []), 9) ∷ []; log = some (0xCA ∷ 0x00 ∷ 0x00 ∷ 0x00 ∷ 0x3B ∷ 0x2D ∷ 0xCC ∷ 0x70 ∷ 0xF3 ∷ 0x4E ∷ 0xE2 ∷ 0xFA ∷ 0x15 ∷ 0x00 ∷ 0x00 ∷ 0x00 ∷ 0x01 ∷ 0x01 ∷ 0x00 ∷ 0x01 ∷ 0x02 ∷ 0x02 ∷ 0x00 ∷ 0x64 ∷ 0x62 ∷ 0x03 ∷ 0x01 ∷ 0x00 ∷ 0x61 ∷ 0x04 ∷ 0x05 ∷ 0x00 ∷ 0x73 ∷ 0x2E ∷ 0x74 ∷ 0x6D ∷ 0x70 ∷ []); openMark = true }
+store = record {
+  tree = tree7;
+  staging = (([], 0x73 ∷ 0x2E ∷ 0x74 ∷ 0x6D ∷ 0x70 ∷ []), 9) ∷ [];
+  log =
+      some (0xCA ∷ 0x00 ∷ 0x00 ∷ 0x00 ∷ 0x3B ∷ 0x2D ∷ 0xCC ∷ 0x70 ∷ 0xF3 ∷ 0x4E ∷ 0xE2 ∷ 0xFA ∷ 0x15 ∷ 0x00 ∷ 0x00 ∷ 0x00 ∷ 0x01 ∷ 0x01 ∷ 0x00
+      ∷ 0x01 ∷ 0x02 ∷ 0x02 ∷ 0x00 ∷ 0x64 ∷ 0x62 ∷ 0x03 ∷ 0x01 ∷ 0x00 ∷ 0x61 ∷ 0x04 ∷ 0x05 ∷ 0x00 ∷ 0x73 ∷ 0x2E ∷ 0x74 ∷ 0x6D ∷ 0x70 ∷ []);
+  openMark = true;
+}
 
 -- A name of under four bytes ends in neither.
 short-name : (n : Name) → length n ≤ 3 → NoExtension n
 unfolding backupExtension stagingExtension
-short-name n h = record { noBak = λ e. off (e .front) (0x62 ∷ 0x61 ∷ 0x6B ∷ []) refl (e .joined); noTmp = λ e. off (e .front) (0x74 ∷ 0x6D ∷ 0x70 ∷ []) refl (e .joined) }
+short-name n h =
+    record { noBak = λ e. off (e .front) (0x62 ∷ 0x61 ∷ 0x6B ∷ []) refl (e .joined); noTmp = λ e. off (e .front) (0x74 ∷ 0x6D ∷ 0x70 ∷ []) refl (e .joined) }
   where
     off : (f x : Name) → length x ≡ 3 → n ≡ f ++ 0x2E ∷ x → ⊥
     off f x k p = let q = length-append f (0x2E ∷ x) in let r = ap length p in omega arith
@@ -64,14 +75,16 @@ unfolding tree7 db a look
 known d f h = go (key-dec (d, f) (db, [])) (key-dec (d, f) (db, a))
   where
     go : Dec (_≡_ {A = Key} (d, f) (db, [])) → Dec (_≡_ {A = Key} (d, f) (db, a)) → (length d ≤ 3) × (length f ≤ 3)
-    go (yes p) q = let x : length d ≡ 2 = ap (λ (k : Key). length (k .0)) p in let y : length f ≡ 0 = ap (λ (k : Key). length (k .1)) p in (omega arith, omega arith)
-    go (no p) (yes q) = let x : length d ≡ 2 = ap (λ (k : Key). length (k .0)) q in let y : length f ≡ 1 = ap (λ (k : Key). length (k .1)) q in (omega arith, omega arith)
+    go (yes p) q =
+        let x : length d ≡ 2 = ap (λ (k : Key). length (k .0)) p in let y : length f ≡ 0 = ap (λ (k : Key). length (k .1)) p in (omega arith, omega arith)
+    go (no p) (yes q) =
+        let x : length d ≡ 2 = ap (λ (k : Key). length (k .0)) q in let y : length f ≡ 1 = ap (λ (k : Key). length (k .1)) q in (omega arith, omega arith)
     go (no p) (no q) = none≢some (sym (look-tail (d, f) ((db, []), 0) (((db, a), 7) ∷ []) p ∙ look-tail (d, f) ((db, a), 7) [] q) ∙ h .1)
 
 -- What is computed of it.
 record Computed : Type 0 where
   holds : decode ten ≡ some store
-  writes : opsOf (journal (store .log)) ≡ map Operation.write (write9 ∷ [])
+  writes : opsOf (journal (store .log)) ≡ map write (write9 ∷ [])
   commits : commit ten imageRoom .number ≡ 0
   stands : look (db, []) tree7 ≡ some 0
   fourth : commitStep 4 ten imageRoom stepRoom .step ≡ stepField (backupRename write9)
@@ -84,16 +97,17 @@ record Computed : Type 0 where
   written : allWritesDone (store .staging) (write9 ∷ []) tree7 ≡ ((db, []), 0) ∷ ((db, a), 9) ∷ []
 
 computed : Computed
-unfolding ten store tree7 write9 db a crc32 register feedByte shifts shift addPolynomial littleEndian fromLittleEndian encodeField encodeFields fieldsFrom decodeFields hasTag
-    lastDot extension stripExtension backupExtension stagingExtension backupName originalName stripTmp isNameByte refusedNames validName lowerByte lower
-    fieldTable fieldTags kind values tagged encodePayload makers validValue opOfFields decodePayload
-    header entry validHeader firstPayload walk entries readJournal markCommitting appendOperation
-    cmpKey look put del dirs files validNode validNodes validStaged ascending wellFormed hasBackupFiles hasPendingWork
+unfolding ten store tree7 write9 db a crc32 register feedByte shifts shift addPolynomial littleEndian fromLittleEndian encodeField
+    encodeFields fieldsFrom decodeFields hasTag
+    lastDot extension stripExtension backupExtension stagingExtension backupName originalName stripTmp isNameByte refusedNames validName
+    fieldTable fieldTags makers validValue opOfFields decodePayload
+    header validHeader firstPayload walk entries readJournal markCommitting
+    cmpKey look put del dirs files validNode validNodes validStaged ascending wellFormed
     imageFields encode treeOf stagingOf logOf storeOf decode
     removeDir renameDir apply zeroSeparated tagAndNames stepField stepFault
-    opSteps undoSteps restoreFile restoreDirectory removeBackupFile removeBackupsIn firstNamings syncExisting commitFault commitPlan committedAt isNewArtifact recoverPlan recoveredAt recovered
-    transaction beginTransaction discard recordWrite otherCase caseRenamed recordDelete recordDeleteAll recordCreate recordDeleteCollection recordCopy keyList
-    begin rollback write delete deleteAll createCollection deleteCollection copyCollection commitStore commit recoverStore recover commitStep recoverStep pending listKeys decimal listingLine listing allWritesDone
+    opSteps undoSteps restoreFile restoreDirectory removeBackupFile removeBackupsIn firstNamings syncExisting commitFault commitPlan committedAt
+    recoverPlan recovered
+    transaction commitStore commit recoverStore recover commitStep allWritesDone
 computed = record {
   holds = refl;
   writes = refl;
@@ -130,8 +144,13 @@ met = record {
     collections w (inl p) = rw p (0, computed .stands)
     collections w (inr p) = absurd p
 
+unmarked : Unmarked (write9 ∷ [])
+unfolding write9
+unmarked w (inl p) = rw p
+unmarked w (inr p) = absurd p
+
 -- From 4 steps on no written key that existed waits: the field of a's rename is the fourth.
-none-waits : (n : ℕ) → 4 ≤ n → NoneWaits n ten store (write9 ∷ [])
+none-waits : (n : ℕ) → 4 ≤ n → (w : Write) → In w (write9 ∷ []) → Has (target w) tree7 → Renamed n ten w
 none-waits n h w (inl p) x = record { place = 4; early = h; given = rw p (computed .fourth) }
 none-waits n h w (inr p) x = absurd p
 
@@ -141,8 +160,99 @@ not-2 x p q = omega arith
 -- So the cut rule speaks of it: recovery after 4 steps gives a=7, and after 8 steps a=9.
 after-4 : recover (cutAt 4 ten) imageRoom ≡ answer 0 (settled tree7)
 unfolding store
-after-4 = rw (computed .log4) at (cut-rule ten store (write9 ∷ []) 4 imageRoom met (computed .steps4) (inr (none-waits 4 (omega arith))) (not-2 _ (computed .recovers4)))
+after-4 =
+    rw (computed .log4) at (demand-3 ten store (write9 ∷ []) 4 imageRoom met unmarked (computed .steps4) (inr (none-waits 4 (omega arith)))
+    (not-2 _ (computed .recovers4)))
 
 after-8 : recover (cutAt 8 ten) imageRoom ≡ answer 0 (settled (((db, []), 0) ∷ ((db, a), 9) ∷ []))
 unfolding store
-after-8 = rw (computed .log8, computed .written) at (cut-rule ten store (write9 ∷ []) 8 imageRoom met (computed .steps8) (inr (none-waits 8 (omega arith))) (not-2 _ (computed .recovers8)))
+after-8 =
+    rw (computed .log8, computed .written) at (demand-3 ten store (write9 ∷ []) 8 imageRoom met unmarked (computed .steps8) (inr (none-waits 8 (omega arith)))
+    (not-2 _ (computed .recovers8)))
+
+-- The same as it is recorded now: a marked Write, and a stood.
+tenMarked : Bytes
+tenMarked =
+    0x10 ∷ 0x02 ∷ 0x00 ∷ 0x64 ∷ 0x62 ∷ 0x11 ∷ 0x05 ∷ 0x00 ∷ 0x07 ∷ 0x00 ∷ 0x00 ∷ 0x00 ∷ 0x61 ∷ 0x12 ∷ 0x09 ∷ 0x00 ∷ 0x09 ∷ 0x00 ∷ 0x00 ∷ 0x00 ∷ 0x73
+    ∷ 0x2E ∷ 0x74 ∷ 0x6D ∷ 0x70 ∷ 0x13 ∷ 0x29 ∷ 0x00 ∷ 0xCA ∷ 0x00 ∷ 0x00 ∷ 0x00 ∷ 0x3B ∷ 0x2D ∷ 0xCC ∷ 0x70 ∷ 0x6B ∷ 0x74 ∷ 0x50 ∷ 0x67 ∷ 0x19 ∷ 0x00
+    ∷ 0x00 ∷ 0x00 ∷ 0x01 ∷ 0x01 ∷ 0x00 ∷ 0x07 ∷ 0x02 ∷ 0x02 ∷ 0x00 ∷ 0x64 ∷ 0x62 ∷ 0x03 ∷ 0x01 ∷ 0x00 ∷ 0x61 ∷ 0x04 ∷ 0x05 ∷ 0x00 ∷ 0x73 ∷ 0x2E ∷ 0x74
+    ∷ 0x6D ∷ 0x70 ∷ 0x07 ∷ 0x01 ∷ 0x00 ∷ 0x01 ∷ 0x14 ∷ 0x00 ∷ 0x00 ∷ []
+
+write9Marked : Write
+unfolding db a
+write9Marked = record { collection = db; key = a; staged = 0x73 ∷ 0x2E ∷ 0x74 ∷ 0x6D ∷ 0x70 ∷ []; mark = some true }
+
+storeMarked : Store
+unfolding tree7
+storeMarked = record {
+  tree = tree7;
+  staging = (([], 0x73 ∷ 0x2E ∷ 0x74 ∷ 0x6D ∷ 0x70 ∷ []), 9) ∷ [];
+  log =
+      some (0xCA ∷ 0x00 ∷ 0x00 ∷ 0x00 ∷ 0x3B ∷ 0x2D ∷ 0xCC ∷ 0x70 ∷ 0x6B ∷ 0x74 ∷ 0x50 ∷ 0x67 ∷ 0x19 ∷ 0x00 ∷ 0x00 ∷ 0x00 ∷ 0x01 ∷ 0x01 ∷ 0x00
+      ∷ 0x07 ∷ 0x02 ∷ 0x02 ∷ 0x00 ∷ 0x64 ∷ 0x62 ∷ 0x03 ∷ 0x01 ∷ 0x00 ∷ 0x61 ∷ 0x04 ∷ 0x05 ∷ 0x00 ∷ 0x73 ∷ 0x2E ∷ 0x74 ∷ 0x6D ∷ 0x70 ∷ 0x07 ∷ 0x01
+      ∷ 0x00 ∷ 0x01 ∷ []);
+  openMark = true;
+}
+
+record ComputedMarked : Type 0 where
+  holds : decode tenMarked ≡ some storeMarked
+  writes : opsOf (journal (storeMarked .log)) ≡ map write (write9Marked ∷ [])
+  commits : commit tenMarked imageRoom .number ≡ 0
+  found : look (db, a) tree7 ≡ some 7
+  steps1 : commitStep 1 tenMarked imageRoom stepRoom .number ≡ 0
+  log1 : hasTag 0x13 (cutAt 1 tenMarked) ≡ true
+  recovers1 : recover (cutAt 1 tenMarked) imageRoom .number ≡ 0
+
+computedMarked : ComputedMarked
+unfolding tenMarked storeMarked tree7 write9Marked db a crc32 register feedByte shifts shift addPolynomial littleEndian fromLittleEndian encodeField
+    encodeFields fieldsFrom decodeFields hasTag
+    lastDot extension stripExtension backupExtension stagingExtension backupName originalName stripTmp isNameByte refusedNames validName
+    fieldTable fieldTags makers validValue opOfFields decodePayload
+    header validHeader firstPayload walk entries readJournal markCommitting
+    cmpKey look put del dirs files validNode validNodes validStaged ascending wellFormed
+    imageFields encode treeOf stagingOf logOf storeOf decode
+    removeDir renameDir apply zeroSeparated tagAndNames stepField stepFault
+    opSteps undoSteps restoreFile restoreDirectory removeBackupFile removeBackupsIn firstNamings syncExisting commitFault commitPlan committedAt
+    recoverPlan recovered
+    transaction commitStore commit recoverStore recover commitStep
+computedMarked = record {
+  holds = refl;
+  writes = refl;
+  commits = refl;
+  found = refl;
+  steps1 = refl;
+  log1 = refl;
+  recovers1 = refl;
+}
+
+metMarked : Conditions tenMarked storeMarked (write9Marked ∷ [])
+unfolding storeMarked write9Marked a
+metMarked = record {
+  committed = computedMarked .commits;
+  holds = computedMarked .holds;
+  writesAlone = computedMarked .writes;
+  names = λ d f h. let k = known d f h in (short-name d (k .0), short-name f (k .1));
+  keys = λ w i. keys w i;
+  distinctKeys = (λ v p e. p, tt);
+  collections = λ w i. collections w i;
+}
+  where
+    keys : (w : Write) → In w (write9Marked ∷ []) → NoExtension (w .key)
+    keys w (inl p) = rw p (short-name a (omega arith))
+    keys w (inr p) = absurd p
+
+    collections : (w : Write) → In w (write9Marked ∷ []) → Has (w .collection, []) tree7
+    collections w (inl p) = rw p (0, computed .stands)
+    collections w (inr p) = absurd p
+
+marked : TrulyMarked tree7 (write9Marked ∷ [])
+unfolding write9Marked
+marked w (inl p) = rw p (ap (λ (q : Option ℕ). some (isSome q)) (sym (computedMarked .found)))
+marked w (inr p) = absurd p
+
+-- After 1 step a waits, and recovery gives a=7 all the same.
+after-1 : recover (cutAt 1 tenMarked) imageRoom ≡ answer 0 (settled tree7)
+unfolding storeMarked
+after-1 =
+    rw (computedMarked .log1) at (marked-rule tenMarked storeMarked (write9Marked ∷ []) 1 imageRoom metMarked marked (computedMarked .steps1)
+    (not-2 _ (computedMarked .recovers1)))

@@ -1,40 +1,41 @@
--- From the cut rule over stores to the one over images.
-use mathlib.Core.Path.{_≡_, refl, sym, _∙_, ap, ap₂, subst}
-use Prim.Native.Nat.{ℕ, zero, suc, _-_, _≤_}
+-- From stores to images: what the entries answer, and the conditions over images.
+use mathlib.Core.Path.{_≡_, refl, sym, _∙_, ap, subst}
+use Prim.Native.Nat.{ℕ}
 use native.Mathlib.Omega.{arith}
-use mathlib.Core.List.{List, [], _∷_, _++_, map}
+use mathlib.Core.List.{List, [], _∷_}
 use mathlib.Core.Option.{Option, none, some}
-use mathlib.Core.Bool.{Bool, true, false, false≢true}
-use mathlib.Core.Logic.{_⊎_, inl, inr}
-use lib.ListN.{length, take}
+use mathlib.Core.Bool.{Bool, true, false}
+use mathlib.Core.Logic.{inl, inr}
+use lib.ListN.{length}
 use lib.Dec.{leb}
 use Rattle.model.specs.Limits.{imageRoom, stepRoom}
 use Rattle.model.specs.Order.{Name}
-use Rattle.model.specs.Map.{Map, look, Has}
-use Rattle.laws.specs.MapLaws.{none≢some, some-inj}
+use Rattle.model.specs.Map.{Map, Has}
 use Rattle.model.specs.Base.{Bytes, caseOption, if_then_else_, isSome, In}
-use Rattle.model.specs.Name.{backupExtension, stagingExtension, backupName, stripExtension, originalName, stripTmp, validName}
+use Rattle.model.specs.Name.{lastDot, extension, backupExtension, stagingExtension, stripExtension, originalName, stripTmp}
 use Rattle.model.specs.Field.{hasTag}
-use Rattle.model.specs.Operation.{Op, Write, write}
-use Rattle.model.specs.Log.{Journal, absent, recording, committing, Ending, whole, truncated, undecodable, tooMany, journal, opsOf}
-use Rattle.model.specs.Store.{Store, wellFormed}
+use Rattle.model.specs.Operation.{Op, Write, write, delete, deleteAll, createCollection, deleteCollection, copyCollection}
+use Rattle.model.specs.Log.{recording, whole, opsOf}
+use Rattle.model.specs.Store.{Store}
 use Rattle.model.specs.Image.{encode, decode}
-use Rattle.model.specs.Step.{Fault, fails, full, applyAll}
-use Rattle.model.specs.Plan.{commitFault, commitPlan, withoutMark, withoutMarkAtEnd, committedAt, recovered, recoverFault}
-use Rattle.model.specs.Record.{recordedOps, transaction}
-use Rattle.model.specs.Answers.{Answer, answer, refusal, commitNumber, stepAnswer, onImage, commitStore, commit, commitStep, recoverStore, recover}
-use Rattle.laws.specs.Tests.{leb-le, le-leb, All, nil≢cons}
+use Rattle.model.specs.Plan.{commitFault, commitPlan, committedAt}
+use Rattle.model.specs.Record.{transaction}
+use Rattle.model.specs.Answers.{Answer, answer, refusal, commitNumber, stepAnswer, commitStore, commit, commitStep, recoverStore, recover}
+use Rattle.laws.specs.MapLaws.{none≢some}
+use Rattle.laws.specs.Tests.{All, all-in, nil≢cons}
+use Rattle.laws.specs.NameLaws.{strip-some, original-backup}
 use Rattle.laws.specs.ImageLaws.{decode-encode, decode-only, log-stood}
 use Rattle.laws.specs.StoreLaws.{Good, good, well-formed, bare}
-use Rattle.laws.specs.OperationLaws.{ValidOp, journal-valid}
+use Rattle.laws.specs.OperationLaws.{ValidOp, Makes, journal-valid}
 use Rattle.laws.specs.LogLaws.{found-whole}
-use Rattle.cut_rule.specs.Demand.{expectedFiles, settled, EndsIn, NoExtension, Conditions, cutAt}
-use Rattle.cut_rule.specs.StoreRule.{Plain, Transaction, AllRenamed}
-use Rattle.laws.specs.NameLaws.{strip-some}
-use Rattle.cut_rule.specs.Commit.{store-cut-rule, cut-calm, close-log}
-use Rattle.laws.specs.ValidNames.{Valid, valid-named}
-use Rattle.laws.specs.WellFormed.{commit-keeps}
 use Rattle.laws.specs.EntryLaws.{no-fault}
+use Rattle.laws.specs.ValidNames.{Valid, valid-named, dotBak, dotsBak, DotBakBak}
+use Rattle.laws.specs.WellFormed.{NoneMade, commit-keeps-named}
+use Rattle.cut_rule.specs.Demand.{EndsIn, NoExtension, settled, cutAt}
+use Rattle.cut_rule.specs.Kinds.{placeOf, PlainPlace, Suits, TrueOf, AllTrue}
+use Rattle.cut_rule.specs.StoreRule.{Plain, OpGood, Transacts}
+use Rattle.cut_rule.specs.Clean.{Tidy}
+use Rattle.cut_rule.specs.Heal.{Heals, heals, heals-calm}
 
 -- A name that ends in neither has neither extension.
 no-ext : (e n : Name) → (EndsIn e n → ⊥) → stripExtension e n ≡ none
@@ -48,119 +49,126 @@ plain : (n : Name) → NoExtension n → Plain n
 unfolding originalName stripTmp
 plain n h = record { noBak = no-ext backupExtension n (h .noBak); noTmp = no-ext stagingExtension n (h .noTmp) }
 
--- What commit's answer 0 says of the store.
-pub record Committed (s : Store) : Type 0 where
+-- "..bak.bak" and "...bak.bak" are backups of backups; a plain name is neither.
+twice : (n : Name) → DotBakBak n → (g h : Name) × (originalName n ≡ some g) × (originalName g ≡ some h)
+unfolding originalName stripExtension extension lastDot backupExtension
+twice n (inl e) = (dotBak, 0x2E ∷ [], ap originalName e ∙ original-backup dotBak (λ z. nil≢cons (sym z)), refl)
+twice n (inr e) = (dotsBak, 0x2E ∷ 0x2E ∷ [], ap originalName e ∙ original-backup dotsBak (λ z. nil≢cons (sym z)), refl)
+
+plain-once : (n : Name) → NoExtension n → DotBakBak n → ⊥
+plain-once n h z = none≢some (sym (plain n h .noBak) ∙ twice n z .2)
+
+-- What commit's answer says of the store, where it is not 4.
+pub record Found (s : Store) : Type 0 where
   pub ops : List Op
   pub found : transaction s ≡ some ops
-  pub clear : commitFault s ≡ none
 
-committed-store : (s : Store) → commitStore s .number ≡ 0 → Committed s
-unfolding commitStore
-committed-store s e = go (transaction s) refl e
+pub found-in : (b : Bytes) (s : Store) → decode b ≡ some s → (commit b imageRoom .number ≡ 4 → ⊥) → Found s
+unfolding commit commitStore
+found-in b s d h = go (transaction s) refl (rw d at h)
   where
-    go : (q : Option (List Op)) → transaction s ≡ q → caseOption q (refusal 4) (λ o. answer (commitNumber (commitFault s)) (committedAt (length (commitPlan s)) s)) .number ≡ 0 → Committed s
-    go none p e = absurd (omega arith)
-    go (some o) p e = record { ops = o; found = p; clear = no-fault (commitFault s) e }
+    go : (q : Option (List Op)) → transaction s ≡ q →
+        (caseOption q (refusal 4) (λ o. answer (commitNumber (commitFault s)) (committedAt (length (commitPlan s)) s)) .number ≡ 4 → ⊥) → Found s
+    go none p h = absurd (h refl)
+    go (some o) p h = record { ops = o; found = p }
 
-pub committed : (b : Bytes) (s : Store) → decode b ≡ some s → commit b imageRoom .number ≡ 0 → Committed s
-unfolding commit
-committed b s d e = committed-store s (rw d at e)
+-- What commit gives then.
+pub commit-gives : (b : Bytes) (s : Store) → decode b ≡ some s → Found s →
+    commit b imageRoom ≡ answer (commitNumber (commitFault s)) (committedAt (length (commitPlan s)) s)
+unfolding commit commitStore
+commit-gives b s d c = rw (d, c .found)
 
--- The Writes of a log have keys.
-named-writes : (ws : List Write) → All ValidOp (map write ws) → (w : Write) → In w ws → w .key ≡ [] → ⊥
-named-writes (v ∷ ws) h w (inl e) = rw e (valid-named (v .key) (h .0 .1))
-named-writes (v ∷ ws) h w (inr i) = named-writes ws (h .1) w i
-
--- The store at a cut of a commit without a failing step is well-formed.
-cut-good : (s : Store) (n : ℕ) → Good Valid s → commitFault s ≡ none → wellFormed (committedAt n s) ≡ true
-cut-good s n g f = well-formed _ (commit-keeps s g f n)
+pub committed : (b : Bytes) (s : Store) → decode b ≡ some s → commit b imageRoom .number ≡ 0 → Found s × (commitFault s ≡ none)
+committed b s d e =
+    let c = found-in b s d (λ z. omega arith) in
+    (c, no-fault (commitFault s) (ap (λ (a : Answer). a .number) (sym (commit-gives b s d c)) ∙ e))
 
 -- What commit's step entry hands back.
-pub stepped : (b : Bytes) (s : Store) (n : ℕ) → decode b ≡ some s → Committed s → commitStep n b imageRoom stepRoom ≡ stepAnswer n (commitPlan s) (committedAt n s)
+pub stepped : (b : Bytes) (s : Store) (n : ℕ) → decode b ≡ some s → Found s → commitStep n b imageRoom stepRoom ≡ stepAnswer n (commitPlan s) (committedAt n s)
 unfolding commitStep
 stepped b s n d c = rw (d, c .found)
 
 -- The step number is within the plan.
-within-plan : (n m : ℕ) (a : Answer) → if_then_else_ (leb n m) a (refusal 16) .number ≡ 0 → (if_then_else_ (leb n m) a (refusal 16) ≡ a) × (n ≤ m)
-within-plan n m a e = go (leb n m) refl e
-  where
-    go : (t : Bool) → leb n m ≡ t → if_then_else_ t a (refusal 16) .number ≡ 0 → (if_then_else_ t a (refusal 16) ≡ a) × (n ≤ m)
-    go true p e = (refl, leb-le n m p)
-    go false p e = absurd (omega arith)
+within-plan : (t : Bool) (a : Answer) → if_then_else_ t a (refusal 16) .number ≡ 0 → if_then_else_ t a (refusal 16) ≡ a
+within-plan true a e = refl
+within-plan false a e = absurd (omega arith)
 
--- What the step entry of such a commit answers at n.
-pub record StepGiven (b : Bytes) (s : Store) (n : ℕ) : Type 0 where
-  pub planned : n ≤ length (commitPlan s)
-  pub image : cutAt n b ≡ encode (committedAt n s)
-  pub reads : decode (cutAt n b) ≡ some (committedAt n s)
-  pub wellMade : wellFormed (committedAt n s) ≡ true
+not-refused : (t : Bool) (a c : Answer) → a ≡ if_then_else_ t c (refusal 2) → (a .number ≡ 2 → ⊥) → a ≡ c
+not-refused true a c e h = e
+not-refused false a c e h = absurd (h (ap (λ (x : Answer). x .number) e))
 
--- For every operation, and not for Writes alone: where commit answers 0, each of its steps' images is read back as the store after n steps.
-pub commit-steps : (b : Bytes) (s : Store) (n : ℕ) → decode b ≡ some s → commit b imageRoom .number ≡ 0 → commitStep n b imageRoom stepRoom .number ≡ 0 → StepGiven b s n
-commit-steps b s n d c e =
-    let k = committed b s d c in
-    let w = cut-good s n (good s (decode-only b s d .1)) (k .clear) in
-    let p = within-plan n (length (commitPlan s)) _ (ap (λ (a : Answer). a .number) (sym (stepped b s n d k)) ∙ e) in
-    let i : cutAt n b ≡ encode (committedAt n s) = ap (λ (a : Answer). a .image) (stepped b s n d k ∙ p .0) in
-    record { planned = p .1; image = i; reads = ap decode i ∙ decode-encode (committedAt n s) w; wellMade = w }
+-- A file stands in a directory.
+inside : (u : Store) → Good Valid u → (d f : Name) → Has (d, f) (u .tree) → Has (d, []) (u .tree)
+inside u g d [] h = h
+inside u g d (y ∷ ys) h = g .tree .node d (y ∷ ys) (h .0) (h .1) .inside (λ e. nil≢cons (sym e))
 
-module _ (b : Bytes) (s : Store) (ws : List Write) (C : Conditions b s ws) where
+-- What recovery answers where it heals.
+answered : (ops : List Op) (p : Map) (u : Store) (out : ℕ) → Tidy p → Good Valid u → Heals ops p u →
+    recover (encode u) out ≡ if_then_else_ (leb imageRoom out) (answer 0 (settled p)) (refusal 2)
+unfolding recover recoverStore
+answered ops p u out t g h =
+    let w = well-formed u g in
+    rw (decode-encode u w, heals-calm ops p u h, heals ops p u t (bare u w) h)
+
+-- An operation of a log that meets the conditions.
+op-good : (t : Map) (a : Op) → ValidOp a → PlainPlace (placeOf a) → ((w : Write) → a ≡ write w → Has (w .collection, []) t) → TrueOf t a → OpGood t a
+op-good t (write w) v p c h = record {
+  key = record { dir = plain (w .collection) (p .0) .noBak; file = plain (w .key) (p .1) .noBak; named = valid-named (w .key) (v .1) };
+  stands = c w refl;
+  mark = h;
+}
+op-good t (delete c k) v p h e = record { dir = plain c (p .0) .noBak; file = plain k (p .1) .noBak; named = valid-named k (v .1) }
+op-good t (deleteAll c) v p h e = record { dir = plain c p .noBak; named = valid-named c v }
+op-good t (createCollection c) v p h e = (record { dir = plain c p .noBak; named = valid-named c v }, e)
+op-good t (deleteCollection c) v p h e = record { dir = plain c p .noBak; named = valid-named c v }
+op-good t (copyCollection a b x) v p h e = (record { dir = plain b p .noBak; named = valid-named b (v .1) }, e)
+
+made-once : (a : Op) → PlainPlace (placeOf a) → Makes (λ n. DotBakBak n → ⊥) a
+made-once (write w) p = (plain-once (w .collection) (p .0), (plain-once (w .key) (p .1), tt))
+made-once (delete c j) p = tt
+made-once (deleteAll c) p = tt
+made-once (createCollection c) p = (plain-once c p, tt)
+made-once (deleteCollection c) p = tt
+made-once (copyCollection a c x) p = (plain-once c p, tt)
+
+module _ (b : Bytes) (s : Store) (ops : List Op) (C : Suits b s ops) (t : AllTrue (s .tree) ops) (k : Found s) where
   start : Good Valid s
   start = good s (decode-only b s (C .holds) .1)
 
-  at-commit : Committed s
-  at-commit = committed b s (C .holds) (C .committed)
-
-  logged : journal (s .log) ≡ recording (map write ws) whole
-  logged =
-      let j = found-whole s (at-commit .ops) (at-commit .found) in
-      let o : at-commit .ops ≡ map write ws = sym (ap opsOf j) ∙ C .writesAlone in
-      j ∙ ap (λ (q : List Op). recording q whole) o
-
-  transacts : Transaction s ws
+  pub transacts : Transacts s ops
   transacts = record {
-    logged = logged;
-    sorted = start .tree .sorted;
+    logged = let j = found-whole s (k .ops) (k .found) in j ∙ ap (λ (q : List Op). recording q whole) (sym (ap opsOf j) ∙ C .logged);
     bare = bare s (decode-only b s (C .holds) .1);
-    within = λ d f h. inside d f h;
-    plain = λ d f h. let p = C .names d f h in (plain d (p .0), plain f (p .1));
-    plainKeys = λ w i. plain (w .key) (C .keys w i);
-    named = named-writes ws (subst (λ (q : List Op). All ValidOp q) (C .writesAlone) (journal-valid (s .log)));
-    collected = C .collections;
-    distinctKeys = C .distinctKeys;
-    faultless = at-commit .clear;
+    old = record { sorted = start .tree .sorted; plain = λ d f h. let p = C .names d f h in (plain d (p .0), plain f (p .1)); within = inside s start };
+    good = λ a i. op-good (s .tree) a (all-in ValidOp ops valid a i) (C .places a i) (λ w e. C .collections w (subst (λ (c : Op). In c ops) e i)) (t a i);
+    apart = C .apart;
   }
     where
-      inside : (d f : Name) → Has (d, f) (s .tree) → Has (d, []) (s .tree)
-      inside d [] h = h
-      inside d (y ∷ ys) h = start .tree .node d (y ∷ ys) (h .0) (h .1) .inside (λ e. nil≢cons (sym e))
+      valid : All ValidOp ops
+      valid = subst (All ValidOp) (C .logged) (journal-valid (s .log))
 
-  calm : (n : ℕ) → recoverFault (journal (committedAt n s .log)) (committedAt n s .tree) ≡ none
-  unfolding committedAt
-  calm n = rw (close-log (length (commitPlan s) - n) (applyAll (take n (commitPlan s)) s)) (cut-calm s ws transacts n _)
+  -- No "..bak.bak" is made, so every cut is well-formed.
+  cut-good : (n : ℕ) → Good Valid (committedAt n s)
+  cut-good =
+      commit-keeps-named s start (λ d f h. let p = C .names d f h in (plain-once d (p .0), plain-once f (p .1)))
+      (subst (NoneMade DotBakBak) (sym (C .logged)) (made ops (C .places)))
+    where
+      made : (l : List Op) → ((a : Op) → In a l → PlainPlace (placeOf a)) → NoneMade DotBakBak l
+      made [] h = tt
+      made (a ∷ l) h = (made-once a (h a (inl refl)), made l (λ c j. h c (inr j)))
 
-recover-calm : (u : Store) → recoverFault (journal (u .log)) (u .tree) ≡ none → recoverStore u ≡ answer 0 (recovered u)
-unfolding recoverStore
-recover-calm u e = rw e
+  module _ (n : ℕ) (e : commitStep n b imageRoom stepRoom .number ≡ 0) where
+    cut-image : cutAt n b ≡ encode (committedAt n s)
+    cut-image =
+        let a = stepped b s n (C .holds) k in
+        ap (λ (x : Answer). x .image) (a ∙ within-plan (leb n (length (commitPlan s))) _ (ap (λ (x : Answer). x .number) (sym a) ∙ e))
 
-recover-encoded : (u : Store) (out : ℕ) → wellFormed u ≡ true → (recover (encode u) out .number ≡ 2 → ⊥) → recover (encode u) out ≡ recoverStore u
-unfolding recover
-recover-encoded u out w h = e ∙ go (leb imageRoom out) (λ z. h (ap (λ (a : Answer). a .number) e ∙ z))
-  where
-    e : recover (encode u) out ≡ if_then_else_ (leb imageRoom out) (recoverStore u) (refusal 2)
-    e = rw (decode-encode u w)
+    pub log-there : isSome (committedAt n s .log) ≡ hasTag 0x13 (cutAt n b)
+    log-there = sym (ap (hasTag 0x13) cut-image ∙ log-stood (committedAt n s) (well-formed (committedAt n s) (cut-good n)))
 
-    go : (t : Bool) → (if_then_else_ t (recoverStore u) (refusal 2) .number ≡ 2 → ⊥) → if_then_else_ t (recoverStore u) (refusal 2) ≡ recoverStore u
-    go true h = refl
-    go false h = absurd (h refl)
-
--- The cut rule, with "waits" said by the plan's steps.
-pub over-images : (b : Bytes) (s : Store) (ws : List Write) (n out : ℕ) →
-    Conditions b s ws → commitStep n b imageRoom stepRoom .number ≡ 0 → (n ≡ 0) ⊎ AllRenamed n s ws → (recover (cutAt n b) out .number ≡ 2 → ⊥) →
-    recover (cutAt n b) out ≡ answer 0 (settled (expectedFiles (hasTag 0x13 (cutAt n b)) s ws))
-over-images b s ws n out C e z l =
-    let p = commit-steps b s n (C .holds) (C .committed) e in
-    let m : recover (encode (committedAt n s)) out .number ≡ 2 → ⊥ = subst (λ (c : Bytes). recover c out .number ≡ 2 → ⊥) (p .image) l in
-    rw (p .image, log-stood (committedAt n s) (p .wellMade))
-    (recover-encoded (committedAt n s) out (p .wellMade) m ∙ recover-calm (committedAt n s) (calm b s ws C n)
-    ∙ ap (answer 0) (store-cut-rule s ws n (transacts b s ws C) (p .planned) z))
+    -- Recovery from a cut of the commit that is healed to p.
+    pub recovers : (p : Map) (out : ℕ) → Tidy p → Heals ops p (committedAt n s) → (recover (cutAt n b) out .number ≡ 2 → ⊥) →
+        recover (cutAt n b) out ≡ answer 0 (settled p)
+    recovers p out t h l =
+        not-refused (leb imageRoom out) (recover (cutAt n b) out) (answer 0 (settled p))
+        (ap (λ (c : Bytes). recover c out) cut-image ∙ answered ops p (committedAt n s) out t (cut-good n) h) l

@@ -1,236 +1,114 @@
--- "Waits", from the fields that commit's step entry hands back to the steps of the plan.
+-- "Waits": from the fields that commit's step entry hands back to the backups that stand at the cut.
 use mathlib.Core.Path.{_≡_, refl, sym, _∙_, ap, ap₂, subst}
-use Prim.Native.Nat.{ℕ, zero, suc, _+_, _≤_, _<_}
+use Prim.Native.Nat.{ℕ, zero, suc, _+_, _≤_}
 use native.Mathlib.Omega.{arith}
 use mathlib.Core.List.{List, [], _∷_, _++_, map}
 use mathlib.Core.Option.{Option, none, some}
-use mathlib.Core.Bool.{Bool, true, false, not, _&&_, false≢true}
+use mathlib.Core.Bool.{Bool, true, false, false≢true}
 use mathlib.Core.Logic.{_⊎_, inl, inr}
 use lib.ListN.{length, take, drop, getElem?}
 use lib.Dec.{leb}
-use Rattle.model.specs.Limits.{imageRoom, stepRoom}
 use Rattle.model.specs.Order.{Name, Key}
-use Rattle.model.specs.Map.{look, Has}
-use Rattle.laws.specs.MapLaws.{none≢some, some-inj}
-use Rattle.model.specs.Base.{Bytes, caseOption, if_then_else_, allOf, ifPresent, ifMissing, In}
-use Rattle.model.specs.Name.{validName, isNameByte, backupName, originalName}
-use Rattle.model.specs.Field.{Field, littleEndian, encodeField, hasTag}
-use Rattle.model.specs.Operation.{Op, Write, write, target}
-use Rattle.model.specs.Log.{journal, opsOf}
-use Rattle.model.specs.Store.{Store, dirs, files, stagingNames}
-use Rattle.model.specs.Image.{decode}
-use Rattle.model.specs.Step.{Step, rewriteHeader, syncStaging, syncLog, removeLog, syncJournal, syncCollections, makeDirectory, renameFile, moveStaged, renameDirectory, copyFile, removeFile, removeDirectory, removeStaging, syncDirectory, apply, applyAll, zeroSeparated, tagAndNames, stepField}
-use Rattle.model.specs.Plan.{inTurn, run, opSteps, removeBackupFile, removeBackupsIn, removeBackups, removeStagingFiles, collectionOf, firstNamings, syncExisting, commitFault, operationSteps, commitParts, commitPlan, committedAt}
-use Rattle.model.specs.Answers.{Answer, answer, refusal, fieldAt, stepAnswer, commitStep, recover}
-use Rattle.laws.specs.Tests.{and-both, leb-le, All, nil≢cons}
+use Rattle.model.specs.Map.{Map, look, put, del, Has}
+use Rattle.model.specs.Base.{Bytes, caseOption, if_then_else_, isSome, allOf, ifPresent, ifMissing, In}
+use Rattle.model.specs.Name.{isNameByte, backupName, backupExtension}
+use Rattle.model.specs.Field.{Field, littleEndian, encodeField}
+use Rattle.model.specs.Operation.{Op, Write, write, target, backup}
+use Rattle.model.specs.Store.{Store}
+use Rattle.model.specs.Image.{encode}
+use Rattle.model.specs.Step.{Step, rewriteHeader, syncStaging, syncLog, removeLog, syncJournal, syncCollections, makeDirectory, renameFile, moveStaged}
+use Rattle.model.specs.Step.{renameDirectory, copyFile, removeFile, removeDirectory, removeStaging, syncDirectory, apply, applyAll, zeroSeparated, tagAndNames}
+use Rattle.model.specs.Step.{stepField}
+use Rattle.model.specs.Plan.{inTurn, run, opSteps, removeBackups, removeStagingFiles, collectionOf, firstNamings, syncExisting, commitFault, commitParts}
+use Rattle.model.specs.Plan.{commitPlan, committedAt}
+use Rattle.model.specs.Answers.{Answer, refusal, fieldAt, stepAnswer}
+use Rattle.laws.specs.MapLaws.{key-dec, none≢some, some-inj, look-put-same, look-put-other, look-del-other}
+use Rattle.laws.specs.Tests.{and-both, All, all-in, nil≢cons}
+use Rattle.laws.specs.NameLaws.{original-backup, key-apart}
 use Rattle.laws.specs.OperationLaws.{ValidOp, journal-valid}
-use Rattle.laws.specs.Listings.{any-append}
-use Rattle.laws.specs.Runs.{Runs, runs-end, runs-append, runs-over}
-use Rattle.cut_rule.specs.Demand.{Conditions, backupRename, NoneWaits}
-use Rattle.cut_rule.specs.StoreRule.{AllRenamed}
-use Rattle.cut_rule.specs.Commit.{isRename}
 use Rattle.laws.specs.ValidNames.{valid-bytes}
-use Rattle.cut_rule.specs.OverImages.{Committed, committed, stepped}
+use Rattle.laws.specs.Listings.{any-append}
+use Rattle.laws.specs.Runs.{Runs, runs-take, runs-end, runs-append, runs-over}
+use Rattle.cut_rule.specs.Demand.{Conditions, backupRename, NoneWaits}
+use Rattle.cut_rule.specs.StoreRule.{KeyGood, Transacts, safe-unless}
+use Rattle.cut_rule.specs.Walk.{steady}
+use Rattle.cut_rule.specs.Apply.{rename-tree}
+use Rattle.cut_rule.specs.Commit.{SafeAt, plan-is, behind}
+use Rattle.cut_rule.specs.OverImages.{Found, committed, stepped}
+use Rattle.cut_rule.specs.Writes.{one-of, in-ops, of-ops}
+use Rattle.cut_rule.specs.Files.{file-eq}
 
--- A valid name has no zero byte.
-Full : Name → Type 0
-Full n = All (λ x. 1 ≤ x) n
+-- How many zero bytes a name has. A valid one has none, and so has its backup's.
+abbrev zeros : Name → ℕ
+zeros [] = 0
+zeros (zero ∷ n) = suc (zeros n)
+zeros (suc x ∷ n) = zeros n
 
-full-bytes : (n : Name) → allOf isNameByte n ≡ true → Full n
-unfolding Full isNameByte
-full-bytes [] e = tt
-full-bytes (x ∷ n) e =
-    let h = and-both (isNameByte x) (allOf isNameByte n) e in
-    (go (leb 0x21 x) refl (h .0), full-bytes n (h .1))
-  where
-    go : (t : Bool) → leb 0x21 x ≡ t → (t && leb x 0x7E && not (lib.Dec.eqb x 0x2F) && not (lib.Dec.eqb x 0x5C)) ≡ true → 1 ≤ x
-    go true p q = let k = leb-le 0x21 x p in omega arith
-    go false p q = absurd (false≢true q)
+zeros-append : (a b : Name) → zeros (a ++ b) ≡ zeros a + zeros b
+zeros-append [] b = omega arith
+zeros-append (zero ∷ a) b = let h = zeros-append a b in omega arith
+zeros-append (suc x ∷ a) b = zeros-append a b
 
-full : (n : Name) → validName n ≡ true → Full n
-full n v = full-bytes n (valid-bytes n v)
+no-zeros : (n : Name) → allOf isNameByte n ≡ true → zeros n ≡ 0
+unfolding isNameByte
+no-zeros [] e = refl
+no-zeros (zero ∷ n) e = absurd (false≢true (and-both (isNameByte 0) (allOf isNameByte n) e .0))
+no-zeros (suc x ∷ n) e = no-zeros n (and-both (isNameByte (suc x)) (allOf isNameByte n) e .1)
+
+backup-zeros : (n : Name) → zeros n ≡ 0 → zeros (backupName n) ≡ 0
+unfolding backupName backupExtension
+backup-zeros n e = zeros-append n _ ∙ omega arith
 
 head-eq : {x y : ℕ} {a b : Name} → x ∷ a ≡ y ∷ b → (x ≡ y) × (a ≡ b)
 head-eq {x} {y} {a} {b} e = ((let z : x ≡ y = cc in z), (let z : a ≡ b = cc in z))
 
--- Names that are parted by a zero byte can be told apart.
-unzero : (a b r t : Name) → Full a → Full b → a ++ 0 ∷ r ≡ b ++ 0 ∷ t → (a ≡ b) × (r ≡ t)
-unfolding Full
+-- Names that are parted by zero bytes can be told apart.
+unzero : (a b r t : Name) → zeros a ≡ 0 → zeros b ≡ 0 → a ++ 0 ∷ r ≡ b ++ 0 ∷ t → (a ≡ b) × (r ≡ t)
 unzero [] [] r t p q e = (refl, head-eq e .1)
-unzero [] (y ∷ b) r t p q e = let h = head-eq e in let k = h .0 in let l = q .0 in absurd (omega arith)
-unzero (x ∷ a) [] r t p q e = let h = head-eq e in let k = h .0 in let l = p .0 in absurd (omega arith)
-unzero (x ∷ a) (y ∷ b) r t p q e =
-    let h = head-eq e in
-    let k = unzero a b r t (p .1) (q .1) (h .1) in
-    (ap₂ _∷_ (h .0) (k .0), k .1)
+unzero [] (zero ∷ b) r t p q e = absurd (omega arith)
+unzero [] (suc y ∷ b) r t p q e = let h = head-eq e .0 in absurd (omega arith)
+unzero (zero ∷ a) b r t p q e = absurd (omega arith)
+unzero (suc x ∷ a) [] r t p q e = let h = head-eq e .0 in absurd (omega arith)
+unzero (suc x ∷ a) (zero ∷ b) r t p q e = absurd (omega arith)
+unzero (suc x ∷ a) (suc y ∷ b) r t p q e = let h = head-eq e in let k = unzero a b r t p q (h .1) in (ap₂ _∷_ (h .0) (k .0), k .1)
 
+-- A step whose field is that of a Write's rename is that rename.
 field-parts : (f g : Field) → encodeField f ≡ encodeField g → (f .tag ≡ g .tag) × (f .value ≡ g .value)
 unfolding encodeField littleEndian
 field-parts f g e = (head-eq e .0, ap (drop 3) e)
 
-parts-of : (x y : Step) → stepField x ≡ stepField y → (tagAndNames x .0 ≡ tagAndNames y .0) × (zeroSeparated (tagAndNames x .1) ≡ zeroSeparated (tagAndNames y .1))
-unfolding stepField
-parts-of x y e = field-parts _ _ e
+module _ (d a c : Name) (dz : zeros d ≡ 0) (az : zeros a ≡ 0) (cz : zeros c ≡ 0) where
+  same-rename : (e f g : Name) → e ++ 0 ∷ (f ++ 0 ∷ g) ≡ d ++ 0 ∷ (a ++ 0 ∷ c) → renameFile e f g ≡ renameFile d a c
+  same-rename e f g h =
+      let x = zeros-append e (0 ∷ (f ++ 0 ∷ g)) in
+      let y = zeros-append f (0 ∷ g) in
+      let z = zeros-append d (0 ∷ (a ++ 0 ∷ c)) in
+      let w = zeros-append a (0 ∷ c) in
+      let n : zeros (e ++ 0 ∷ (f ++ 0 ∷ g)) ≡ zeros (d ++ 0 ∷ (a ++ 0 ∷ c)) = ap zeros h in
+      let p = unzero e d (f ++ 0 ∷ g) (a ++ 0 ∷ c) (omega arith) dz h in
+      let q = unzero f a g c (omega arith) az (p .1) in
+      λ i. renameFile (p .0 i) (q .0 i) (q .1 i)
 
--- Every rename of a file in the plan is that of a Write.
-module _ (ws : List Write) where
-  Known : List Step → Store → Type 0
-  Known pre u = (d a c : Name) → In (renameFile d a c) pre → (w : Write) × In w ws × (renameFile d a c ≡ backupRename w)
-
-  known-snoc : (pre : List Step) (x : Step) (u v : Store) → isRename x ≡ 0 → Known pre u → Known (pre ++ x ∷ []) v
-  unfolding Known
-  known-snoc pre x u v z k d a c i = go (any-append (λ b. renameFile d a c ≡ b) pre (x ∷ []) i)
+  field-rename : (x : Step) → stepField x ≡ stepField (renameFile d a c) → x ≡ renameFile d a c
+  unfolding stepField tagAndNames zeroSeparated
+  field-rename x h = go x (field-parts _ _ h .0) (field-parts _ _ h .1)
     where
-      go : In (renameFile d a c) pre ⊎ In (renameFile d a c) (x ∷ []) → (w : Write) × In w ws × (renameFile d a c ≡ backupRename w)
-      go (inl r) = k d a c r
-      go (inr (inl r)) = let y : _≡_ {A = ℕ} 1 0 = ap isRename r ∙ z in absurd (omega arith)
-      go (inr (inr r)) = absurd r
-
-  known-rename : (pre : List Step) (w : Write) (u v : Store) → In w ws → Known pre u → Known (pre ++ backupRename w ∷ []) v
-  unfolding Known
-  known-rename pre w u v j k d a c i = go (any-append (λ b. renameFile d a c ≡ b) pre (backupRename w ∷ []) i)
-    where
-      go : In (renameFile d a c) pre ⊎ In (renameFile d a c) (backupRename w ∷ []) → (w : Write) × In w ws × (renameFile d a c ≡ backupRename w)
-      go (inl r) = k d a c r
-      go (inr (inl r)) = (w, j, r)
-      go (inr (inr r)) = absurd r
-
-  write-known : (w : Write) → In w ws → (pre : List Step) (u : Store) → Known pre u → Runs Known pre (opSteps (write w) u) u
-  unfolding opSteps
-  write-known w j pre u k = go (look (w .collection, []) (u .tree)) (look (target w) (u .tree))
-    where
-      move : Step
-      move = moveStaged (w .staged) (w .collection) (w .key)
-
-      make : Step
-      make = makeDirectory (w .collection)
-
-      last : (pre : List Step) (u : Store) → Known pre u → Runs Known pre (move ∷ []) u
-      last pre u k = (k, known-snoc pre move u (apply move u) refl k)
-
-      next : (b : Option ℕ) (pre : List Step) (u : Store) → Known pre u → Runs Known pre (ifPresent b (backupRename w ∷ []) ++ move ∷ []) u
-      next none pre u k = last pre u k
-      next (some x) pre u k = (k, last (pre ++ backupRename w ∷ []) (apply (backupRename w) u) (known-rename pre w u (apply (backupRename w) u) j k))
-
-      go : (a b : Option ℕ) → Runs Known pre (ifMissing a (make ∷ []) ++ ifPresent b (backupRename w ∷ []) ++ move ∷ []) u
-      go none none = (k, next none (pre ++ make ∷ []) (apply make u) (known-snoc pre make u (apply make u) refl k))
-      go none (some x) = (k, next (some x) (pre ++ make ∷ []) (apply make u) (known-snoc pre make u (apply make u) refl k))
-      go (some y) none = next none pre u k
-      go (some y) (some x) = next (some x) pre u k
-
-  writes-known : (l : List Write) → ((w : Write) → In w l → In w ws) → (pre : List Step) (u : Store) → Known pre u → Runs Known pre (operationSteps (map write l) u) u
-  writes-known [] j pre u k = k
-  writes-known (w ∷ l) j pre u k =
-      let xs = opSteps (write w) u in
-      let h : Runs Known pre xs u = write-known w (j w (inl refl)) pre u k in
-      runs-append Known pre xs (operationSteps (map write l) (applyAll xs u)) u h
-      (writes-known l (λ v i. j v (inr i)) (pre ++ xs) (applyAll xs u) (runs-end Known pre xs u h))
-
-  abbrev Quiet : (Store → List Step) → Type 0
-  Quiet p = (pre : List Step) (u : Store) → Known pre u → Runs Known pre (p u) u
-
-  one-known : (x : Step) → isRename x ≡ 0 → Quiet (λ s. x ∷ [])
-  one-known x z pre u k = (k, known-snoc pre x u (apply x u) z k)
-
-  syncs-quiet : (l : List Name) → Quiet (inTurn syncExisting l)
-  unfolding syncExisting
-  syncs-quiet l pre u g = runs-over Known syncExisting (λ d. Unit {0}) (λ d p v t h. each d p v h (look (d, []) (v .tree))) l pre u (λ d i. tt) g
-    where
-      each : (d : Name) (pre : List Step) (u : Store) → Known pre u → (q : Option ℕ) → Runs Known pre (ifPresent q (syncDirectory d ∷ [])) u
-      each d pre u k none = k
-      each d pre u k (some x) = one-known (syncDirectory d) refl pre u k
-
-  finish-quiet : Quiet (λ s. syncCollections ∷ removeLog ∷ syncJournal ∷ [])
-  finish-quiet pre u k =
-      let u₁ : Store = apply syncCollections u in
-      let u₂ : Store = apply removeLog u₁ in
-      let a = known-snoc pre syncCollections u u₁ refl k in
-      let b = known-snoc (pre ++ syncCollections ∷ []) removeLog u₁ u₂ refl a in
-      (k, (a, (b, known-snoc (pre ++ syncCollections ∷ [] ++ removeLog ∷ []) syncJournal u₂ (apply syncJournal u₂) refl b)))
-
-  clean-quiet : Quiet removeBackups
-  unfolding removeBackupsIn removeBackupFile
-  clean-quiet pre u g = runs-over Known removeBackupsIn (λ d. Unit {0}) (λ d p v t h. dir d p v h (originalName d)) (dirs (u .tree)) pre u (λ d i. tt) g
-    where
-      file : (d f : Name) (pre : List Step) (u : Store) → Known pre u → (q : Option Name) → Runs Known pre (ifPresent q (removeFile d f ∷ [])) u
-      file d f pre u k none = k
-      file d f pre u k (some n) = one-known (removeFile d f) refl pre u k
-
-      dir : (d : Name) (pre : List Step) (u : Store) → Known pre u → (q : Option Name) → Runs Known pre (caseOption q (inTurn (removeBackupFile d) (files d (u .tree)) u) (λ g. removeDirectory d ∷ [])) u
-      dir d pre u k none = runs-over Known (removeBackupFile d) (λ f. Unit {0}) (λ f p v t h. file d f p v h (originalName f)) (files d (u .tree)) pre u (λ f i. tt) k
-      dir d pre u k (some n) = one-known (removeDirectory d) refl pre u k
-
-  staging-quiet : Quiet removeStagingFiles
-  staging-quiet pre u k = all (stagingNames (u .staging)) pre u k
-    where
-      all : (l : List Name) (pre : List Step) (u : Store) → Known pre u → Runs Known pre (map removeStaging l) u
-      all [] pre u k = k
-      all (j ∷ l) pre u k = (k, all l (pre ++ removeStaging j ∷ []) (apply (removeStaging j) u) (known-snoc pre (removeStaging j) u _ refl k))
-
-  behind : List Name → List (Store → List Step)
-  behind l = inTurn syncExisting l ∷ (λ s. syncCollections ∷ removeLog ∷ syncJournal ∷ []) ∷ removeBackups ∷ removeStagingFiles ∷ []
-
-  behind-quiet : (l : List Name) (p : Store → List Step) → In p (behind l) → Quiet p
-  unfolding behind
-  behind-quiet l p (inl e) = subst (λ (q : Store → List Step). Quiet q) (sym e) (syncs-quiet l)
-  behind-quiet l p (inr (inl e)) = subst (λ (q : Store → List Step). Quiet q) (sym e) finish-quiet
-  behind-quiet l p (inr (inr (inl e))) = subst (λ (q : Store → List Step). Quiet q) (sym e) clean-quiet
-  behind-quiet l p (inr (inr (inr (inl e)))) = subst (λ (q : Store → List Step). Quiet q) (sym e) staging-quiet
-  behind-quiet l p (inr (inr (inr (inr e)))) = absurd e
-
-  plan-known : (s : Store) → opsOf (journal (s .log)) ≡ map write ws → commitFault s ≡ none → Known (commitPlan s) s
-  unfolding commitPlan Known behind apply
-  plan-known s o f = runs-end Known [] (rewriteHeader ∷ inTurn run (commitParts (opsOf (journal (s .log))) (commitFault s)) u) s (none-yet, rw (f, o) all)
-    where
-      u : Store
-      u = apply rewriteHeader s
-
-      none-yet : Known [] s
-      none-yet d a c i = absurd i
-
-      k₁ : Known (rewriteHeader ∷ []) u
-      k₁ = known-snoc [] rewriteHeader s u refl none-yet
-
-      k₂ : Known (rewriteHeader ∷ syncStaging ∷ []) u
-      k₂ = known-snoc (rewriteHeader ∷ []) syncStaging u u refl k₁
-
-      pre₃ : List Step
-      pre₃ = rewriteHeader ∷ syncStaging ∷ syncLog ∷ []
-
-      k₃ : Known pre₃ u
-      k₃ = known-snoc (rewriteHeader ∷ syncStaging ∷ []) syncLog u u refl k₂
-
-      b : List Step
-      b = operationSteps (map write ws) u
-
-      l : List Name
-      l = firstNamings [] (map collectionOf (map write ws))
-
-      h : Runs Known pre₃ b u
-      h = writes-known ws (λ w i. i) pre₃ u k₃
-
-      all : Runs Known (rewriteHeader ∷ []) (inTurn run (commitParts (map write ws) none) u) u
-      all = (
-        k₁,
-        (
-          k₂,
-          runs-append Known pre₃ b (inTurn run (behind l) (applyAll b u)) u h
-              (runs-over Known run Quiet (λ p pre u h k. h pre u k) (behind l) (pre₃ ++ b) (applyAll b u) (behind-quiet l) (runs-end Known pre₃ b u h)),
-        ),
-      )
-
--- A step whose field is that of a Write's rename is that rename.
-rename-injective : (d a c : Name) (v w : Write) → renameFile d a c ≡ backupRename v → ValidOp (write v) → ValidOp (write w) → stepField (renameFile d a c) ≡ stepField (backupRename w) → renameFile d a c ≡ backupRename w
-unfolding zeroSeparated tagAndNames
-rename-injective d a c v w p x y e =
-    let h : stepField (backupRename v) ≡ stepField (backupRename w) = ap stepField (sym p) ∙ e in
-    p ∙ same-name v w x y (parts-of (backupRename v) (backupRename w) h .1)
-  where
-    same-name : (v w : Write) → ValidOp (write v) → ValidOp (write w) → zeroSeparated (tagAndNames (backupRename v) .1) ≡ zeroSeparated (tagAndNames (backupRename w) .1) → backupRename v ≡ backupRename w
-    same-name v w x y e =
-        let h = unzero (v .collection) (w .collection) (v .key ++ 0 ∷ backupName (v .key)) (w .key ++ 0 ∷ backupName (w .key)) (full (v .collection) (x .0)) (full (w .collection) (y .0)) e in
-        let k = unzero (v .key) (w .key) (backupName (v .key)) (backupName (w .key)) (full (v .key) (x .1)) (full (w .key) (y .1)) (h .1) in
-        ap₂ (λ (c a : Name). renameFile c a (backupName a)) (h .0) (k .0)
+      go : (x : Step) → tagAndNames x .0 ≡ 0x24 → zeroSeparated (tagAndNames x .1) ≡ d ++ 0 ∷ (a ++ 0 ∷ c) → x ≡ renameFile d a c
+      go rewriteHeader t v = absurd (omega arith)
+      go syncStaging t v = absurd (omega arith)
+      go syncLog t v = absurd (omega arith)
+      go removeLog t v = absurd (omega arith)
+      go syncJournal t v = absurd (omega arith)
+      go syncCollections t v = absurd (omega arith)
+      go (makeDirectory e) t v = absurd (omega arith)
+      go (renameFile e f g) t v = same-rename e f g v
+      go (moveStaged f e k) t v = absurd (omega arith)
+      go (renameDirectory e f) t v = absurd (omega arith)
+      go (copyFile e f g) t v = absurd (omega arith)
+      go (removeFile e f) t v = absurd (omega arith)
+      go (removeDirectory e) t v = absurd (omega arith)
+      go (removeStaging f) t v = absurd (omega arith)
+      go (syncDirectory e) t v = absurd (omega arith)
 
 in-take : (n i : ℕ) (l : List Step) (x : Step) → suc i ≤ n → getElem? l i ≡ some x → In x (take n l)
 in-take n i [] x h e = none≢some e
@@ -238,63 +116,217 @@ in-take zero i (y ∷ l) x h e = absurd (omega arith)
 in-take (suc n) zero (y ∷ l) x h e = inl (sym (some-inj e))
 in-take (suc n) (suc i) (y ∷ l) x h e = inr (in-take n i l x (omega arith) e)
 
-in-list : (i : ℕ) (l : List Step) (x : Step) → getElem? l i ≡ some x → In x l
-in-list i [] x e = none≢some e
-in-list zero (y ∷ l) x e = inl (sym (some-inj e))
-in-list (suc i) (y ∷ l) x e = inr (in-list i l x e)
+-- A field of the plan's first n steps that is this rename's: the rename is among them.
+answer-is : (w : Write) → ValidOp (write w) → (s : Store) (n m : ℕ) → m ≤ n → stepAnswer m (commitPlan s) (committedAt m s) .step ≡ stepField (backupRename w) →
+    In (backupRename w) (take n (commitPlan s))
+answer-is w v s n m h e = go (leb m (length (commitPlan s))) e
+  where
+    cz : zeros (w .collection) ≡ 0
+    cz = no-zeros (w .collection) (valid-bytes (w .collection) (v .0))
 
-module _ (ws : List Write) (s : Store) (k : Known ws (commitPlan s) s) (v : (w : Write) → In w ws → ValidOp (write w)) (w : Write) (j : In w ws) where
-  other : (x : Step) → ((tagAndNames x .0 ≡ 0x24) → ⊥) → stepField x ≡ stepField (backupRename w) → x ≡ backupRename w
+    kz : zeros (w .key) ≡ 0
+    kz = no-zeros (w .key) (valid-bytes (w .key) (v .1))
+
+    none-given : {A : Type 0} → [] ≡ stepField (backupRename w) → A
+    none-given e = unfold stepField encodeField in (nil≢cons e)
+
+    at : (q : Option Step) (i : ℕ) → suc i ≤ n → getElem? (commitPlan s) i ≡ q → caseOption q [] stepField ≡ stepField (backupRename w) →
+        In (backupRename w) (take n (commitPlan s))
+    at none i h z e = none-given e
+    at (some x) i h z e =
+        let r = field-rename (w .collection) (w .key) (backupName (w .key)) cz kz (backup-zeros (w .key) kz) x e in
+        subst (λ (y : Step). In y (take n (commitPlan s))) r (in-take n i (commitPlan s) x h z)
+
+    field : (m : ℕ) → m ≤ n → fieldAt m (commitPlan s) ≡ stepField (backupRename w) → In (backupRename w) (take n (commitPlan s))
+    field zero h e = none-given e
+    field (suc i) h e = at (getElem? (commitPlan s) i) i h refl e
+
+    go : (t : Bool) →
+        if_then_else_ t (record { number = 0; image = encode (committedAt m s); step = fieldAt m (commitPlan s) }) (refusal 16) .step
+        ≡ stepField (backupRename w) → In (backupRename w) (take n (commitPlan s))
+    go true e = field m h e
+    go false e = none-given e
+
+-- While the log stands, a rename of w that was done has left its backup.
+module _ (w : Write) where
+  Left : List Step → Store → Type 0
+  Left done u = isSome (u .log) ≡ true → In (backupRename w) done → Has (backup w) (u .tree)
+
+  left-snoc : (done : List Step) (x : Step) (u v : Store) → v .log ≡ u .log → (backupRename w ≡ x → Has (backup w) (v .tree)) →
+      (Has (backup w) (u .tree) → Has (backup w) (v .tree)) → Left done u → Left (done ++ x ∷ []) v
+  unfolding Left
+  left-snoc done x u v e this keep h l i = go (any-append (λ b. backupRename w ≡ b) done (x ∷ []) i)
+    where
+      go : In (backupRename w) done ⊎ In (backupRename w) (x ∷ []) → Has (backup w) (v .tree)
+      go (inl r) = keep (h (rw e at l) r)
+      go (inr (inl r)) = this r
+      go (inr (inr r)) = absurd r
+
+  -- A step that is no rename of a file.
+  left-other : (done : List Step) (x : Step) (u : Store) → (tagAndNames x .0 ≡ 0x24 → ⊥) → apply x u .log ≡ u .log →
+      (Has (backup w) (u .tree) → Has (backup w) (apply x u .tree)) → Left done u → Left (done ++ x ∷ []) (apply x u)
   unfolding tagAndNames
-  other x h e = absurd (h (parts-of x (backupRename w) e .0))
+  left-other done x u n e keep h = left-snoc done x u (apply x u) e (λ z. absurd (n (ap (λ (y : Step). tagAndNames y .0) (sym z)))) keep h
 
-  step-is : (x : Step) → In x (commitPlan s) → stepField x ≡ stepField (backupRename w) → x ≡ backupRename w
-  unfolding tagAndNames Known
-  step-is rewriteHeader i e = other rewriteHeader (omega arith) e
-  step-is syncStaging i e = other syncStaging (omega arith) e
-  step-is syncLog i e = other syncLog (omega arith) e
-  step-is removeLog i e = other removeLog (omega arith) e
-  step-is syncJournal i e = other syncJournal (omega arith) e
-  step-is syncCollections i e = other syncCollections (omega arith) e
-  step-is (makeDirectory d) i e = other (makeDirectory d) (omega arith) e
-  step-is (renameFile d a c) i e = let f = k d a c i in rename-injective d a c (f .0) w (f .2) (v (f .0) (f .1)) (v w j) e
-  step-is (moveStaged f d a) i e = other (moveStaged f d a) (omega arith) e
-  step-is (renameDirectory a c) i e = other (renameDirectory a c) (omega arith) e
-  step-is (copyFile a c f) i e = other (copyFile a c f) (omega arith) e
-  step-is (removeFile d f) i e = other (removeFile d f) (omega arith) e
-  step-is (removeDirectory d) i e = other (removeDirectory d) (omega arith) e
-  step-is (removeStaging c) i e = other (removeStaging c) (omega arith) e
-  step-is (syncDirectory d) i e = other (syncDirectory d) (omega arith) e
-
-  not-empty : {A : Type 0} → [] ≡ stepField (backupRename w) → A
-  unfolding stepField encodeField
-  not-empty e = nil≢cons e
-
-  field-is : (n m : ℕ) → m ≤ n → fieldAt m (commitPlan s) ≡ stepField (backupRename w) → In (backupRename w) (take n (commitPlan s))
-  field-is n zero h e = not-empty e
-  field-is n (suc m) h e = go (getElem? (commitPlan s) m) refl e
+  has-put : (k : Key) (x : ℕ) (t : Map) → Has (backup w) t → Has (backup w) (put k x t)
+  has-put k x t h = go (key-dec (backup w) k)
     where
-      go : (q : Option Step) → getElem? (commitPlan s) m ≡ q → caseOption q [] stepField ≡ stepField (backupRename w) → In (backupRename w) (take n (commitPlan s))
-      go none z e = not-empty e
-      go (some x) z e = rw (step-is x (in-list m (commitPlan s) x z) e) at (in-take n m (commitPlan s) x h z)
+      go : Dec (backup w ≡ k) → Has (backup w) (put k x t)
+      go (yes y) = (x, rw y (look-put-same k x t))
+      go (no y) = (h .0, look-put-other k (backup w) x t y ∙ h .1)
 
-  answer-is : (n m : ℕ) → m ≤ n → stepAnswer m (commitPlan s) (committedAt m s) .step ≡ stepField (backupRename w) → In (backupRename w) (take n (commitPlan s))
-  answer-is n m h e = go (leb m (length (commitPlan s))) e
+  -- The steps of a Write v.
+  module _ (v : Write) (g : KeyGood (v .collection) (v .key)) (named : w .key ≡ [] → ⊥) where
+    moves : (done : List Step) (u : Store) → Left done u → Runs Left done (moveStaged (v .staged) (v .collection) (v .key) ∷ []) u
+    unfolding apply tagAndNames
+    moves done u h = (h, left-other done (moveStaged (v .staged) (v .collection) (v .key)) u (λ e. omega arith) refl (at (look ([], v .staged) (u .staging))) h)
+      where
+        at : (q : Option ℕ) → Has (backup w) (u .tree) → Has (backup w) (caseOption q (u .tree) (λ x. put (target v) x (u .tree)))
+        at none k = k
+        at (some x) k = has-put (target v) x (u .tree) k
+
+    renames : (b : Option ℕ) (done : List Step) (u : Store) → look (target v) (u .tree) ≡ b → Left done u →
+        Runs Left done (ifPresent b (backupRename v ∷ []) ++ moveStaged (v .staged) (v .collection) (v .key) ∷ []) u
+    renames none done u e h = moves done u h
+    renames (some x) done u e h = (
+      h,
+      moves (done ++ backupRename v ∷ []) (apply (backupRename v) u)
+          (left-snoc done (backupRename v) u (apply (backupRename v) u) (unfold apply in refl) this keep h),
+    )
+      where
+        t : Map
+        t = del (target v) (u .tree)
+
+        tr : apply (backupRename v) u .tree ≡ put (backup v) x t
+        tr = rename-tree (v .collection) (v .key) (backupName (v .key)) u x e
+
+        this : backupRename w ≡ backupRename v → Has (backup w) (apply (backupRename v) u .tree)
+        this y =
+            let c : w .collection ≡ v .collection = cc in
+            let n : backupName (w .key) ≡ backupName (v .key) = cc in
+            let b : backup w ≡ backup v = λ i. (c i, n i) in
+            rw (tr, b) (x, look-put-same (backup v) x t)
+
+        other : backup w ≡ target v → ⊥
+        other y = key-apart (v .collection) (w .collection) (v .key) (backupName (w .key)) (w .key) (g .file) (original-backup (w .key) named) (sym y)
+
+        keep : Has (backup w) (u .tree) → Has (backup w) (apply (backupRename v) u .tree)
+        keep k = rw tr (has-put (backup v) x t (k .0, look-del-other (target v) (backup w) (u .tree) other ∙ k .1))
+
+    write-left : (done : List Step) (u : Store) → Left done u → Runs Left done (opSteps (write v) u) u
+    unfolding opSteps
+    write-left done u h = go (look (v .collection, []) (u .tree)) (look (target v) (u .tree)) refl
+      where
+        make : Step
+        make = makeDirectory (v .collection)
+
+        go : (a b : Option ℕ) → look (target v) (u .tree) ≡ b →
+            Runs Left done (ifMissing a (make ∷ []) ++ ifPresent b (backupRename v ∷ []) ++ moveStaged (v .staged) (v .collection) (v .key) ∷ []) u
+        go (some y) b e = renames b done u e h
+        go none b e = unfold apply tagAndNames in (
+          h,
+          renames b (done ++ make ∷ []) (apply make u)
+              (look-put-other (v .collection, []) (target v) 0 (u .tree) (λ y. g .named (file-eq y)) ∙ e)
+              (left-other done make u (λ e. omega arith) refl (has-put (v .collection, []) 0 (u .tree)) h),
+        )
+
+  -- All that comes after the log is gone.
+  gone-left : (done xs : List Step) (u : Store) → u .log ≡ none → Runs Left done xs u
+  unfolding Left
+  gone-left done [] u e = λ l i. absurd (false≢true (rw e at l))
+  gone-left done (x ∷ xs) u e = (λ l i. absurd (false≢true (rw e at l)), gone-left (done ++ x ∷ []) xs (apply x u) (steady (x ∷ []) u .gone e))
+
+  syncs-left : (l : List Name) (done : List Step) (u : Store) → Left done u → Runs Left done (inTurn syncExisting l u) u
+  unfolding syncExisting
+  syncs-left l done u h = runs-over Left syncExisting (λ d. Unit {0}) (λ d done u t h. each d done u h (look (d, []) (u .tree))) l done u (λ d i. tt) h
     where
-      go : (t : Bool) → if_then_else_ t (record { number = 0; image = Rattle.model.specs.Image.encode (committedAt m s); step = fieldAt m (commitPlan s) }) (refusal 16) .step ≡ stepField (backupRename w) → In (backupRename w) (take n (commitPlan s))
-      go true e = field-is n m h e
-      go false e = not-empty e
+      each : (d : Name) (done : List Step) (u : Store) → Left done u → (q : Option ℕ) → Runs Left done (ifPresent q (syncDirectory d ∷ [])) u
+      each d done u h none = h
+      each d done u h (some x) = unfold apply tagAndNames in (h, left-other done (syncDirectory d) u (λ e. omega arith) refl (λ k. k) h)
 
-valid-writes : (ws : List Write) → All ValidOp (map write ws) → (w : Write) → In w ws → ValidOp (write w)
-valid-writes (v ∷ ws) h w (inl e) = rw e (h .0)
-valid-writes (v ∷ ws) h w (inr i) = valid-writes ws (h .1) w i
+  module _ (s : Store) (ws : List Write) (T : Transacts s (map write ws)) (i : In w ws) (f : commitFault s ≡ none) where
+    keys : (v : Write) → In v ws → KeyGood (v .collection) (v .key)
+    keys v i = T .good (write v) (in-ops ws v i) .key
 
--- A key whose rename's field was handed back up to n has its rename among the first n steps.
-pub none-waits : (b : Bytes) (s : Store) (ws : List Write) (n : ℕ) → Conditions b s ws → NoneWaits n b s ws → AllRenamed n s ws
-unfolding AllRenamed
-none-waits b s ws n C h w i x =
-    let r = h w i x in
-    let c : Committed s = committed b s (C .holds) (C .committed) in
-    let v = valid-writes ws (subst (λ (q : List Op). All ValidOp q) (C .writesAlone) (journal-valid (s .log))) in
-    answer-is ws s (plan-known ws s (C .writesAlone) (c .clear)) v w i n (r .place) (r .early)
-    (ap (λ (a : Answer). a .step) (sym (stepped b s (r .place) (C .holds) c)) ∙ r .given)
+    steps-left : (done : List Step) (u : Store) → Left done u → Runs Left done (inTurn opSteps (map write ws) u) u
+    steps-left done u h = runs-over Left opSteps (λ a. (v : Write) × In v ws × (a ≡ write v)) each (map write ws) done u (one-of ws) h
+      where
+        each : (a : Op) (done : List Step) (u : Store) → (v : Write) × In v ws × (a ≡ write v) → Left done u → Runs Left done (opSteps a u) u
+        each a done u v h = subst (λ (b : Op). Runs Left done (opSteps b u) u) (sym (v .2)) (write-left (v .0) (keys (v .0) (v .1)) (keys w i .named) done u h)
+
+    plan-left : Runs Left (rewriteHeader ∷ []) (inTurn run (commitParts (map write ws) none) (apply rewriteHeader s)) (apply rewriteHeader s)
+    plan-left = unfold apply in (k₀, (k₁, runs-append Left done₂ xs (ys ++ zs) begun h (runs-append Left (done₂ ++ xs) ys zs u k last)))
+      where
+        begun : Store
+        begun = apply rewriteHeader s
+
+        k₀ : Left (rewriteHeader ∷ []) begun
+        k₀ = unfold Left in (left-snoc [] rewriteHeader begun begun refl (λ e. absurd (let z : _≡_ {A = ℕ} 0 1 = cc in omega arith)) (λ k. k) (λ l i. absurd i))
+
+        k₁ : Left (rewriteHeader ∷ syncStaging ∷ []) begun
+        k₁ = unfold apply tagAndNames in (left-other (rewriteHeader ∷ []) syncStaging begun (λ e. omega arith) refl (λ k. k) k₀)
+
+        done₂ : List Step
+        done₂ = rewriteHeader ∷ syncStaging ∷ syncLog ∷ []
+
+        k₂ : Left done₂ begun
+        k₂ = unfold apply tagAndNames in (left-other (rewriteHeader ∷ syncStaging ∷ []) syncLog begun (λ e. omega arith) refl (λ k. k) k₁)
+
+        xs : List Step
+        xs = inTurn opSteps (map write ws) begun
+
+        u : Store
+        u = applyAll xs begun
+
+        h : Runs Left done₂ xs begun
+        h = steps-left done₂ begun k₂
+
+        ys : List Step
+        ys = inTurn syncExisting (firstNamings [] (map collectionOf (map write ws))) u
+
+        k : Runs Left (done₂ ++ xs) ys u
+        k = syncs-left (firstNamings [] (map collectionOf (map write ws))) (done₂ ++ xs) u (runs-end Left done₂ xs begun h)
+
+        v : Store
+        v = applyAll ys u
+
+        zs : List Step
+        zs = inTurn run (behind s (map write ws) T) v
+
+        k₃ : Left (done₂ ++ xs ++ ys) v
+        k₃ = runs-end Left (done₂ ++ xs) ys u k
+
+        last : Runs Left (done₂ ++ xs ++ ys) zs v
+        last = unfold apply tagAndNames in (
+          k₃,
+          (
+            left-other (done₂ ++ xs ++ ys) syncCollections v (λ e. omega arith) refl (λ k. k) k₃,
+            gone-left (done₂ ++ xs ++ ys ++ syncCollections ∷ [] ++ removeLog ∷ [])
+                (syncJournal ∷ inTurn run (removeBackups ∷ removeStagingFiles ∷ []) (apply removeLog v)) (apply removeLog v) refl,
+          ),
+        )
+
+    -- At each number of steps.
+    at-cut : (n : ℕ) → Left (take n (commitPlan s)) (applyAll (take n (commitPlan s)) s)
+    unfolding Left
+    at-cut zero = λ l i. absurd i
+    at-cut (suc n) =
+        rw (plan-is s (map write ws) T none f)
+        (runs-take Left (rewriteHeader ∷ []) (inTurn run (commitParts (map write ws) none) (apply rewriteHeader s)) (apply rewriteHeader s) plan-left n)
+
+-- Where no key of kind 1 waits, undoing takes no old file away.
+pub none-waits : (b : Bytes) (s : Store) (ws : List Write) (n : ℕ) → Conditions b s ws → Transacts s (map write ws) → NoneWaits n b s ws →
+    SafeAt n s (map write ws)
+unfolding Left
+none-waits b s ws n C T h = inr λ l. safe-unless (s .tree) (map write ws) _ (T .good) λ w j m z.
+    let i = of-ops ws w j in
+    let r = h w i m z in
+    at-cut w s ws T i (c .1) n l
+    (answer-is w (all-in ValidOp (map write ws) valid (write w) j) s n (r .place) (r .early)
+    (ap (λ (a : Answer). a .step) (sym (stepped b s (r .place) (C .holds) (c .0))) ∙ r .given))
+  where
+    c : Found s × (commitFault s ≡ none)
+    c = committed b s (C .holds) (C .committed)
+
+    valid : All ValidOp (map write ws)
+    valid = subst (All ValidOp) (C .writesAlone) (journal-valid (s .log))

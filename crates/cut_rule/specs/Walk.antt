@@ -1,50 +1,59 @@
--- Walks over a list, by what they leave: the open mark, the staging files, the backups.
-use mathlib.Core.Path.{_≡_, refl, _∙_, ap}
-use mathlib.Core.List.{List, [], _∷_, map}
-use mathlib.Core.Option.{none, some}
+-- Walks over steps: what holds before and after every step, and what the steps of each element of a list leave.
+use mathlib.Core.Path.{_≡_, refl, sym, _∙_, ap, subst}
+use Prim.Native.Nat.{ℕ, zero, suc}
+use mathlib.Core.List.{List, [], _∷_, _++_, map}
+use mathlib.Core.Option.{Option, none, some}
 use mathlib.Core.Logic.{_⊎_, inl, inr}
-use Rattle.model.specs.Step
-use Rattle.model.specs.Order.{Name, Key}
-use Rattle.model.specs.Map.{Map, look}
+use lib.ListN.{take}
+use Rattle.model.specs.Order.{Name}
+use Rattle.model.specs.Map.{Map}
+use Rattle.model.specs.Base.{In, caseOption}
 use Rattle.model.specs.Store.{Store, stagingKey, stagingNames}
-use Rattle.model.specs.Step.{Step, apply, applyAll, removeStaging}
-use Rattle.model.specs.Plan.{inTurn, removeStagingFiles}
-use Rattle.model.specs.Name.{originalName}
-use Rattle.model.specs.Base.{Any, In}
+use Rattle.model.specs.Step.{Step, rewriteHeader, syncStaging, syncLog, removeLog, syncJournal, syncCollections, makeDirectory, renameFile, moveStaged}
+use Rattle.model.specs.Step.{renameDirectory, copyFile, removeFile, removeDirectory, removeStaging, syncDirectory, marked, apply, applyAll, Fault, stepFault}
+use Rattle.model.specs.Plan.{inTurn, removeStagingFiles, firstFault, stepsBeforeFault}
 use Rattle.laws.specs.StoreLaws.{Bare, bare-del}
 use Rattle.laws.specs.Listings.{dels, dels-all}
-use Rattle.laws.specs.Runs.{applyAll-append}
+use Rattle.laws.specs.Runs.{applyAll-append, fault-head}
 
 abbrev pub runOver : {A : Type 0} → (A → Store → List Step) → List A → Store → Store
 runOver g [] s = s
 runOver g (a ∷ l) s = runOver g l (applyAll (g a s) s)
 
-pub applyAll-seqOver : {A : Type 0} (g : A → Store → List Step) (l : List A) (s : Store) → applyAll (inTurn g l s) s ≡ runOver g l s
-applyAll-seqOver g [] s = refl
-applyAll-seqOver g (a ∷ l) s = applyAll-append (g a s) (inTurn g l (applyAll (g a s) s)) s ∙ applyAll-seqOver g l (applyAll (g a s) s)
+pub applyAll-inTurn : {A : Type 0} (g : A → Store → List Step) (l : List A) (s : Store) → applyAll (inTurn g l s) s ≡ runOver g l s
+applyAll-inTurn g [] s = refl
+applyAll-inTurn g (a ∷ l) s = applyAll-append (g a s) (inTurn g l (applyAll (g a s) s)) s ∙ applyAll-inTurn g l (applyAll (g a s) s)
 
--- No step touches the open mark.
-apply-busy : (x : Step) (s : Store) → apply x s .openMark ≡ s .openMark
+-- No step touches the open mark, puts a staging file elsewhere, or brings a log.
+pub record Steady (s u : Store) : Type 0 where
+  pub mark : u .openMark ≡ s .openMark
+  pub bare : Bare (s .staging) → Bare (u .staging)
+  pub gone : s .log ≡ none → u .log ≡ none
+
+apply-steady : (x : Step) (s : Store) → Steady s (apply x s)
 unfolding apply
-apply-busy Step.rewriteHeader s = refl
-apply-busy Step.syncStaging s = refl
-apply-busy Step.syncLog s = refl
-apply-busy Step.removeLog s = refl
-apply-busy Step.syncJournal s = refl
-apply-busy Step.syncCollections s = refl
-apply-busy (Step.makeDirectory d) s = refl
-apply-busy (Step.renameFile d a b) s = refl
-apply-busy (Step.moveStaged f d k) s = refl
-apply-busy (Step.renameDirectory a b) s = refl
-apply-busy (Step.copyFile a b f) s = refl
-apply-busy (Step.removeFile d f) s = refl
-apply-busy (Step.removeDirectory d) s = refl
-apply-busy (Step.removeStaging k) s = refl
-apply-busy (Step.syncDirectory d) s = refl
+apply-steady rewriteHeader s = record { mark = refl; bare = λ b. b; gone = ap marked }
+apply-steady syncStaging s = record { mark = refl; bare = λ b. b; gone = λ e. e }
+apply-steady syncLog s = record { mark = refl; bare = λ b. b; gone = λ e. e }
+apply-steady removeLog s = record { mark = refl; bare = λ b. b; gone = λ e. refl }
+apply-steady syncJournal s = record { mark = refl; bare = λ b. b; gone = λ e. e }
+apply-steady syncCollections s = record { mark = refl; bare = λ b. b; gone = λ e. e }
+apply-steady (makeDirectory d) s = record { mark = refl; bare = λ b. b; gone = λ e. e }
+apply-steady (renameFile d a c) s = record { mark = refl; bare = λ b. b; gone = λ e. e }
+apply-steady (moveStaged f d k) s = record { mark = refl; bare = bare-del (stagingKey f) (s .staging); gone = λ e. e }
+apply-steady (renameDirectory a c) s = record { mark = refl; bare = λ b. b; gone = λ e. e }
+apply-steady (copyFile a c f) s = record { mark = refl; bare = λ b. b; gone = λ e. e }
+apply-steady (removeFile d f) s = record { mark = refl; bare = λ b. b; gone = λ e. e }
+apply-steady (removeDirectory d) s = record { mark = refl; bare = λ b. b; gone = λ e. e }
+apply-steady (removeStaging f) s = record { mark = refl; bare = bare-del (stagingKey f) (s .staging); gone = λ e. e }
+apply-steady (syncDirectory d) s = record { mark = refl; bare = λ b. b; gone = λ e. e }
 
-pub applyAll-busy : (xs : List Step) (s : Store) → applyAll xs s .openMark ≡ s .openMark
-applyAll-busy [] s = refl
-applyAll-busy (x ∷ xs) s = applyAll-busy xs (apply x s) ∙ apply-busy x s
+pub steady : (xs : List Step) (s : Store) → Steady s (applyAll xs s)
+steady [] s = record { mark = refl; bare = λ b. b; gone = λ e. e }
+steady (x ∷ xs) s =
+    let a = apply-steady x s in
+    let r = steady xs (apply x s) in
+    record { mark = r .mark ∙ a .mark; bare = λ b. r .bare (a .bare b); gone = λ e. r .gone (a .gone e) }
 
 -- Emptying the staging folder.
 abbrev pub withStaging : Map → Store → Store
@@ -58,57 +67,77 @@ unstage (f ∷ l) s = unstage l (apply (removeStaging f) s)
 pub staging-gone : (s : Store) → Bare (s .staging) → applyAll (removeStagingFiles s) s ≡ withStaging [] s
 staging-gone s b = unstage (stagingNames (s .staging)) s ∙ ap (λ (m : Map). withStaging m s) (dels-all (s .staging) b)
 
--- No step puts a staging file elsewhere.
-apply-bare : (x : Step) (s : Store) → Bare (s .staging) → Bare (apply x s .staging)
-unfolding apply
-apply-bare Step.rewriteHeader s b = b
-apply-bare Step.syncStaging s b = b
-apply-bare Step.syncLog s b = b
-apply-bare Step.removeLog s b = b
-apply-bare Step.syncJournal s b = b
-apply-bare Step.syncCollections s b = b
-apply-bare (Step.makeDirectory d) s b = b
-apply-bare (Step.renameFile d a c) s b = b
-apply-bare (Step.moveStaged f d k) s b = bare-del (stagingKey f) (s .staging) b
-apply-bare (Step.renameDirectory a c) s b = b
-apply-bare (Step.copyFile a c f) s b = b
-apply-bare (Step.removeFile d f) s b = b
-apply-bare (Step.removeDirectory d) s b = b
-apply-bare (Step.removeStaging f) s b = bare-del (stagingKey f) (s .staging) b
-apply-bare (Step.syncDirectory d) s b = b
+-- What holds before and after every step.
+abbrev pub Through : (Store → Type 0) → List Step → Store → Type 0
+Through I [] s = I s
+Through I (x ∷ xs) s = I s × Through I xs (apply x s)
 
-pub applyAll-bare : (xs : List Step) (s : Store) → Bare (s .staging) → Bare (applyAll xs s .staging)
-applyAll-bare [] s b = b
-applyAll-bare (x ∷ xs) s b = applyAll-bare xs (apply x s) (apply-bare x s b)
+-- The same up to the first failing step.
+abbrev pub Cautious : (Store → Type 0) → List Step → Store → Type 0
+Cautious I [] s = I s
+Cautious I (x ∷ xs) s = I s × (stepFault x s ≡ none → Cautious I xs (apply x s))
 
--- A walk over a list in which each element's steps keep I and leave no backup that the element hits, and bring none back.
-abbrev pub Clears : List Step → (Store → Type 0) → (Key → Type 0) → Store → Type 0
-Clears xs I Hit s =
-    I (applyAll xs s)
-    × ((d n h : Name) → originalName n ≡ some h → Hit (d, n) ⊎ (look (d, n) (s .tree) ≡ none) → look (d, n) (applyAll xs s .tree) ≡ none)
+module _ (I : Store → Type 0) where
+  pub through-end : (xs : List Step) (s : Store) → Through I xs s → I (applyAll xs s)
+  through-end [] s h = h
+  through-end (x ∷ xs) s h = through-end xs (apply x s) (h .1)
 
-module _ {A : Type 0} (g : A → Store → List Step) (Ready : List A → Store → Type 0) (I : Store → Type 0) (Hit : A → Key → Type 0)
-    (each : (a : A) (l : List A) (s : Store) → Ready (a ∷ l) s → I s → Clears (g a s) I (Hit a) s × Ready l (applyAll (g a s) s)) where
-  pub walk : (l : List A) (s : Store) → Ready l s → I s →
-      I (runOver g l s)
-      × ((d n h : Name) → originalName n ≡ some h → Any (λ a. Hit a (d, n)) l ⊎ (look (d, n) (s .tree) ≡ none) → look (d, n) (runOver g l s .tree) ≡ none)
-  walk [] s r i = (i, λ d n h p q. go d n q)
+  pub through-take : (n : ℕ) (xs : List Step) (s : Store) → Through I xs s → I (applyAll (take n xs) s)
+  through-take zero [] s h = h
+  through-take zero (x ∷ xs) s h = h .0
+  through-take (suc n) [] s h = h
+  through-take (suc n) (x ∷ xs) s h = through-take n xs (apply x s) (h .1)
+
+  pub through-append : (xs ys : List Step) (s : Store) → Through I xs s → Through I ys (applyAll xs s) → Through I (xs ++ ys) s
+  through-append [] ys s h k = k
+  through-append (x ∷ xs) ys s h k = (h .0, through-append xs ys (apply x s) (h .1) k)
+
+  pub cautious-through : (xs : List Step) (s : Store) → Cautious I xs s → firstFault xs s ≡ none → Through I xs s
+  cautious-through [] s h e = h
+  cautious-through (x ∷ xs) s h e = let f = fault-head x xs s e in (h .0, cautious-through xs (apply x s) (h .1 (f .0)) (f .1))
+
+  pub cautious-before : (xs : List Step) (s : Store) → Cautious I xs s → Through I (stepsBeforeFault xs s) s
+  cautious-before [] s h = h
+  cautious-before (x ∷ xs) s h = go (stepFault x s) (λ z. cautious-before xs (apply x s) (h .1 z))
     where
-      go : (d n : Name) → ⊥ ⊎ (look (d, n) (s .tree) ≡ none) → look (d, n) (s .tree) ≡ none
-      go d n (inl q) = absurd q
-      go d n (inr q) = q
-  walk (a ∷ l) s r i =
-      let rest = walk l (applyAll (g a s) s) (one .1) (one .0 .0) in
-      (rest .0, λ d n h p q. rest .1 d n h p (go d n h p q))
+      go : (q : Option Fault) → (q ≡ none → Through I (stepsBeforeFault xs (apply x s)) (apply x s)) →
+          Through I (caseOption q (x ∷ stepsBeforeFault xs (apply x s)) (λ e. [])) s
+      go none k = (h .0, k refl)
+      go (some f) k = h .0
+
+  pub cautious-then : (xs ys : List Step) (s : Store) → Cautious I xs s → (firstFault xs s ≡ none → Cautious I ys (applyAll xs s)) → Cautious I (xs ++ ys) s
+  cautious-then [] ys s h k = k refl
+  cautious-then (x ∷ xs) ys s h k = (h .0, λ e. cautious-then xs ys (apply x s) (h .1 e) (λ f. k (rw e f)))
+
+pub through-map : (I J : Store → Type 0) → ((u : Store) → I u → J u) → (xs : List Step) (s : Store) → Through I xs s → Through J xs s
+through-map I J f [] s h = f s h
+through-map I J f (x ∷ xs) s h = (f s (h .0), through-map I J f xs (apply x s) (h .1))
+
+-- A walk over a list in which each element's steps keep I, bring about Q of the element, and keep Q of the others.
+abbrev pub Swept : {A : Type 0} → (Store → Type 0) → (A → Store → Type 0) → A → List Step → Store → Type 0
+Swept {A} I Q a xs s = Through I xs s × Q a (applyAll xs s) × ((b : A) → Q b s → Q b (applyAll xs s))
+
+module _ {A : Type 0} (g : A → Store → List Step) (Ready : List A → Store → Type 0) (I : Store → Type 0) (Q : A → Store → Type 0)
+    (each : (a : A) (l : List A) (s : Store) → Ready (a ∷ l) s → I s → Swept I Q a (g a s) s × Ready l (applyAll (g a s) s)) where
+  pub sweep : (l : List A) (s : Store) → Ready l s → I s →
+      Through I (inTurn g l s) s × Ready [] (applyAll (inTurn g l s) s) × ((a : A) → In a l ⊎ Q a s → Q a (applyAll (inTurn g l s) s))
+  sweep [] s r i = (i, r, λ a q. go a q)
     where
-      one : Clears (g a s) I (Hit a) s × Ready l (applyAll (g a s) s)
+      go : (a : A) → ⊥ ⊎ Q a s → Q a s
+      go a (inl q) = absurd q
+      go a (inr q) = q
+  sweep (a ∷ l) s r i =
+      let u = applyAll (g a s) s in
+      let rest = sweep l u (one .1) (through-end I (g a s) s (one .0 .0)) in (
+        through-append I (g a s) (inTurn g l u) s (one .0 .0) (rest .0),
+        rw (applyAll-append (g a s) (inTurn g l u) s) (rest .1),
+        λ b q. rw (applyAll-append (g a s) (inTurn g l u) s) (rest .2 b (go b q)),
+      )
+    where
+      one : Swept I Q a (g a s) s × Ready l (applyAll (g a s) s)
       one = each a l s r i
 
-      go : (d n h : Name) → originalName n ≡ some h → Any (λ b. Hit b (d, n)) (a ∷ l) ⊎ (look (d, n) (s .tree) ≡ none) → Any (λ b. Hit b (d, n)) l ⊎ (look (d, n) (applyAll (g a s) s .tree) ≡ none)
-      go d n h p (inl (inl q)) = inr (one .0 .1 d n h p (inl q))
-      go d n h p (inl (inr q)) = inl q
-      go d n h p (inr q) = inr (one .0 .1 d n h p (inr q))
-
--- What is asked of each element alone.
-abbrev pub Each : {A : Type 0} → (A → Type 0) → List A → Store → Type 0
-Each G l s = (a : _) → In a l → G a
+      go : (b : A) → In b (a ∷ l) ⊎ Q b s → In b l ⊎ Q b (applyAll (g a s) s)
+      go b (inl (inl e)) = inr (subst (λ (c : A). Q c (applyAll (g a s) s)) (sym e) (one .0 .1))
+      go b (inl (inr q)) = inl q
+      go b (inr q) = inr (one .0 .2 b q)

@@ -17,16 +17,16 @@ use store::Node;
 use store::Nodes;
 use store::Store;
 
-// "At most 16 directories, 128 files, 32 staging files, 6,824 log bytes; so at most 19,262 bytes."
+// "At most 16 directories, 128 files, 32 staging files"; 02, item 4: "The log limit becomes 6,952 bytes, and the image limit […] 19,390."
 const DIR_LIMIT: usize = 16;
 
 const FILE_LIMIT: usize = 128;
 
 const STAGING_LIMIT: usize = 32;
 
-const LOG_LIMIT: usize = 6_824;
+const LOG_LIMIT: usize = 6_952;
 
-const IMAGE_LIMIT: usize = 19_262;
+pub const IMAGE_LIMIT: usize = 19_390;
 
 const NO_LOG: LogRef = LogRef {
     start: 0,

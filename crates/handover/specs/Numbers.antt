@@ -52,7 +52,8 @@ pub write-numbers : (c k f : Name) (x : ℕ) (s : Store) → Numbered (4 ∷ 5 �
 unfolding recordWrite
 write-numbers c k f x s =
     two 10 s (validName c && validName (lower k) && validName f) (not (isSome (look (stagingKey f) (s .staging))) && not (leb stagingLimit (length (s .staging))) && validNumber x)
-    (appended (write (record { collection = c; key = lower k; staged = f })) (record { tree = s .tree; staging = put (stagingKey f) x (s .staging); log = s .log; openMark = s .openMark }))
+    (appended (write (record { collection = c; key = lower k; staged = f; mark = some (isSome (look (c, lower k) (s .tree))) }))
+    (record { tree = s .tree; staging = put (stagingKey f) x (s .staging); log = s .log; openMark = s .openMark }))
 
 pub delete-numbers : (c k : Name) (s : Store) → Numbered (4 ∷ 5 ∷ 6 ∷ 8 ∷ []) (recordDelete c k s)
 unfolding recordDelete

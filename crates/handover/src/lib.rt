@@ -26,7 +26,7 @@ pub struct Opened {
     pub tree_end: usize,
 }
 
-// 01, Sixteen numbers: "1. The image breaks its layout or a limit. 2. The lent output has under 19,262 bytes".
+// 01, Sixteen numbers: "1. The image breaks its layout or a limit. 2. The lent output has under" 19,390 bytes (02, item 4).
 pub fn open_image(image: &[u8], tree: &mut Nodes, staging: &mut Nodes, room: bool) -> Opened
     ensures { λ r. ⌜ Opens (now (image .entry)) room (now (tree .exit)) (now (staging .exit)) r ⌝ }
 {

@@ -7,7 +7,7 @@ use mathlib.Core.Option.{Option, none, some}
 use mathlib.Core.Bool.{Bool, true, false, _&&_, false≢true}
 use lib.ListN.{length}
 use lib.Dec.{leb, eqb}
-use Rattle.model.specs.Limits.{numberLimit}
+use Rattle.model.specs.Limits.{logLimit, numberLimit}
 use Rattle.model.specs.Order.{Name}
 use Rattle.model.specs.Map.{Map, Node}
 use Rattle.model.specs.Base.{Bytes, caseOption, if_then_else_, ifEmpty, isSome, sameBytes, allOf, anyOf}
@@ -31,12 +31,12 @@ pub record Parts (s : Store) : Type 0 where
   pub stagingAscends : ascending (s .staging) ≡ true
   pub staged : allOf validStaged (s .staging) ≡ true
   pub stagingFits : leb (length (s .staging)) 32 ≡ true
-  pub logFits : caseOption (s .log) true (λ l. leb (length l) 6824) ≡ true
+  pub logFits : caseOption (s .log) true (λ l. leb (length l) logLimit) ≡ true
 
 pub parts : (s : Store) → wellFormed s ≡ true → Parts s
 unfolding wellFormed
 parts s e =
-    let h = and-both _ (caseOption (s .log) true (λ l. leb (length l) 6824)) e in
+    let h = and-both _ (caseOption (s .log) true (λ l. leb (length l) logLimit)) e in
     let g = and-both _ (leb (length (s .staging)) 32) (h .0) in
     let f = and-both _ (allOf validStaged (s .staging)) (g .0) in
     let d = and-both _ (ascending (s .staging)) (f .0) in
@@ -216,11 +216,11 @@ staged-short : (n : Node) → validStaged n ≡ true → Short (stagedField n)
 unfolding littleEndian
 staged-short n e = let v = valid-length (n .0 .1) (staged-parts n e .1) in omega arith
 
-tail-short : (l : Option Bytes) (b : Bool) → caseOption l true (λ l. leb (length l) 6824) ≡ true → All Short (logField l ++ markField b)
+tail-short : (l : Option Bytes) (b : Bool) → caseOption l true (λ l. leb (length l) logLimit) ≡ true → All Short (logField l ++ markField b)
 tail-short none true e = (omega arith, tt)
 tail-short none false e = tt
-tail-short (some l) true e = let h = leb-le (length l) 6824 e in (omega arith, (omega arith, tt))
-tail-short (some l) false e = let h = leb-le (length l) 6824 e in (omega arith, tt)
+tail-short (some l) true e = let h = leb-le (length l) logLimit e in (omega arith, (omega arith, tt))
+tail-short (some l) false e = let h = leb-le (length l) logLimit e in (omega arith, tt)
 
 all-short : (s : Store) → Parts s → All Short (imageFields s)
 all-short s p = rw (regroup s)

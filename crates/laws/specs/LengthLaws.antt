@@ -1,4 +1,4 @@
--- "So at most 19,262 bytes", and how long a log of so many operations is.
+-- "So at most 19,390 bytes", and how long a log of so many operations is.
 use mathlib.Core.Path.{_≡_, refl, sym, ap}
 use Prim.Native.Nat.{ℕ, zero, suc, _+_, _*_, _≤_, _<_}
 use native.Mathlib.Omega.{arith}
@@ -7,6 +7,7 @@ use mathlib.Core.Option.{Option, none, some}
 use mathlib.Core.Bool.{Bool, true, false}
 use lib.ListN.{length, take, drop, length-append, length-drop}
 use lib.Seq.{length-take-le}
+use Rattle.model.specs.Limits.{logLimit, imageRoom}
 use Rattle.model.specs.Order.{Name}
 use Rattle.model.specs.Map.{Map}
 use Rattle.laws.specs.MapLaws.{none≢some, some-inj, look-all}
@@ -53,13 +54,13 @@ unfolding littleEndian
 staged-bulk [] h = omega arith
 staged-bulk (n ∷ m) h = let v = valid-length (n .0 .1) (h .0 .name) in let k = staged-bulk m (h .1) in omega arith
 
-tail-bulk : (l : Option Bytes) (b : Bool) → LogFits l → bulk (logField l ++ markField b) ≤ 6830
+tail-bulk : (l : Option Bytes) (b : Bool) → LogFits l → bulk (logField l ++ markField b) ≤ logLimit + 6
 tail-bulk none true h = omega arith
 tail-bulk none false h = omega arith
 tail-bulk (some l) true h = omega arith
 tail-bulk (some l) false h = omega arith
 
-pub encode-length : {N : Name → Type 0} → Naming N → (s : Store) → Good N s → length (encode s) ≤ 19262
+pub encode-length : {N : Name → Type 0} → Naming N → (s : Store) → Good N s → length (encode s) ≤ imageRoom
 unfolding encode
 encode-length {N} nm s g =
     let a = nodes-bulk nm (s .tree) (s .tree) (look-all (λ k x. NodeGood N (s .tree) (k .0) (k .1) x) (s .tree) (g .tree .sorted) (λ k x l. g .tree .node (k .0) (k .1) x l)) in
@@ -74,7 +75,7 @@ encode-length {N} nm s g =
     let r : bulk (imageFields s) ≡ bulk (map nodeField (s .tree) ++ (map stagedField (s .staging) ++ (logField (s .log) ++ markField (s .openMark)))) = ap bulk (regroup s) in
     omega arith
 
--- A payload that decodes is at most 205 bytes long.
+-- A payload that decodes is at most 209 bytes long.
 split-bulk : (m : ℕ) (p : Bytes) (fs : List Field) → fieldsFrom m p ≡ some fs → length p ≡ m + bulk fs
 unfolding fieldsFrom
 split-bulk (suc m) [] fs e = none≢some e
@@ -94,10 +95,10 @@ split-bulk zero (t ∷ r) fs e = go (fieldsFrom (2 + fromLittleEndian (take 2 r)
         let d : bulk (record { tag = t; value = take n (drop 2 r) } ∷ l) ≡ bulk fs = ap bulk (some-inj e) in
         omega arith
 
-pub decoded-length : (p : Bytes) (o : Op) → decodePayload p ≡ some o → length p ≤ 205
+pub decoded-length : (p : Bytes) (o : Op) → decodePayload p ≡ some o → length p ≤ 209
 decoded-length p o e = go (fieldsFrom 0 p) refl (unfold decodePayload decodeFields in e)
   where
-    go : (q : Option (List Field)) → fieldsFrom 0 p ≡ q → caseOption q none opOfFields ≡ some o → length p ≤ 205
+    go : (q : Option (List Field)) → fieldsFrom 0 p ≡ q → caseOption q none opOfFields ≡ some o → length p ≤ 209
     go none z f = none≢some f
     go (some fs) z f =
         let a = split-bulk 0 p fs z in
@@ -108,7 +109,7 @@ decoded-length p o e = go (fieldsFrom 0 p) refl (unfold decodePayload decodeFiel
         omega arith
 
 -- A log that is whole is no longer than its operations allow.
-walk-length : (k m : ℕ) (l : Bytes) → walk k m l .end ≡ whole → length l ≤ m + 213 * length (walk k m l .ops)
+walk-length : (k m : ℕ) (l : Bytes) → walk k m l .end ≡ whole → length l ≤ m + 217 * length (walk k m l .ops)
 unfolding walk
 walk-length k (suc m) [] e = not-whole truncated e (inl refl)
 walk-length k (suc m) (x ∷ r) e = let h = walk-length k m r e in omega arith
@@ -116,21 +117,21 @@ walk-length k zero [] e = omega arith
 walk-length zero zero (x ∷ r) e = not-whole tooMany e (inr (inr refl))
 walk-length (suc k) zero (x ∷ r) e = go (λ m z. walk-length k m r z) (firstPayload (x ∷ r)) e
   where
-    at : ((m : ℕ) → walk k m r .end ≡ whole → length r ≤ m + 213 * length (walk k m r .ops)) → (p : Bytes) (q : Option Op) → decodePayload p ≡ q → caseOption q (stop undecodable) (λ o. after o (walk k (7 + length p) r)) .end ≡ whole →
-        suc (length r) ≤ 0 + 213 * length (caseOption q (stop undecodable) (λ o. after o (walk k (7 + length p) r)) .ops)
+    at : ((m : ℕ) → walk k m r .end ≡ whole → length r ≤ m + 217 * length (walk k m r .ops)) → (p : Bytes) (q : Option Op) → decodePayload p ≡ q → caseOption q (stop undecodable) (λ o. after o (walk k (7 + length p) r)) .end ≡ whole →
+        suc (length r) ≤ 0 + 217 * length (caseOption q (stop undecodable) (λ o. after o (walk k (7 + length p) r)) .ops)
     at ih p none z e = not-whole undecodable e (inr (inl refl))
     at ih p (some o) z e = let a = ih (7 + length p) e in let b = decoded-length p o z in omega arith
 
-    go : ((m : ℕ) → walk k m r .end ≡ whole → length r ≤ m + 213 * length (walk k m r .ops)) → (q : Option Bytes) → caseOption q (stop truncated) (λ p. caseOption (decodePayload p) (stop undecodable) (λ o. after o (walk k (7 + length p) r))) .end ≡ whole →
-        suc (length r) ≤ 0 + 213 * length (caseOption q (stop truncated) (λ p. caseOption (decodePayload p) (stop undecodable) (λ o. after o (walk k (7 + length p) r))) .ops)
+    go : ((m : ℕ) → walk k m r .end ≡ whole → length r ≤ m + 217 * length (walk k m r .ops)) → (q : Option Bytes) → caseOption q (stop truncated) (λ p. caseOption (decodePayload p) (stop undecodable) (λ o. after o (walk k (7 + length p) r))) .end ≡ whole →
+        suc (length r) ≤ 0 + 217 * length (caseOption q (stop truncated) (λ p. caseOption (decodePayload p) (stop undecodable) (λ o. after o (walk k (7 + length p) r))) .ops)
     go ih none e = not-whole truncated e (inl refl)
     go ih (some p) e = at ih p (decodePayload p) refl e
 
-pub appended-length : (l : Bytes) (ops : List Op) (o : Op) → readJournal l ≡ recording ops whole → length ops < 32 → ValidOp o → length (appendOperation o l) ≤ 6824
+pub appended-length : (l : Bytes) (ops : List Op) (o : Op) → readJournal l ≡ recording ops whole → length ops < 32 → ValidOp o → length (appendOperation o l) ≤ logLimit
 unfolding appendOperation
 appended-length l ops o e h v =
     let p = journal-parts l ops e in
-    let a : length (drop 8 l) ≤ 0 + 213 * length (entries l .ops) = unfold entries in (walk-length 32 0 (drop 8 l) (p .3)) in
+    let a : length (drop 8 l) ≤ 0 + 217 * length (entries l .ops) = unfold entries in (walk-length 32 0 (drop 8 l) (p .3)) in
     let b : length (entries l .ops) ≡ length ops = ap length (p .2) in
     let c = payload-length o v in
     let d = length-append l (entry (encodePayload o)) in

@@ -35,25 +35,30 @@ Gives (refuse n) = n ≡ 0 → ⊥
 Gives (give u) = Good Valid u
 
 -- A transaction with room for one operation more.
-record Room (l : Option Bytes) : Type 0 where
-  ops : List Op
-  reads : journal l ≡ recording ops whole
-  fits : length ops < 32
+pub record Room (l : Option Bytes) : Type 0 where
+  pub ops : List Op
+  pub reads : journal l ≡ recording ops whole
+  pub fits : length ops < 32
 
-into : (s : Store) (r : Outcome) → (Room (s .log) → Gives r) → Gives (recordInto s r)
-into s r h = go (transaction s) refl
-  where
-    at : (o : List Op) → transaction s ≡ some o → (t : Bool) → leb 32 (length o) ≡ t → Gives (if_then_else_ t (refuse 5) r)
-    at o e true p = omega arith
-    at o e false p = h record { ops = o; reads = found-whole s o e; fits = let k = nltb→le 31 (length o) (rw p tt) in omega arith }
+-- What holds of an outcome, through the tests that come before it.
+module _ (P : Outcome → Type 0) where
+  pub into : (s : Store) (r : Outcome) → P (refuse 4) → P (refuse 5) → (Room (s .log) → P r) → P (recordInto s r)
+  into s r f k h = go (transaction s) refl
+    where
+      at : (o : List Op) → transaction s ≡ some o → (t : Bool) → leb 32 (length o) ≡ t → P (if_then_else_ t (refuse 5) r)
+      at o e true p = k
+      at o e false p = h record { ops = o; reads = found-whole s o e; fits = let k = nltb→le 31 (length o) (rw p tt) in omega arith }
 
-    go : (q : Option (List Op)) → transaction s ≡ q → Gives (caseOption q (refuse 4) (λ o. if_then_else_ (leb 32 (length o)) (refuse 5) r))
-    go none e = omega arith
-    go (some o) e = at o e (leb 32 (length o)) refl
+      go : (q : Option (List Op)) → transaction s ≡ q → P (caseOption q (refuse 4) (λ o. if_then_else_ (leb 32 (length o)) (refuse 5) r))
+      go none e = f
+      go (some o) e = at o e (leb 32 (length o)) refl
 
-passing : (t : Bool) (n : ℕ) (r : Outcome) → (n ≡ 0 → ⊥) → (t ≡ true → Gives r) → Gives (require t n r)
-passing true n r z h = h refl
-passing false n r z h = z
+  pub passing : (t : Bool) (n : ℕ) (r : Outcome) → P (refuse n) → (t ≡ true → P r) → P (require t n r)
+  passing true n r z h = h refl
+  passing false n r z h = z
+
+keeping : (s : Store) (r : Outcome) → (Room (s .log) → Gives r) → Gives (recordInto s r)
+keeping s r h = into Gives s r (omega arith) (omega arith) h
 
 append-good : (o : Op) (s : Store) → ValidOp o → Good Valid s → Room (s .log) → Good Valid (appended o s)
 append-good o s v g r = record { tree = g .tree; staging = g .staging; log = go (s .log) (r .reads) }
@@ -93,12 +98,13 @@ rollback-keeps s g = go (transaction s)
 
 pub write-keeps : (c key st : Name) (x : ℕ) (s : Store) → Good Valid s → Gives (recordWrite c key st x s)
 unfolding recordWrite
-write-keeps c key st x s g = into s _ λ r. passing (validName c && validName (lower key) && validName st) 6 _ (omega arith) λ v. passing _ 10 _ (omega arith) λ t.
+write-keeps c key st x s g =
+    keeping s _ λ r. passing Gives (validName c && validName (lower key) && validName st) 6 _ (omega arith) λ v. passing Gives _ 10 _ (omega arith) λ t.
     let a = and-both (validName c && validName (lower key)) (validName st) v in
     let b = and-both (validName c) (validName (lower key)) (a .0) in
     let k = and-both (not (isSome (look ([], st) (s .staging))) && not (leb 32 (length (s .staging)))) (validNumber x) t in
     let m = and-both (not (isSome (look ([], st) (s .staging)))) (not (leb 32 (length (s .staging)))) (k .0) in
-    append-good (write (record { collection = c; key = lower key; staged = st })) (staged-in x) (b .0, b .1, a .1)
+    append-good (write (record { collection = c; key = lower key; staged = st; mark = some (isSome (look (c, lower key) (s .tree))) })) (staged-in x) (b .0, b .1, a .1)
     (record { tree = g .tree; staging = staging-put (s .staging) st x (g .staging) (a .1) (k .1) (few (leb 32 (length (s .staging))) refl (m .1)); log = g .log }) r
   where
     staged-in : ℕ → Store
@@ -136,27 +142,34 @@ case-keeps c k s vc v g = go (look (c, k) (s .tree)) (otherCase k (files c (s .t
 
 pub delete-keeps : (c key : Name) (s : Store) → Good Valid s → Gives (recordDelete c key s)
 unfolding recordDelete
-delete-keeps c key s g = into s _ λ r. passing (validName c && validName (lower key)) 6 _ (omega arith) λ v.
+delete-keeps c key s g = keeping s _ λ r. passing Gives (validName c && validName (lower key)) 6 _ (omega arith) λ v.
     let a = and-both (validName c) (validName (lower key)) v in
     let h = case-keeps c (lower key) s (a .0) (a .1) g in
-    passing (isSome (look (c, lower key) (caseRenamed c (lower key) s .tree))) 8 (give (appended (delete c (lower key)) (caseRenamed c (lower key) s))) (omega arith) λ t.
+    let u = caseRenamed c (lower key) s in
+    passing Gives (isSome (look (c, lower key) (u .tree))) 8 (give (appended (delete c (lower key)) u)) (omega arith) λ t.
     append-good (delete c (lower key)) (caseRenamed c (lower key) s) (a .0, a .1) (h .0) (subst Room (sym (h .1)) r)
 
 pub delete-all-keeps : (c : Name) (s : Store) → Good Valid s → Gives (recordDeleteAll c s)
 unfolding recordDeleteAll
-delete-all-keeps c s g = into s _ λ r. passing (validName c) 6 _ (omega arith) λ v. append-good (deleteAll c) s v g r
+delete-all-keeps c s g = keeping s _ λ r. passing Gives (validName c) 6 _ (omega arith) λ v. append-good (deleteAll c) s v g r
 
 pub create-keeps : (c : Name) (s : Store) → Good Valid s → Gives (recordCreate c s)
 unfolding recordCreate
-create-keeps c s g = into s _ λ r. passing (validName c) 6 _ (omega arith) λ v. passing (not (hasDir c s)) 9 (give (appended (createCollection c) s)) (omega arith) λ t. append-good (createCollection c) s v g r
+create-keeps c s g =
+    keeping s _ λ r. passing Gives (validName c) 6 _ (omega arith) λ v.
+    passing Gives (not (hasDir c s)) 9 (give (appended (createCollection c) s)) (omega arith) λ t. append-good (createCollection c) s v g r
 
 pub delete-collection-keeps : (c : Name) (s : Store) → Good Valid s → Gives (recordDeleteCollection c s)
 unfolding recordDeleteCollection
-delete-collection-keeps c s g = into s _ λ r. passing (validName c) 6 _ (omega arith) λ v. passing (hasDir c s) 7 (give (appended (deleteCollection c) s)) (omega arith) λ t. append-good (deleteCollection c) s v g r
+delete-collection-keeps c s g =
+    keeping s _ λ r. passing Gives (validName c) 6 _ (omega arith) λ v.
+    passing Gives (hasDir c s) 7 (give (appended (deleteCollection c) s)) (omega arith) λ t. append-good (deleteCollection c) s v g r
 
 pub copy-keeps : (a b : Name) (s : Store) → Good Valid s → Gives (recordCopy a b s)
 unfolding recordCopy
-copy-keeps a b s g = into s _ λ r. passing (validName a) 6 _ (omega arith) λ v. passing (hasDir a s) 7 (require (validName b) 6 copied) (omega arith) λ t. passing (validName b) 6 copied (omega arith) λ w. append-good (copyCollection a b (hasDir b s)) s (v, w) g r
+copy-keeps a b s g =
+    keeping s _ λ r. passing Gives (validName a) 6 _ (omega arith) λ v. passing Gives (hasDir a s) 7 (require (validName b) 6 copied) (omega arith) λ t.
+    passing Gives (validName b) 6 copied (omega arith) λ w. append-good (copyCollection a b (hasDir b s)) s (v, w) g r
   where
     copied : Outcome
     copied = give (appended (copyCollection a b (hasDir b s)) s)

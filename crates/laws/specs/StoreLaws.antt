@@ -8,6 +8,7 @@ use mathlib.Core.Bool.{true}
 use mathlib.Core.Logic.{_⊎_, inl, inr}
 use lib.ListN.{length, length-drop}
 use lib.Dec.{leb}
+use Rattle.model.specs.Limits.{logLimit}
 use Rattle.model.specs.Order.{Cmp, lt, eq, gt, Name, Key, cmpName, cmpKey}
 use Rattle.laws.specs.OrderLaws.{nameLaws, keyLaws, lt≢eq, gt≢eq}
 use Rattle.model.specs.Order.{caseCmp}
@@ -43,7 +44,7 @@ pub record Staging (m : Map) : Type 0 where
 
 abbrev pub LogFits : Option Bytes → Type 0
 LogFits none = Unit {0}
-LogFits (some l) = length l ≤ 6824
+LogFits (some l) = length l ≤ logLimit
 
 -- Good Valid s is well-formedness; Good Restored s allows two names more.
 pub record Good (N : Name → Type 0) (s : Store) : Type 0 where
@@ -59,13 +60,13 @@ good-staged : (n : Node) → StagedGood (n .0) (n .1) → validStaged n ≡ true
 unfolding validStaged
 good-staged n g = and-made _ (validNumber (n .1)) (and-made (sameBytes (n .0 .0) []) (validName (n .0 .1)) (rw (g .bare)) (g .name)) (g .number)
 
-log-fits : (l : Option Bytes) → caseOption l true (λ l. leb (length l) 6824) ≡ true → LogFits l
+log-fits : (l : Option Bytes) → caseOption l true (λ l. leb (length l) logLimit) ≡ true → LogFits l
 log-fits none e = tt
-log-fits (some l) e = leb-le (length l) 6824 e
+log-fits (some l) e = leb-le (length l) logLimit e
 
-pub fits-log : (l : Option Bytes) → LogFits l → caseOption l true (λ l. leb (length l) 6824) ≡ true
+pub fits-log : (l : Option Bytes) → LogFits l → caseOption l true (λ l. leb (length l) logLimit) ≡ true
 fits-log none e = refl
-fits-log (some l) e = le-leb (length l) 6824 e
+fits-log (some l) e = le-leb (length l) logLimit e
 
 pub good : (s : Store) → wellFormed s ≡ true → Good Valid s
 good s e =
@@ -147,7 +148,7 @@ tree-del {N} t d f g h = record {
     at c k y o = record { dir = o .dir; zeroed = o .zeroed; name = o .name; number = o .number; inside = λ q. keep c (o .inside q) }
 
 -- A directory removed with its files.
-look-drop-other : (d : Name) (j : Key) (m : Map) → (d ≡ j .0 → ⊥) → look j (removeDir d m) ≡ look j m
+pub look-drop-other : (d : Name) (j : Key) (m : Map) → (d ≡ j .0 → ⊥) → look j (removeDir d m) ≡ look j m
 unfolding removeDir
 look-drop-other d j [] h = refl
 look-drop-other d j (n ∷ r) h = go (look-drop-other d j r h) (cmpName d (n .0 .0)) refl
@@ -157,7 +158,7 @@ look-drop-other d j (n ∷ r) h = go (look-drop-other d j r h) (cmpName d (n .0 
     go ih eq e = ih ∙ sym (look-tail j n r (λ p. h (nameLaws .equal d (n .0 .0) e ∙ sym (ap (λ (k : Key). k .0) p))))
     go ih gt e = unfold look in (rw ih)
 
-look-drop-same : (d : Name) (j : Key) (m : Map) → d ≡ j .0 → look j (removeDir d m) ≡ none
+pub look-drop-same : (d : Name) (j : Key) (m : Map) → d ≡ j .0 → look j (removeDir d m) ≡ none
 unfolding removeDir
 look-drop-same d j [] h = unfold look in refl
 look-drop-same d j (n ∷ r) h = go (look-drop-same d j r h) (cmpName d (n .0 .0)) refl
@@ -315,7 +316,7 @@ module _ (a b : Name) (apart : a ≡ b → ⊥) where
       go (inl h) = ap (look (c, f)) (h .1)
       go (inr h) = ap (look (c, f)) (h .1) ∙ look-put-other (b, n .0 .1) (c, f) (n .1) (del (n .0) t) (λ e. q (first e)) ∙ look-del-other (n .0) (c, f) t (λ e. p (first e ∙ sym (h .0)))
 
-  look-move-from : (f : Name) (r t : Map) → (look (a, f) t ≡ none) ⊎ Has (a, f) r → look (a, f) (renameDir a b r t) ≡ none
+  pub look-move-from : (f : Name) (r t : Map) → (look (a, f) t ≡ none) ⊎ Has (a, f) r → look (a, f) (renameDir a b r t) ≡ none
   unfolding renameDir moved
   look-move-from f [] t (inl e) = e
   look-move-from f [] t (inr h) = unfold look in (none≢some (h .1))
@@ -350,7 +351,7 @@ module _ (a b : Name) (apart : a ≡ b → ⊥) where
           ∙ look-del-other (n .0) (b, f) t (λ p. apart (k .0 ∙ sym (first p))) in
           rw (look-tail (a, f) n r e, z)
 
-  sorted-move : (r t : Map) → Sorted t → Sorted (renameDir a b r t)
+  pub sorted-move : (r t : Map) → Sorted t → Sorted (renameDir a b r t)
   unfolding renameDir moved
   sorted-move [] t s = s
   sorted-move (n ∷ r) t s = sorted-move r (moved n t) (go (moved-as n t))

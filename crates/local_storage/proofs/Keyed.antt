@@ -22,7 +22,7 @@ use Rattle.store.specs.Words.{Words}
 use Rattle.store.specs.Tables.{Table, tableOf, mapOf, SoundTable}
 use Rattle.store.specs.Stores.{LentStore, storeIn, storeOf, SoundStore}
 use Rattle.store.specs.declared.Store.{Store}
-use Rattle.transaction.specs.declared.Operation.the-variants.{Write, Delete}
+use Rattle.transaction.specs.declared.Operation.the-variants.{Delete, MarkedWrite}
 use Rattle.local_collection.specs.Keys.{Normalized}
 use Rattle.local_storage.specs.declared.LocalStorage.{LocalStorage}
 use Rattle.local_storage.specs.declared.Recorded.{Recorded}
@@ -114,8 +114,10 @@ module _ {src : Bytes} {tree staging : Words} {self : LocalStorage} {r : Recorde
       unfolding recordWrite canStage
       write-10 q e = admitted (a tree staging) _ z (holds 6 _ (sym (w .valid) ∙ not-false v h) (fails _ (untouched g) (can-add x (mapOf src (tableOf staging (self .store .staging))) w h p (not-true b q)) (omega arith) e))
 
-      pub write-0 : {staging' : Words} {s : Store} → not b ≡ false → Staged src t x (storeIn tree staging (self .store)) (storeIn tree staging' s) → r ≡ recordedIn (record { store = s }) (Write d f t) → Answers src (recordWrite c k i x (storageOf src tree staging self)) tree staging self tree staging' r
+      pub write-0 : {staging' : Words} {s : Store} {y : Bool} → not b ≡ false → y ≡ isSome (look (nameOf src d, nameOf src f) (mapOf src (tableOf tree (self .store .tree)))) →
+          Staged src t x (storeIn tree staging (self .store)) (storeIn tree staging' s) → r ≡ recordedIn (record { store = s }) (MarkedWrite d f t y) →
+          Answers src (recordWrite c k i x (storageOf src tree staging self)) tree staging self tree staging' r
       unfolding recordWrite canStage
-      write-0 q m e =
+      write-0 {y = y} q l m e =
           admitted (a tree staging) _ z (holds 6 _ (sym (w .valid) ∙ not-false v h) (holds 10 _ (can-add x (mapOf src (tableOf staging (self .store .staging))) w h p (not-false b q)) (accepted (m .sound) e (w .names (not-false v h) .sound, (w .keys (not-false v h) .sound, w .staged (not-false v h) .sound))
-          (rw (← w .names (not-false v h) .same, ← w .keys (not-false v h) .same, ← w .staged (not-false v h) .same) (ap (λ (j : model.Store). give (appended (write (record { collection = nameOf src d; key = nameOf src f; staged = nameOf src t })) j)) (sym (m .same)))))))
+          (rw (← w .names (not-false v h) .same, ← w .keys (not-false v h) .same, ← w .staged (not-false v h) .same, ← l) (ap (λ (j : model.Store). give (appended (write (record { collection = nameOf src d; key = nameOf src f; staged = nameOf src t; mark = some y })) j)) (sym (m .same)))))))

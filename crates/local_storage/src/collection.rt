@@ -58,10 +58,11 @@ fn stage(src: &[u8], staging: &mut Nodes, s: Store, staged: NameRef, number: u32
 }
 
 impl LocalStorage {
-    // 4, 5, 6, 10.
+    // 4, 5, 6, 10. 02, item 4: "every Write is recorded as kind 7", its mark 1 "if the key's file stood when it was recorded, else 0".
     pub fn write(
         self,
         src: &[u8],
+        tree: &Nodes,
         staging: &mut Nodes,
         valid: bool,
         collection: NameRef,
@@ -69,8 +70,8 @@ impl LocalStorage {
         staged: NameRef,
         number: u32,
     ) -> Recorded
-        requires { ⌜ (Readable (now src) (self .store .log) × SoundTable (now src) (tableOf (now staging) (self .store .staging))) × (valid ≡ true → Sound (now src) collection × (Sound (now src) key × Sound (now src) staged)) ⌝ }
-        ensures { λ r. ⌜ ((tree : Words) → SoundStore (now (src .entry)) (storeIn tree (now (staging .entry)) (self .store)) → (c k f : Name) → GivenWrite (now (src .entry)) valid collection key staged c k f → Answers (now (src .entry)) (recordWrite c k f number (storageOf (now (src .entry)) tree (now (staging .entry)) self)) tree (now (staging .entry)) self tree (now (staging .exit)) r) ⌝ }
+        requires { ⌜ Ready (now src) (storeIn (now tree) (now staging) (self .store)) × (valid ≡ true → Sound (now src) collection × (Sound (now src) key × Sound (now src) staged)) ⌝ }
+        ensures { λ r. ⌜ ((c k f : Name) → GivenWrite (now (src .entry)) valid collection key staged c k f → Answers (now (src .entry)) (recordWrite c k f number (storageOf (now (src .entry)) (now (tree .entry)) (now (staging .entry)) self)) (now (tree .entry)) (now (staging .entry)) self (now (tree .entry)) (now (staging .exit)) r) ⌝ }
     {
         let n = crate::refusal(src, self.store);
         if n != 0 {
@@ -83,10 +84,11 @@ impl LocalStorage {
         if !can_stage(src, staging, s.staging, staged, number) {
             return crate::refused(self, 10);
         }
+        let stood = store::exists(src, tree, s.tree, collection, key);
         let t = stage(src, staging, s, staged, number);
         crate::accepted(
             LocalStorage { store: t },
-            Operation::Write(collection, key, staged),
+            Operation::MarkedWrite(collection, key, staged, stood),
         )
     }
 

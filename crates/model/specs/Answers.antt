@@ -39,7 +39,7 @@ outcome (give s) = answer 0 s
 abbrev pub overwritten : Bytes → Bytes → Bytes
 overwritten written out = written ++ drop (length written) out
 
--- 01, Sixteen numbers: "1. The image breaks its layout or a limit. 2. The lent output has under 19,262 bytes"; then what follows.
+-- 01, Sixteen numbers: "1. The image breaks its layout or a limit. 2. The lent output has under" 19,390 bytes (02, item 4); then what follows.
 abbrev pub onImage : Bytes → Bool → (Store → Answer) → Answer
 onImage b room next = caseOption (decode b) (refusal 1) λ s. if room then next s else refusal 2
 

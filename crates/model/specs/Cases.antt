@@ -1,4 +1,5 @@
--- The worked cases of document 01, computed: each row's name, what the definitions compute, and what 01 says. [P] as in 01.
+-- The worked cases of document 01, computed: each row's name, what the definitions compute, and what 01 says. [P] as in 01. Rows that begin with
+-- 02 are of document 02's requests.
 use mathlib.Core.Path.{_≡_, refl, sym, ap₂, subst}
 use Prim.Native.Nat.{ℕ, zero, suc, _+_, _*_, _-_}
 use Prim.Native.Char.{code}
@@ -12,7 +13,7 @@ use lib.Dec.{T, leb, eqb, eqb→eq}
 use Rattle.model.specs.Limits.{imageRoom, keysRoom, stepRoom}
 use Rattle.model.specs.Order.{Name, cmpKey}
 use Rattle.model.specs.Map.{look, put, del}
-use Rattle.model.specs.Base.{Bytes, caseOption, if_then_else_, isSome, allOf}
+use Rattle.model.specs.Base.{Bytes, caseOption, if_then_else_, isSome, allOf, flatMap}
 use Rattle.model.specs.Name.{lastDot, extension, stripExtension, backupExtension, stagingExtension, backupName, originalName, stripTmp, isBackup, isNameByte, refusedNames, validName, lowerByte, lower}
 use Rattle.model.specs.Crc32.{polynomial, generator, addFront, divide, remainder, bitsOf, ofBits, messageBits, complementFirst, zeros, dividend, ieeeCrc32, crc32, register, feedByte, shifts, shift, addPolynomial}
 use Rattle.model.specs.Field.{littleEndian, fromLittleEndian, encodeField, encodeFields, fieldsFrom, decodeFields, hasTag}
@@ -94,9 +95,23 @@ db7 : Bytes
 unfolding hex
 db7 = hex "10 02 00 64 62 11 05 00 07 00 00 00 61"
 
+-- The ten-step case of 01 in an old log, of kind 1; the same as it is recorded now, of kind 7.
+toFile : Option Bool → String → String → Op
+unfolding text
+toFile mark key staged = operation.write (record { collection = text "db"; key = text key; staged = text staged; mark = mark })
+
 tenSteps : Bytes
+unfolding text toFile
+tenSteps = encode record {
+  tree = ((text "db", []), 0) ∷ ((text "db", text "a"), 7) ∷ [];
+  staging = (([], text "s.tmp"), 9) ∷ [];
+  log = some (appendOperation (toFile none "a" "s.tmp") (header 0));
+  openMark = true;
+}
+
+markedTen : Bytes
 unfolding beginOn writeOn db7
-tenSteps = writeOn (beginOn db7) "db" "a" "s.tmp" 9
+markedTen = writeOn (beginOn db7) "db" "a" "s.tmp" 9
 
 twoWrites : Bytes
 unfolding beginOn writeOn db7
@@ -114,17 +129,23 @@ deletedCopied : Bytes
 unfolding text beginOn db7
 deletedCopied = copyCollection (text "db") (text "d") (deleteCollection (text "db") (beginOn db7) imageRoom .image) imageRoom .image
 
--- db/a=1, staging file s=2, and Writes of s to a and of s to b.
-toFile : String → Op
-unfolding text
-toFile key = operation.write (record { collection = text "db"; key = text key; staged = text "s" })
+-- db/a=7 and a Committing log of a Write to a, with one byte behind it.
+truncatedWrite : Option Bool → Bytes
+unfolding text hex toFile
+truncatedWrite mark = encode record {
+  tree = ((text "db", []), 0) ∷ ((text "db", text "a"), 7) ∷ [];
+  staging = [];
+  log = some (appendOperation (toFile mark "a" "s") (header 1) ++ hex "00");
+  openMark = false;
+}
 
-failingWrite : Bytes
+-- db/a=1, staging file s=2, and Writes of s to a and of s to b: of kind 1, or marked.
+failingWrite : Option Bool → Option Bool → Bytes
 unfolding text toFile
-failingWrite = encode record {
+failingWrite a b = encode record {
   tree = ((text "db", []), 0) ∷ ((text "db", text "a"), 1) ∷ [];
   staging = (([], text "s"), 2) ∷ [];
-  log = some (appendOperation (toFile "b") (appendOperation (toFile "a") (header 0)));
+  log = some (appendOperation (toFile b "b" "s") (appendOperation (toFile a "a" "s") (header 0)));
   openMark = true;
 }
 
@@ -153,7 +174,7 @@ row : String → Bytes → Bytes → Row
 row w c s = record { what = w; computed = c; stated = s }
 
 table : List Row
-unfolding text hex row bit flat readLog times failingWrite db7 tenSteps twoWrites writeAndDelete copyToItself deletedCopied upperK kDeleted bakBak dotBak
+unfolding text hex row bit flat readLog times failingWrite db7 tenSteps markedTen truncatedWrite twoWrites writeAndDelete copyToItself deletedCopied upperK kDeleted bakBak dotBak
 table =
     row "an empty name is refused [P]" (bit (validName [])) (hex "00")
     ∷ row "a.bak is a backup [P]" (bit (isBackup (text "a.bak"))) (hex "01")
@@ -186,7 +207,7 @@ table =
     ∷ row "a truncated Committing log and nothing done: the log is discarded" (flat (recover (db7 ++ hex "13 09 00" ++ header 1 ++ hex "00") imageRoom)) (hex "00" ++ db7)
     ∷ row "CreateCollection of db [P]" (encodePayload (operation.createCollection (text "db"))) (hex "01 01 00 04 02 02 00 64 62")
     ∷ row "the store db/a=7, from its image and back [P]" (caseOption (decode db7) [] encode) (hex "10 02 00 64 62 11 05 00 07 00 00 00 61")
-    ∷ row "writing K records k [P]" (flat (write (text "db") (text "K") (text "s") 9 (beginOn db7) imageRoom)) (hex "00" ++ db7 ++ hex "12 05 00 09 00 00 00 73 13 21 00 CA 00 00 00 3B 2D CC 70 08 FB 66 DA 11 00 00 00 01 01 00 01 02 02 00 64 62 03 01 00 6B 04 01 00 73 14 00 00")
+    ∷ row "writing K records k [P]" (flat (write (text "db") (text "K") (text "s") 9 (beginOn db7) imageRoom)) (hex "00" ++ db7 ++ hex "12 05 00 09 00 00 00 73 13 25 00 CA 00 00 00 3B 2D CC 70 22 72 A9 9A 15 00 00 00 01 01 00 07 02 02 00 64 62 03 01 00 6B 04 01 00 73 07 01 00 00 14 00 00")
     ∷ row "deleting k where only K stands renames K to k at once; a rollback leaves it so" (flat (rollback kDeleted imageRoom)) (hex "00 10 02 00 64 62 11 05 00 07 00 00 00 6B")
     ∷ row "deleting all in a missing collection is recorded" (deleteAll (text "d") (beginOn db7) imageRoom .number ∷ []) (hex "00")
     ∷ row "files A and a are listed as a twice" (flat (listKeys (text "db") (hex "10 02 00 64 62 11 05 00 01 00 00 00 41 11 05 00 02 00 00 00 61") keysRoom)) (hex "00 03 01 00 61 03 01 00 61")
@@ -214,7 +235,15 @@ table =
     ∷ row "recovery after 8 steps: a=9 [P]" (flat (recover (stepOn tenSteps 8 .image) imageRoom)) (hex "00 10 02 00 64 62 11 05 00 09 00 00 00 61")
     ∷ row "recovery after 10 steps: a=9" (flat (recover (stepOn tenSteps 10 .image) imageRoom)) (hex "00 10 02 00 64 62 11 05 00 09 00 00 00 61")
     ∷ row "the listing of the ten-step case cut after 4" (listAt tenSteps 4) (text "answer 0\ndb/\ndb/a 7\n")
-    ∷ row "a commit that fails at its second Write (14) and is cut after 7 steps: a is gone, so demand 3 leaves failing commits out" (listAt failingWrite 7) (text "answer 0\ndb/\n")
+    ∷ row "a commit that fails at its second Write (14) and is cut after 7 steps: a is gone, so demand 3 leaves failing commits out" (listAt (failingWrite none none) 7) (text "answer 0\ndb/\n")
+    ∷ row "02: the Write of the ten-step case is recorded as kind 7, mark 1" (readLog (appendOperation (toFile (some true) "a" "s.tmp") (header 0)) ++ encodePayload (toFile (some true) "a" "s")) (hex "00 01 00 01 01 00 07 02 02 00 64 62 03 01 00 61 04 01 00 73 07 01 00 01")
+    ∷ row "02: a mark of 2 doesn't decode" (bit (isSome (decodePayload (hex "01 01 00 07 02 02 00 64 62 03 01 00 61 04 01 00 73 07 01 00 02")))) (hex "00")
+    ∷ row "02: the ten-step case as it is recorded now: recovery after 0 to 7 steps gives a=7, after 8 to 10 a=9"
+    (flatMap (listAt markedTen) (0 ∷ 1 ∷ 2 ∷ 3 ∷ 4 ∷ 5 ∷ 6 ∷ 7 ∷ 8 ∷ 9 ∷ 10 ∷ [])) (times 8 (text "answer 0\ndb/\ndb/a 7\n") ++ times 3 (text "answer 0\ndb/\ndb/a 9\n"))
+    ∷ row "02: a truncated Committing log, a Write of kind 1 to an existing key, nothing done: 13" (flat (recover (truncatedWrite none) imageRoom)) (hex "0D")
+    ∷ row "02: of kind 7, mark 1: its target is not counted, and the log is discarded" (flat (recover (truncatedWrite (some true)) imageRoom)) (hex "00" ++ db7)
+    ∷ row "02: of kind 7, mark 0: 13" (flat (recover (truncatedWrite (some false)) imageRoom)) (hex "0D")
+    ∷ row "02: the failing commit, of marked Writes, cut after 7 steps: a=1" (listAt (failingWrite (some true) (some false)) 7) (text "answer 0\ndb/\ndb/a 1\n")
     ∷ row "a restore of ..bak.bak gives the refused name ..bak" (flat (recover bakBak imageRoom)) (hex "00" ++ dotBak)
     ∷ row "so that image is refused with 1" (flat (recover dotBak imageRoom)) (hex "01")
     ∷ []
@@ -245,7 +274,7 @@ agree (r ∷ l) e = let h = both (equal (r .computed) (r .stated)) _ e in ap₂ 
 
 -- Every row computes to what is stated.
 worked : map (λ r. r .computed) table ≡ map (λ r. r .stated) table
-unfolding table equal text hex pairs digit bit flat readLog readAs ending times beginOn writeOn stepOn listAt row toFile failingWrite db7 tenSteps twoWrites writeAndDelete copyToItself deletedCopied upperK kDeleted bakBak dotBak
+unfolding table equal text hex pairs digit bit flat readLog readAs ending times beginOn writeOn stepOn listAt row toFile failingWrite db7 tenSteps markedTen truncatedWrite twoWrites writeAndDelete copyToItself deletedCopied upperK kDeleted bakBak dotBak
     polynomial generator addFront divide remainder bitsOf ofBits messageBits complementFirst zeros dividend ieeeCrc32 xor crc32 register feedByte shifts shift addPolynomial
     littleEndian fromLittleEndian encodeField encodeFields fieldsFrom decodeFields hasTag
     lastDot extension stripExtension backupExtension stagingExtension backupName originalName stripTmp isNameByte refusedNames validName lowerByte lower

@@ -8,7 +8,7 @@ use Rattle.model.specs.Order.{Name, Key}
 use Rattle.model.specs.Map.{Map, look}
 use Rattle.model.specs.Base.{caseOption, if_then_else_, ifEmpty, isSome, ifPresent, ifMissing, isIn, anyOf}
 use Rattle.model.specs.Name.{backupName, originalName, stripTmp}
-use Rattle.model.specs.Operation.{Op, Write, write, delete, deleteAll, createCollection, deleteCollection, copyCollection, target, backup}
+use Rattle.model.specs.Operation.{Op, Write, write, delete, deleteAll, createCollection, deleteCollection, copyCollection, target, backup, stood}
 use Rattle.model.specs.Log.{Journal, absent, recording, committing, journal, opsOf, Ending, whole, truncated, undecodable, tooMany}
 use Rattle.model.specs.Store.{Store, dirs, files, stagingNames, hasBackupFiles}
 use Rattle.model.specs.Step.{Step, rewriteHeader, syncStaging, syncLog, removeLog, syncJournal, syncCollections, makeDirectory, renameFile, moveStaged, renameDirectory, copyFile, removeFile, removeDirectory, removeStaging, syncDirectory, apply, applyAll, Fault, stepFault}
@@ -45,9 +45,11 @@ opSteps (copyCollection a b existed) s =
     )
     s
 
--- What removes the new artifact of an operation (`remove_new_artifacts`).
+-- What removes the new artifact of an operation (`remove_new_artifacts`). 02, item 4: the target of a Write is new "exactly if it stands, the
+-- mark is 0 and no backup of it stands".
 unfoldable pub undoSteps : Op → Store → List Step
-undoSteps (write w) s = ifPresent (look (target w) (s .tree)) (ifMissing (look (backup w) (s .tree)) (removeFile (w .collection) (w .key) ∷ []))
+undoSteps (write w) s =
+    if stood w then [] else ifPresent (look (target w) (s .tree)) (ifMissing (look (backup w) (s .tree)) (removeFile (w .collection) (w .key) ∷ []))
 undoSteps (delete c k) s = []
 undoSteps (deleteAll c) s = []
 undoSteps (createCollection c) s = ifPresent (look (c, []) (s .tree)) (ifEmpty (files c (s .tree)) (removeDirectory c ∷ []) [])
@@ -155,9 +157,10 @@ withoutMarkAtEnd (suc n) s = s
 unfoldable pub committedAt : ℕ → Store → Store
 committedAt n s = withoutMarkAtEnd (length (commitPlan s) - n) (applyAll (take n (commitPlan s)) s)
 
--- `has_new_artifacts`. 01, Corners, recovery.rs: "A Write to an existing key counts as a new artifact, though nothing was done."
+-- `has_new_artifacts`. 01, Corners, recovery.rs: "A Write to an existing key counts as a new artifact, though nothing was done." A marked one does
+-- not, where its mark is 1 (02, item 4: "to remove or to count it").
 unfoldable pub isNewArtifact : Map → Op → Bool
-isNewArtifact t (write w) = isSome (look (target w) t) && not (isSome (look (backup w) t))
+isNewArtifact t (write w) = not (stood w) && isSome (look (target w) t) && not (isSome (look (backup w) t))
 isNewArtifact t (delete c k) = false
 isNewArtifact t (deleteAll c) = false
 isNewArtifact t (createCollection c) = isSome (look (c, []) t)

@@ -65,7 +65,7 @@ unfoldable pub ascending : Map → Bool
 ascending [] = true
 ascending (n ∷ r) = belowFirst (n .0) r && ascending r
 
--- 01, How a store is handed over: "At most 16 directories, 128 files, 32 staging files, 6,824 log bytes".
+-- 01, How a store is handed over: "At most 16 directories, 128 files, 32 staging files", and the log's limit (02, item 4).
 unfoldable pub wellFormed : Store → Bool
 wellFormed s =
     ascending (s .tree) && validNodes [] (s .tree) && leb (length (dirs (s .tree))) dirLimit && leb (fileCount (s .tree)) fileLimit

@@ -34,8 +34,9 @@ module _ (s : Store) where
       go none = ap back (look-put-other (c, []) (c, k) 0 (s .tree) (λ e. h (ap (λ (q : Key). q .1) e)))
       go (some x) = refl
 
-  pub by-write : (c k f : Name) → (k ≡ [] → ⊥) → seq apply (seq apply (makeMissing c) (backUpStanding c k)) (single (moveStaged f c k)) s ≡ opSteps (write (record { collection = c; key = k; staged = f })) s
-  by-write c k f h = unfold seq in (ap (λ (xs : List Step). (makeMissing c s ++ xs) ++ moveStaged f c k ∷ []) (kept-alike c k h) ∙ (unfold opSteps makeMissing backUpStanding in refl))
+  pub by-write : (c k f : Name) (mark : Option Bool) → (k ≡ [] → ⊥) →
+      seq apply (seq apply (makeMissing c) (backUpStanding c k)) (single (moveStaged f c k)) s ≡ opSteps (write (record { collection = c; key = k; staged = f; mark = mark })) s
+  by-write c k f mark h = unfold seq in (ap (λ (xs : List Step). (makeMissing c s ++ xs) ++ moveStaged f c k ∷ []) (kept-alike c k h) ∙ (unfold opSteps makeMissing backUpStanding in refl))
 
   pub by-delete : (c k : Name) → backUpStanding c k s ≡ opSteps (delete c k) s
   unfolding backUpStanding opSteps

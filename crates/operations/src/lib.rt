@@ -1,5 +1,6 @@
 // What the operations of a log do at commit: local_storage.rs, `apply_operations`. Each step may fail; behind a failing step no other is
 // done (`steps::attempt`).
+ghost use mathlib.Core.Option.{Option};
 ghost use mathlib.Core.Bool.{Bool};
 ghost use Rattle.model.specs.Name.{backupName};
 ghost use Rattle.model.specs.Operation.{write, copyCollection};
@@ -112,7 +113,7 @@ fn make_missing(src: &[u8], tree: &mut Nodes, staging: &mut Nodes, run: Run, dir
     run
 }
 
-// A Write: the collection is made where it is missing, a file of that name is backed up, the staging file takes its place.
+// A Write, marked or not: the collection is made where it is missing, a file of that name is backed up, the staging file takes its place.
 fn write(
     src: &[u8],
     tree: &mut Nodes,
@@ -123,7 +124,7 @@ fn write(
     staged: NameRef,
 ) -> Run
     requires { ⌜ SoundRun (now src) (runIn (now tree) (now staging) run) × (Sound (now src) dir × (FileName (now src) key × Sound (now src) staged)) ⌝ }
-    ensures { λ r. ⌜ Follows careful (now (src .entry)) (opSteps (write (record { collection = nameOf (now (src .entry)) dir; key = nameOf (now (src .entry)) key; staged = nameOf (now (src .entry)) staged }))) (runIn (now (tree .entry)) (now (staging .entry)) run) (runIn (now (tree .exit)) (now (staging .exit)) r) ⌝ }
+    ensures { λ r. ⌜ ((mark : Option Bool) → Follows careful (now (src .entry)) (opSteps (write (record { collection = nameOf (now (src .entry)) dir; key = nameOf (now (src .entry)) key; staged = nameOf (now (src .entry)) staged; mark = mark }))) (runIn (now (tree .entry)) (now (staging .entry)) run) (runIn (now (tree .exit)) (now (staging .exit)) r)) ⌝ }
 {
     let made = make_missing(src, tree, staging, run, dir);
     let kept = back_up_standing(src, tree, staging, made, dir, key);
@@ -223,6 +224,7 @@ pub fn apply_operation(
         Operation::CreateCollection(c) => make_missing(src, tree, staging, run, c),
         Operation::DeleteCollection(c) => back_up_standing_dir(src, tree, staging, run, c),
         Operation::CopyCollection(a, b, _) => copy_collection(src, tree, staging, run, a, b),
+        Operation::MarkedWrite(c, k, f, _) => write(src, tree, staging, run, c, k, f),
     }
 }
 

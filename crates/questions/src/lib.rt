@@ -1,8 +1,8 @@
 // Asks the exported entries what a list asks: the library of the programs corners and replay, which only test. It takes any bytes whatever.
 // Its contracts say where a field ends and how much is lent, and no more; what an entry answers is said in crate cda_storage.
 //
-// A list is a sequence of fields (01, How a store is handed over): 0x40, text to be printed; 0x41, a question whose answer is the original's;
-// 0x42, one whose answer document 01 alone decides. A question is itself a sequence of fields:
+// A list is a sequence of fields (01, How a store is handed over): 0x40, text to be printed; 0x41, a question whose answer is the original's, but
+// for the kinds and marks of Writes; 0x42, one whose answer documents 01 and 02 alone decide. A question is itself a sequence of fields:
 //
 //     0x01  the call, one byte: 1 begin, 2 write, 3 delete, 4 delete_all, 5 create_collection, 6 delete_collection, 7 copy_collection,
 //           8 rollback, 9 commit, 10 commit_step, 11 has_pending_work, 12 recover, 13 recover_step, 14 list_keys
@@ -24,7 +24,7 @@ pub const TEXT: u8 = 0x40;
 
 pub const ASKED: u8 = 0x41;
 
-pub const ASKED_BY_01: u8 = 0x42;
+pub const ASKED_BY_DOCUMENTS: u8 = 0x42;
 
 pub const CALL: u8 = 0x01;
 
@@ -43,11 +43,11 @@ const LENT: u8 = 0x07;
 const IMAGE: u8 = 0x08;
 
 // Ample outputs are longer than the least that an entry takes, and the arrays that are lent of are longer still.
-const AMPLE: usize = 19_267;
+const AMPLE: usize = 19_395;
 
 const AMPLE_STEP: usize = 200;
 
-pub const ROOM: usize = 19_300;
+pub const ROOM: usize = 19_430;
 
 pub const STEP_ROOM: usize = 300;
 

@@ -1,6 +1,7 @@
 -- Operations by their kind: new artifacts, and what undoes them.
 use mathlib.Core.Path.{_≡_, refl}
 use mathlib.Core.List.{[], _∷_}
+use mathlib.Core.Option.{none, some}
 use mathlib.Core.Bool.{Bool, true, false, not}
 use mathlib.Core.Logic.{inl, inr}
 use native.Mathlib.Omega.{arith}
@@ -10,7 +11,7 @@ use Rattle.model.specs.Order.{Name}
 use Rattle.model.specs.Map.{Map, look}
 use Rattle.model.specs.Base.{Bytes, isSome}
 use Rattle.model.specs.Name.{backupName}
-use Rattle.model.specs.Operation.{Op, write, createCollection, copyCollection}
+use Rattle.model.specs.Operation.{write, createCollection, copyCollection}
 use Rattle.model.specs.Store.{Store}
 use Rattle.model.specs.Plan.{isNewArtifact, undoSteps}
 use Rattle.spans.specs.declared.NameRef.{NameRef}
@@ -18,20 +19,32 @@ use Rattle.transaction.specs.Operations.{opOf}
 use Rattle.transaction.proofs.Operation.{the-type}
 use Rattle.transaction.specs.declared.Operation.{Operation}
 use Rattle.transaction.specs.declared.Operation.the-variants as code
-use Rattle.recovery.specs.Walks.{undoWrite, undoCreate, undoCopy}
+use Rattle.recovery.specs.Walks.{isNewFile, undoWrite, undoCreate, undoCopy}
 
 module _ (m : Map) where
+  module _ (c k : Name) where
+    pub file-new : {b : Bool} → isSome (look (c, k) m) ≡ true → b ≡ isSome (look (c, backupName k) m) → not b ≡ isNewFile m c k
+    unfolding isNewFile
+    file-new h e = rw (h, e)
+
+    pub file-old : isSome (look (c, k) m) ≡ false → false ≡ isNewFile m c k
+    unfolding isNewFile
+    file-old h = rw h
+
+  -- A Write of kind 1, and a marked one.
   module _ (c k s : Name) where
-    abbrev w : Op
-    w = write (record { collection = c; key = k; staged = s })
+    pub write-new : {b : Bool} → b ≡ isNewFile m c k → b ≡ isNewArtifact m (write (record { collection = c; key = k; staged = s; mark = none }))
+    unfolding isNewArtifact isNewFile
+    write-new e = e
 
-    pub write-new : {b : Bool} → isSome (look (c, k) m) ≡ true → b ≡ isSome (look (c, backupName k) m) → not b ≡ isNewArtifact m w
-    unfolding isNewArtifact
-    write-new h e = rw (h, e)
+    pub marked-new : (stood : Bool) {b : Bool} → stood ≡ false → b ≡ isNewFile m c k →
+        b ≡ isNewArtifact m (write (record { collection = c; key = k; staged = s; mark = some stood }))
+    unfolding isNewArtifact isNewFile
+    marked-new stood x e = rw x e
 
-    pub write-old : isSome (look (c, k) m) ≡ false → false ≡ isNewArtifact m w
+    pub marked-stood : (stood : Bool) → stood ≡ true → false ≡ isNewArtifact m (write (record { collection = c; key = k; staged = s; mark = some stood }))
     unfolding isNewArtifact
-    write-old h = rw h
+    marked-stood stood x = rw x
 
   pub create-new : (c : Name) {b : Bool} → b ≡ isSome (look (c, []) m) → b ≡ isNewArtifact m (createCollection c)
   unfolding isNewArtifact
@@ -52,9 +65,18 @@ module _ (m : Map) where
 
 -- The plan that undoes an operation.
 module _ (t : Store) where
-  pub by-write : (c k s : Name) → undoWrite c k t ≡ undoSteps (write (record { collection = c; key = k; staged = s })) t
+  pub by-write : (c k s : Name) → undoWrite c k t ≡ undoSteps (write (record { collection = c; key = k; staged = s; mark = none })) t
   unfolding undoWrite undoSteps
   by-write c k s = refl
+
+  pub by-marked : (c k s : Name) (stood : Bool) → stood ≡ false →
+      undoWrite c k t ≡ undoSteps (write (record { collection = c; key = k; staged = s; mark = some stood })) t
+  unfolding undoWrite undoSteps
+  by-marked c k s stood e = rw e
+
+  pub by-stood : (c k s : Name) (stood : Bool) → stood ≡ true → undoSteps (write (record { collection = c; key = k; staged = s; mark = some stood })) t ≡ []
+  unfolding undoSteps
+  by-stood c k s stood e = rw e
 
   pub by-create : (c : Name) → undoCreate c t ≡ undoSteps (createCollection c) t
   unfolding undoCreate undoSteps
@@ -83,6 +105,9 @@ module _ (P : Operation → Type 0) (d : (c k : NameRef) → P (code.Delete c k)
   quiet (code.CopyCollection b c x) (inl z) = absurd (omega arith)
   quiet (code.CopyCollection b c x) (inr (inl z)) = absurd (omega arith)
   quiet (code.CopyCollection b c x) (inr (inr z)) = absurd (omega arith)
+  quiet (code.MarkedWrite c k s x) (inl z) = absurd (omega arith)
+  quiet (code.MarkedWrite c k s x) (inr (inl z)) = absurd (omega arith)
+  quiet (code.MarkedWrite c k s x) (inr (inr z)) = absurd (omega arith)
 
 module _ (src : Bytes) where
   pub no-artifact : (m : Map) (o : Operation) → OneOf (1 ∷ 2 ∷ 4 ∷ []) (tagOf the-type o) → false ≡ isNewArtifact m (opOf src o)

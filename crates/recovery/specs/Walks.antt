@@ -1,14 +1,19 @@
--- What the small functions of recovery do, as plans. The model's plans are made of these (proofs/Plans.antt).
+-- What the small functions of recovery do, as plans. The model's plans are made of these.
 use mathlib.Core.List.{List, [], _∷_, reverse}
+use mathlib.Core.Bool.{Bool, not, _&&_}
 use Rattle.model.specs.Order.{Name}
-use Rattle.model.specs.Map.{look}
-use Rattle.model.specs.Base.{ifEmpty, ifPresent, ifMissing}
+use Rattle.model.specs.Map.{Map, look}
+use Rattle.model.specs.Base.{ifEmpty, isSome, ifPresent, ifMissing}
 use Rattle.model.specs.Name.{backupName}
 use Rattle.model.specs.Operation.{Op}
 use Rattle.model.specs.Store.{Store, files}
 use Rattle.model.specs.Step.{Step, removeFile, removeDirectory, removeLog, apply}
 use Rattle.model.specs.Plan.{inTurn, inSequence, undoSteps, restoreBackups, removeStagingFiles}
 use Rattle.plans.specs.Machine.{seq}
+
+-- A file stands whose backup does not.
+unfoldable pub isNewFile : Map → Name → Name → Bool
+isNewFile t c k = isSome (look (c, k) t) && not (isSome (look (c, backupName k) t))
 
 -- The plan of each file of d in turn, by the listing as it stands when the walk starts.
 unfoldable pub overFiles : (Name → Name → Store → List Step) → Name → Store → List Step

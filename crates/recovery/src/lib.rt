@@ -19,7 +19,7 @@ ghost use Rattle.steps.specs.Steps.{Fits};
 ghost use Rattle.steps.specs.CodeRuns.{runIn, SoundRun, Follows};
 ghost use Rattle.transaction.specs.Operations.{opOf, SoundOp};
 ghost use Rattle.wal.specs.Logs.{journalOf, endingOf, opsRead, entriesOf, SoundRead};
-ghost use Rattle.recovery.specs.Walks.{clearFile, clearDir, overFiles, undoWrite, undoCreate, undoCopy, undoAll, cleanUp};
+ghost use Rattle.recovery.specs.Walks.{isNewFile, clearFile, clearDir, overFiles, undoWrite, undoCreate, undoCopy, undoAll, cleanUp};
 ghost use Rattle.recovery.specs.Recoveries.{logPart, refusalOf, Recovers};
 use spans::BackupName;
 use spans::NameRef;
@@ -105,19 +105,25 @@ pub fn has_pending_work(src: &[u8], tree: &Nodes, staging: &Nodes, s: Store) -> 
     s.staging > 0
 }
 
+// Whether a file stands whose backup does not: the target of a Write that is not known to have stood before (02, item 4).
+fn is_new_file(src: &[u8], t: &Nodes, n: usize, dir: NameRef, file: NameRef) -> bool
+    requires { ⌜ SoundTable (now src) (tableOf (now t) n) × (Sound (now src) dir × Sound (now src) file) ⌝ }
+    ensures { λ r. ⌜ r ≡ isNewFile (mapOf (now (src .entry)) (tableOf (now (t .entry)) n)) (nameOf (now (src .entry)) dir) (nameOf (now (src .entry)) file) ⌝ }
+{
+    if store::exists(src, t, n, dir, file) {
+        return !has_backup(src, t, n, dir, file);
+    }
+    false
+}
+
 // Whether an operation seems to have been applied: `has_new_artifacts`, for one operation. 01, Corners, recovery.rs: "A Write to an
-// existing key counts as a new artifact, though nothing was done."
+// existing key counts as a new artifact, though nothing was done." Not so a marked one whose mark is 1 (02, item 4).
 pub fn is_new_artifact(src: &[u8], t: &Nodes, n: usize, op: Operation) -> bool
     requires { ⌜ SoundTable (now src) (tableOf (now t) n) × SoundOp (now src) op ⌝ }
     ensures { λ r. ⌜ r ≡ isNewArtifact (mapOf (now (src .entry)) (tableOf (now (t .entry)) n)) (opOf (now (src .entry)) op) ⌝ }
 {
     match op {
-        Operation::Write(c, k, _) => {
-            if store::exists(src, t, n, c, k) {
-                return !has_backup(src, t, n, c, k);
-            }
-            false
-        }
+        Operation::Write(c, k, _) => is_new_file(src, t, n, c, k),
         Operation::CreateCollection(c) => store::dir_exists(src, t, n, c),
         Operation::CopyCollection(_, b, existed) => {
             if existed {
@@ -127,6 +133,12 @@ pub fn is_new_artifact(src: &[u8], t: &Nodes, n: usize, op: Operation) -> bool
                 return !has_backup_dir(src, t, n, b);
             }
             false
+        }
+        Operation::MarkedWrite(c, k, _, stood) => {
+            if stood {
+                return false;
+            }
+            is_new_file(src, t, n, c, k)
         }
         Operation::Delete(_, _) | Operation::DeleteAll(_) | Operation::DeleteCollection(_) => false,
     }
@@ -227,6 +239,12 @@ pub fn undo_operation(
                 return run;
             }
             undo_copy(src, tree, staging, run, b)
+        }
+        Operation::MarkedWrite(c, k, _, stood) => {
+            if stood {
+                return run;
+            }
+            undo_write(src, tree, staging, run, c, k)
         }
         Operation::Delete(_, _) | Operation::DeleteAll(_) | Operation::DeleteCollection(_) => run,
     }

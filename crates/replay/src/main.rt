@@ -64,10 +64,10 @@ fn is_equal(q: &[u8]) -> bool {
 fn counted(t: Tally, tag: u8, buf: &[u8; 65536], len: usize) -> Tally {
     let q = wal::payload(buf, 0, len);
     match tag {
-        questions::ASKED | questions::ASKED_BY_01 => tally::counted(
+        questions::ASKED | questions::ASKED_BY_DOCUMENTS => tally::counted(
             t,
             is_equal(q),
-            tag == questions::ASKED_BY_01,
+            tag == questions::ASKED_BY_DOCUMENTS,
             questions::byte(q, questions::CALL),
             questions::byte(q, NUMBER),
         ),

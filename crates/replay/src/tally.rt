@@ -2,13 +2,13 @@
 ghost use Prim.Native.Nat.{_<_};
 use std::num::wrapping_add_u32;
 
-// Equal answers by entry and number, a row of 17 numbers to an entry; all questions, all equal ones, those of them that document 01 alone
-// decides; and the first question that differs, counted from 1.
+// Equal answers by entry and number, a row of 17 numbers to an entry; all questions, all equal ones, those of them that the documents
+// alone decide; and the first question that differs, counted from 1.
 pub struct Tally {
     cells: [u32; 255],
     asked: u32,
     equal: u32,
-    by_01: u32,
+    by_documents: u32,
     first: u32,
 }
 
@@ -17,7 +17,7 @@ pub fn empty() -> Tally {
         cells: [0u32; 255],
         asked: 0,
         equal: 0,
-        by_01: 0,
+        by_documents: 0,
         first: 0,
     }
 }
@@ -29,15 +29,15 @@ fn cell(call: u8, number: u8) -> usize
 }
 
 // The tally with one question more.
-pub fn counted(t: Tally, equal: bool, by_01: bool, call: u8, number: u8) -> Tally {
+pub fn counted(t: Tally, equal: bool, by_documents: bool, call: u8, number: u8) -> Tally {
     let mut t = t;
     t.asked = wrapping_add_u32(t.asked, 1);
     if equal {
         let at = cell(call, number);
         t.cells[at] = wrapping_add_u32(t.cells[at], 1);
         t.equal = wrapping_add_u32(t.equal, 1);
-        if by_01 {
-            t.by_01 = wrapping_add_u32(t.by_01, 1);
+        if by_documents {
+            t.by_documents = wrapping_add_u32(t.by_documents, 1);
         }
         return t;
     }
@@ -107,8 +107,8 @@ pub fn print(t: Tally) {
     put(b" of ");
     put_number(t.asked);
     put(b" answers are equal, ");
-    put_number(t.by_01);
-    put(b" of them by document 01 alone\n");
+    put_number(t.by_documents);
+    put(b" of them by the documents alone\n");
     if t.first != 0 {
         put(b"the first that differs is question ");
         put_number(t.first);

@@ -131,8 +131,8 @@ row-end s at l = row-of-bytes [] (drop at s) ∙ go (eqb at (length s)) refl
     go false e = rw (drop-cons s at 0 (below at (length s) l (eqb-false at (length s) e))) (more-bytes (getD s at 0) (drop (suc at) s))
 
 -- Before the first field.
-pub no-parts : (s : Bytes) → SoundParts s (noName ∷ noName ∷ noName ∷ noName ∷ [])
-no-parts s = let h : Sound s noName = record { inside = omega arith; room = omega arith } in record { size = refl; sound = (h, (h, (h, (h, tt)))) }
+pub no-parts : (s : Bytes) → SoundParts s (noName ∷ noName ∷ noName ∷ noName ∷ noName ∷ [])
+no-parts s = let h : Sound s noName = record { inside = omega arith; room = omega arith } in record { size = refl; sound = (h, (h, (h, (h, (h, tt))))) }
 
 -- A valid value is a name's part.
 pub spannable : {s : Bytes} {at : ℕ} {x : Item} → Stands s at x → validValue (fieldOf s x) ≡ true → length s ≤ 0xFFFF → (x .start < 65536) × (x .end - x .start ≤ 64) × (x .start + (x .end - x .start) ≤ length s)
@@ -165,7 +165,7 @@ module _ {s : Bytes} {start : ℕ} {row : List ℕ} {n : ℕ} {parts : List Name
   pub refused : take n row ≡ tagsIn row → i < n → matchRow (getD row i 0 ∷ drop (i + 1) (take n row)) (drop at s) ≡ none → Matches s (tagsIn row) start (record { fit = false; parts = parts })
   refused t h e = record { parts = w .held; same = rw (← t) (rw (left h, e) at (w .same)) }
 
-  pub accepted : {x : Item} {r : NameRef} → i < n → n ≤ 4 → Stands s at x → x .tag ≡ getD row i 0 → validValue (fieldOf s x) ≡ true → Names s r (fieldOf s x .value) → Matching s start row n (set parts i r) (x .end) (i + 1)
+  pub accepted : {x : Item} {r : NameRef} → i < n → n ≤ 5 → Stands s at x → x .tag ≡ getD row i 0 → validValue (fieldOf s x) ≡ true → Names s r (fieldOf s x .value) → Matching s start row n (set parts i r) (x .end) (i + 1)
   accepted {x} {r} h b st e v nm =
       let p : take (i + 1) (set parts i r) ≡ take i parts ++ r ∷ [] = rw (add-one i) (take-suc-set parts i r (omega (arith, w .held .size))) in
       let q : map (nameOf s) (take (i + 1) (set parts i r)) ≡ map (nameOf s) (take i parts) ++ fieldOf s x .value ∷ [] = ap (map (nameOf s)) p ∙ map-append (nameOf s) (take i parts) (r ∷ []) ∙ ap (λ (y : Bytes). map (nameOf s) (take i parts) ++ y ∷ []) (nm .same) in

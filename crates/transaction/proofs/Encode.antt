@@ -2,6 +2,7 @@
 use mathlib.Core.Path.{_≡_, refl, sym, ap, ap₂, _∙_}
 use mathlib.Core.List.{List, [], _∷_, _++_, map}
 use mathlib.Core.Bool.{Bool, true, false}
+use mathlib.Core.Option.{Option, none, some}
 use Prim.Native.Nat.{ℕ, zero, suc, _+_, _*_, _≤_, _<_}
 use native.Mathlib.Omega.{arith}
 use native.Mathlib.Numerals.{add-one}
@@ -60,19 +61,19 @@ rowFields src row cs n = tagged (take n row) (map (columnOf src) (take n cs))
 
 -- `fields_of` has written the first i of n fields.
 pub record Encoding (src : Bytes) (row : List ℕ) (cs : List Column) (n : ℕ) (start : Bytes) (bytes : Bytes) (at i : ℕ) : Type 0 where
-  pub within : i ≤ 4
-  pub whole : length start ≡ 268
-  pub size : length bytes ≡ 268
+  pub within : i ≤ 5
+  pub whole : length start ≡ 335
+  pub size : length bytes ≡ 335
   pub room : at ≤ 67 * i
   pub place : at ≡ length (encodeFields (take i (rowFields src row cs n)))
   pub same : bytes ≡ written 0 (encodeFields (take i (rowFields src row cs n))) start
 
-pub no-fields : (src : Bytes) (row : List ℕ) (cs : List Column) (n : ℕ) (start : Bytes) → length start ≡ 268 → Encoding src row cs n start start 0 0
+pub no-fields : (src : Bytes) (row : List ℕ) (cs : List Column) (n : ℕ) (start : Bytes) → length start ≡ 335 → Encoding src row cs n start start 0 0
 unfolding encodeFields
 no-fields src row cs n start e = record { within = omega arith; whole = e; size = e; room = omega arith; place = refl; same = sym (written-nil 0 start) }
 
 module _ {src : Bytes} {row : List ℕ} {cs : List Column} {n : ℕ} {start bytes : Bytes} {at i : ℕ} (w : Encoding src row cs n start bytes at i) (k : n ≤ length row) (q : n ≤ length cs) where
-  pub one-more : {new : Bytes} {m : ℕ} (d : Column) → i < n → n ≤ 4 → Puts src (getD row i 0) (getD cs i d) at bytes new m → Encoding src row cs n start new (at + m) (i + 1)
+  pub one-more : {new : Bytes} {m : ℕ} (d : Column) → i < n → n ≤ 5 → Puts src (getD row i 0) (getD cs i d) at bytes new m → Encoding src row cs n start new (at + m) (i + 1)
   unfolding rowFields
   one-more {new} {m} d h b p =
       let fs : List Field = tagged (take n row) (map (columnOf src) (take n cs)) in
@@ -108,7 +109,7 @@ module _ {src : Bytes} {row : List ℕ} {cs : List Column} {n : ℕ} {start byte
       rw (l, b) (take-append-seam v (drop (length v) start))
 
 -- The fields of an operation's row are its payload.
-pub encodes : {src : Bytes} {row : List ℕ} {cs : List Column} {n : ℕ} {start bytes : Bytes} {at i : ℕ} (o : Operation) → Encoding src row cs n start bytes at i → length row ≡ 4 → n ≤ 4 → n ≤ i →
+pub encodes : {src : Bytes} {row : List ℕ} {cs : List Column} {n : ℕ} {start bytes : Bytes} {at i : ℕ} (o : Operation) → Encoding src row cs n start bytes at i → length row ≡ 5 → n ≤ 5 → n ≤ i →
     take n row ≡ fieldTags (kind (opOf src o)) → Columns o cs → Fields src o (record { bytes = bytes; len = at })
 unfolding rowFields encodePayload
 encodes {src} {row} {cs} {n} o w r b h t c =
@@ -123,7 +124,11 @@ encodes {src} {row} {cs} {n} o w r b h t c =
 -- Every payload has its kind's field.
 kind-first : (o : Op) → 1 ≤ length (encodePayload o)
 unfolding encodePayload encodeFields encodeField tagged fieldTags fieldTable kind values
-kind-first (write w) = omega arith
+kind-first (write w) = go (w .mark)
+  where
+    go : (m : Option Bool) → 1 ≤ length (encodePayload (write (record { collection = w .collection; key = w .key; staged = w .staged; mark = m })))
+    go none = omega arith
+    go (some x) = omega arith
 kind-first (delete c k) = omega arith
 kind-first (deleteAll c) = omega arith
 kind-first (createCollection c) = omega arith
@@ -135,7 +140,7 @@ module _ {src : Bytes} {o : Operation} {b : Bool} (d : Decides (SoundOp src o) b
   pub all-fields : {p : Payload} → b ≡ true → Fields src o p → Encodes src o p
   all-fields t f = record { size = f .size; within = f .within; sound = λ _. f .same; unsound = λ n. absurd (n (d .yes t)) }
 
-  pub no-payload : {bytes : Bytes} → b ≡ false → length bytes ≡ 268 → Encodes src o (record { bytes = bytes; len = 0 })
+  pub no-payload : {bytes : Bytes} → b ≡ false → length bytes ≡ 335 → Encodes src o (record { bytes = bytes; len = 0 })
   no-payload t l = record { size = l; within = omega arith; sound = λ h. absurd (d .no t h); unsound = λ _. refl }
 
 -- What is known of a payload: how long it is, and that it is empty only where nothing is to be written.

@@ -11,12 +11,13 @@ use Rattle.transaction.specs.Rows.{tagsIn}
 
 unfoldable pub rows : List (List ℕ)
 rows =
-    (1 ∷ 2 ∷ 3 ∷ 4 ∷ [])
-    ∷ (1 ∷ 2 ∷ 3 ∷ 0 ∷ [])
-    ∷ (1 ∷ 2 ∷ 0 ∷ 0 ∷ [])
-    ∷ (1 ∷ 2 ∷ 0 ∷ 0 ∷ [])
-    ∷ (1 ∷ 2 ∷ 0 ∷ 0 ∷ [])
-    ∷ (1 ∷ 2 ∷ 5 ∷ 6 ∷ [])
+    (1 ∷ 2 ∷ 3 ∷ 4 ∷ 0 ∷ [])
+    ∷ (1 ∷ 2 ∷ 3 ∷ 0 ∷ 0 ∷ [])
+    ∷ (1 ∷ 2 ∷ 0 ∷ 0 ∷ 0 ∷ [])
+    ∷ (1 ∷ 2 ∷ 0 ∷ 0 ∷ 0 ∷ [])
+    ∷ (1 ∷ 2 ∷ 0 ∷ 0 ∷ 0 ∷ [])
+    ∷ (1 ∷ 2 ∷ 5 ∷ 6 ∷ 0 ∷ [])
+    ∷ (1 ∷ 2 ∷ 3 ∷ 4 ∷ 7 ∷ [])
     ∷ []
 
 -- Every row at once.
@@ -24,7 +25,7 @@ table : map tagsIn rows ≡ fieldTable
 unfolding rows fieldTable
 table = refl
 
--- The row of a kind; the table ends with the sixth.
+-- The row of a kind; the table ends with the seventh.
 pub row-tags : (k : ℕ) → 1 ≤ k → tagsIn (getD rows (k - 1) []) ≡ fieldTags k
 unfolding fieldTags
 row-tags zero h = absurd (omega arith)
@@ -37,14 +38,14 @@ unfolding fieldTags
 no-row zero h = refl
 no-row (suc k) h = absurd (omega arith)
 
-pub past-rows : (k : ℕ) → 6 < k → [] ≡ fieldTags k
+pub past-rows : (k : ℕ) → 7 < k → [] ≡ fieldTags k
 unfolding fieldTags fieldTable
 past-rows zero h = absurd (omega arith)
 past-rows (suc i) h = sym (List·getD-eq-default fieldTable [] {n = i} (omega arith))
 
 -- Counting a row's fields: none of the first n tags is 0.
 pub record Counting (row : List ℕ) (n : ℕ) : Type 0 where
-  pub within : n ≤ 4
+  pub within : n ≤ 5
   pub same : take n row ++ tagsIn (drop n row) ≡ tagsIn row
 
 tags-end : (r : List ℕ) → getD r 0 0 ≡ 0 → tagsIn r ≡ []
@@ -56,13 +57,13 @@ tags-next : (t : ℕ) (r : List ℕ) → (t ≡ 0 → ⊥) → tagsIn (t ∷ r) 
 tags-next zero r h = absurd (h refl)
 tags-next (suc t) r h = refl
 
-module _ {row : List ℕ} {n : ℕ} (w : Counting row n) (size : length row ≡ 4) where
-  pub counted : getD row n 0 ≡ 0 → n < 4 → take n row ≡ tagsIn row
+module _ {row : List ℕ} {n : ℕ} (w : Counting row n) (size : length row ≡ 5) where
+  pub counted : getD row n 0 ≡ 0 → n < 5 → take n row ≡ tagsIn row
   counted e l =
       let d : tagsIn (drop n row) ≡ [] = ap tagsIn (drop-cons row n 0 (omega arith)) ∙ tags-end (getD row n 0 ∷ drop (suc n) row) e in
       sym (append-nil (take n row)) ∙ ap (take n row ++_) (sym d) ∙ w .same
 
-  pub count-on : (getD row n 0 ≡ 0 → ⊥) → n < 4 → Counting row (n + 1)
+  pub count-on : (getD row n 0 ≡ 0 → ⊥) → n < 5 → Counting row (n + 1)
   count-on h l = record {
     within = omega arith;
     same = rw (add-one n) (
@@ -71,7 +72,7 @@ module _ {row : List ℕ} {n : ℕ} (w : Counting row n) (size : length row ≡ 
         );
   }
 
-  pub all-counted : 4 ≤ n → take n row ≡ tagsIn row
+  pub all-counted : 5 ≤ n → take n row ≡ tagsIn row
   all-counted h =
       let e : n ≡ length row = omega arith in
       let d : tagsIn (drop n row) ≡ [] = rw e (ap tagsIn (drop-length row)) in

@@ -17,12 +17,13 @@ use Rattle.transaction.specs.declared.Decoded.the-variants.{Is, Undecoda
 use Rattle.transaction.specs.declared.Payload.{Payload}
 
 abbrev pub opOf : Bytes → Operation → Op
-opOf src (code.Write c k s) = write (record { collection = nameOf src c; key = nameOf src k; staged = nameOf src s })
+opOf src (code.Write c k s) = write (record { collection = nameOf src c; key = nameOf src k; staged = nameOf src s; mark = none })
 opOf src (code.Delete c k) = delete (nameOf src c) (nameOf src k)
 opOf src (code.DeleteAll c) = deleteAll (nameOf src c)
 opOf src (code.CreateCollection c) = createCollection (nameOf src c)
 opOf src (code.DeleteCollection c) = deleteCollection (nameOf src c)
 opOf src (code.CopyCollection a b x) = copyCollection (nameOf src a) (nameOf src b) x
+opOf src (code.MarkedWrite c k s x) = write (record { collection = nameOf src c; key = nameOf src k; staged = nameOf src s; mark = some x })
 
 -- All its names lie in the bytes.
 abbrev pub SoundOp : Bytes → Operation → Type 0
@@ -32,6 +33,7 @@ SoundOp src (code.DeleteAll c) = Sound src c
 SoundOp src (code.CreateCollection c) = Sound src c
 SoundOp src (code.DeleteCollection c) = Sound src c
 SoundOp src (code.CopyCollection a b x) = Sound src a × Sound src b
+SoundOp src (code.MarkedWrite c k s x) = Sound src c × (Sound src k × Sound src s)
 
 abbrev pub decodedOf : Bytes → Decoded → Option Op
 decodedOf src (Is o) = some (opOf src o)
@@ -68,14 +70,14 @@ payloadOf p = take (p .len) (p .bytes)
 
 -- What `fields_of` makes of an operation whose names lie in the bytes.
 pub record Fields (src : Bytes) (o : Operation) (p : Payload) : Type 0 where
-  pub size : length (p .bytes) ≡ 268
-  pub within : p .len ≤ 268
+  pub size : length (p .bytes) ≡ 335
+  pub within : p .len ≤ 335
   pub same : payloadOf p ≡ encodePayload (opOf src o)
 
 -- What `payload_of` makes of any operation: nothing where its names do not all lie in the bytes.
 pub record Encodes (src : Bytes) (o : Operation) (p : Payload) : Type 0 where
-  pub size : length (p .bytes) ≡ 268
-  pub within : p .len ≤ 268
+  pub size : length (p .bytes) ≡ 335
+  pub within : p .len ≤ 335
   pub sound : SoundOp src o → payloadOf p ≡ encodePayload (opOf src o)
   pub unsound : (SoundOp src o → ⊥) → payloadOf p ≡ []
 

@@ -31,9 +31,9 @@ matchRow ts b =
     caseOption (decodeFields b) none λ fs.
     if sameBytes (map (λ f. f .tag) fs) ts && allOf validValue fs then some (map (λ f. f .value) fs) else none
 
--- Four parts of the bytes.
+-- Five parts of the bytes.
 pub record SoundParts (s : Bytes) (l : List NameRef) : Type 0 where
-  pub size : length l ≡ 4
+  pub size : length l ≡ 5
   pub sound : All (Sound s) l
 
 -- What `read_row` answers.
@@ -62,7 +62,7 @@ SoundColumn src (Byte b) = Unit {0}
 
 -- An operation's values under the tags of its row.
 pub record Columns (o : Operation) (l : List Column) : Type 0 where
-  pub size : length l ≡ 4
+  pub size : length l ≡ 5
   pub sound : (src : Bytes) → SoundOp src o → All (SoundColumn src) l
   pub same : (src : Bytes) → map (columnOf src) (take (length (fieldTags (kind (opOf src o)))) l) ≡ (kind (opOf src o) ∷ []) ∷ values (opOf src o)
 

@@ -1,10 +1,10 @@
-// The six operations and their payload: transaction.rs; 01, How a store is handed over, "The payload stands in for rkyv".
+// The operations, of seven kinds, and their payload: transaction.rs; 01, How a store is handed over, "The payload stands in for rkyv".
 ghost use mathlib.Core.Path.{_≡_};
 ghost use mathlib.Core.List.{List, [], _∷_};
 ghost use Prim.Native.Nat.{ℕ, _≤_};
 ghost use lib.ListN.{length, getD, take};
 ghost use Rattle.model.specs.Base.{if_then_else_, sameBytes};
-ghost use Rattle.model.specs.Operation.{fieldTags, kind, validValue, encodePayload};
+ghost use Rattle.model.specs.Operation.{fieldTags, kind, isMark, validValue, encodePayload};
 ghost use Rattle.field.specs.Writing.{field};
 ghost use Rattle.spans.specs.Spans.{nameOf, Sound, Decides};
 ghost use Rattle.transaction.specs.Operations.{opOf, SoundOp, inBounds, Decodes, Fields, Encodes, WritesOp};
@@ -23,6 +23,8 @@ pub enum Operation {
     DeleteCollection(NameRef),
     // Source, destination, whether the destination existed.
     CopyCollection(NameRef, NameRef, bool),
+    // Collection, key, staging name, whether the key's file stood when it was recorded.
+    MarkedWrite(NameRef, NameRef, NameRef, bool),
 }
 
 pub enum Decoded {
@@ -30,16 +32,16 @@ pub enum Decoded {
     Undecodable,
 }
 
-// A payload's bytes: those before `len`. Four fields have at most 3 + 64 bytes each.
+// A payload's bytes: those before `len`. Five fields have at most 3 + 64 bytes each.
 pub struct Payload {
-    pub bytes: [u8; 268],
+    pub bytes: [u8; 335],
     pub len: usize,
 }
 
 // The values under a row's tags as parts of the bytes, where the fields fit the row.
 struct Values {
     fit: bool,
-    parts: [NameRef; 4],
+    parts: [NameRef; 5],
 }
 
 // A value to be written: a name, or one byte.
@@ -48,14 +50,16 @@ enum Column {
     Byte(u8),
 }
 
-// 01: "The fields of each kind stand in one constant table of six rows". The tags of a kind, 0 behind the last.
-const FIELD_TABLE: [[u8; 4]; 6] = [
-    [1, 2, 3, 4],
-    [1, 2, 3, 0],
-    [1, 2, 0, 0],
-    [1, 2, 0, 0],
-    [1, 2, 0, 0],
-    [1, 2, 5, 6],
+// 01: "The fields of each kind stand in one constant table of six rows"; 02, item 4: "the table's seventh row". The tags of a kind, 0 behind the
+// last.
+const FIELD_TABLE: [[u8; 5]; 7] = [
+    [1, 2, 3, 4, 0],
+    [1, 2, 3, 0, 0],
+    [1, 2, 0, 0, 0],
+    [1, 2, 0, 0, 0],
+    [1, 2, 0, 0, 0],
+    [1, 2, 5, 6, 0],
+    [1, 2, 3, 4, 7],
 ];
 
 const NO_NAME: NameRef = NameRef {
@@ -65,25 +69,25 @@ const NO_NAME: NameRef = NameRef {
 };
 
 // The row of a kind, counted from 1; an empty one for what is no kind.
-fn row_of(kind: u8) -> [u8; 4]
+fn row_of(kind: u8) -> [u8; 5]
     ensures { λ r. ⌜ tagsIn r ≡ fieldTags kind ⌝ }
 {
     if kind < 1 {
-        return [0; 4];
+        return [0; 5];
     }
-    if 6 < kind {
-        return [0; 4];
+    if 7 < kind {
+        return [0; 5];
     }
     let i = (kind - 1) as usize;
     FIELD_TABLE[i]
 }
 
 // How many fields a row has.
-fn count_fields(row: [u8; 4]) -> usize
-    ensures { λ r. ⌜ (r ≤ 4) × (take r row ≡ tagsIn row) ⌝ }
+fn count_fields(row: [u8; 5]) -> usize
+    ensures { λ r. ⌜ (r ≤ 5) × (take r row ≡ tagsIn row) ⌝ }
 {
     let mut n: usize = 0;
-    while n < 4 {
+    while n < 5 {
         if row[n] == 0 {
             return n;
         }
@@ -112,14 +116,24 @@ fn is_byte(v: &[u8], b: u8) -> bool
     v[0] == b
 }
 
-// Whether a field's value is valid: the kind has one byte, the mark of a copy is 0 or 1, all else is a name.
+// Whether a tag's value is one byte that is 0 or 1.
+fn is_mark(tag: u8) -> bool
+    ensures { λ r. ⌜ r ≡ isMark tag ⌝ }
+{
+    if tag == 6 {
+        return true;
+    }
+    tag == 7
+}
+
+// Whether a field's value is valid: the kind has one byte, a mark is 0 or 1, all else is a name.
 fn valid_value(tag: u8, v: &[u8]) -> bool
     ensures { λ r. ⌜ r ≡ validValue (field tag (now (v .entry))) ⌝ }
 {
     if tag == 1 {
         return v.len() == 1;
     }
-    if tag == 6 {
+    if is_mark(tag) {
         if is_byte(v, 0) {
             return true;
         }
@@ -129,11 +143,11 @@ fn valid_value(tag: u8, v: &[u8]) -> bool
 }
 
 // The values of the fields from `start` on. 01: "Ascending tags, exactly these, all names valid, nothing behind."
-fn read_row(s: &[u8], start: usize, row: [u8; 4]) -> Values
+fn read_row(s: &[u8], start: usize, row: [u8; 5]) -> Values
     requires { ⌜ (start ≤ length (now s)) × (length (now s) ≤ 0xFFFF) ⌝ }
     ensures { λ r. ⌜ Matches (now (s .entry)) (tagsIn row) start r ⌝ }
 {
-    let mut parts = [NO_NAME; 4];
+    let mut parts = [NO_NAME; 5];
     let n = count_fields(row);
     let mut at = start;
     let mut i: usize = 0;
@@ -180,13 +194,14 @@ fn is_marked(src: &[u8], r: NameRef) -> bool
 }
 
 // The operation of a kind and the values under its row's tags.
-fn operation_of(src: &[u8], kind: u8, parts: [NameRef; 4]) -> Decoded
+fn operation_of(src: &[u8], kind: u8, parts: [NameRef; 5]) -> Decoded
     requires { ⌜ SoundParts (now src) parts ⌝ }
     ensures { λ r. ⌜ Makes (now (src .entry)) kind parts r ⌝ }
 {
     let a = parts[1];
     let b = parts[2];
     let c = parts[3];
+    let d = parts[4];
     match kind {
         1 => Decoded::Is(Operation::Write(a, b, c)),
         2 => Decoded::Is(Operation::Delete(a, b)),
@@ -194,6 +209,7 @@ fn operation_of(src: &[u8], kind: u8, parts: [NameRef; 4]) -> Decoded
         4 => Decoded::Is(Operation::CreateCollection(a)),
         5 => Decoded::Is(Operation::DeleteCollection(a)),
         6 => Decoded::Is(Operation::CopyCollection(a, b, is_marked(src, c))),
+        7 => Decoded::Is(Operation::MarkedWrite(a, b, c, is_marked(src, d))),
         _ => Decoded::Undecodable,
     }
 }
@@ -244,18 +260,19 @@ fn kind_of(op: Operation) -> u8
         Operation::CreateCollection(_) => 4,
         Operation::DeleteCollection(_) => 5,
         Operation::CopyCollection(_, _, _) => 6,
+        Operation::MarkedWrite(_, _, _, _) => 7,
     }
 }
 
-// 01: "0x06 destination existed, one byte 0 or 1".
-fn mark_of(existed: bool) -> u8
-    ensures { λ r. ⌜ r ≡ (if existed then 1 else 0) ⌝ }
+// 01: "0x06 destination existed, one byte 0 or 1"; 02, item 4: "tag 0x07 is one byte, 1 if the key's file stood when it was recorded, else 0".
+fn mark_of(stood: bool) -> u8
+    ensures { λ r. ⌜ r ≡ (if stood then 1 else 0) ⌝ }
 {
-    if existed { 1 } else { 0 }
+    if stood { 1 } else { 0 }
 }
 
 // What stands under the tags of an operation's row.
-fn columns_of(op: Operation) -> [Column; 4]
+fn columns_of(op: Operation) -> [Column; 5]
     ensures { λ r. ⌜ Columns op r ⌝ }
 {
     let none = Column::Byte(0);
@@ -266,18 +283,36 @@ fn columns_of(op: Operation) -> [Column; 4]
                 Column::Name(c),
                 Column::Name(k),
                 Column::Name(s),
+                none,
             ]
         }
-        Operation::Delete(c, k) => [Column::Byte(2), Column::Name(c), Column::Name(k), none],
-        Operation::DeleteAll(c) => [Column::Byte(3), Column::Name(c), none, none],
-        Operation::CreateCollection(c) => [Column::Byte(4), Column::Name(c), none, none],
-        Operation::DeleteCollection(c) => [Column::Byte(5), Column::Name(c), none, none],
+        Operation::Delete(c, k) => [
+            Column::Byte(2),
+            Column::Name(c),
+            Column::Name(k),
+            none,
+            none,
+        ],
+        Operation::DeleteAll(c) => [Column::Byte(3), Column::Name(c), none, none, none],
+        Operation::CreateCollection(c) => [Column::Byte(4), Column::Name(c), none, none, none],
+        Operation::DeleteCollection(c) => [Column::Byte(5), Column::Name(c), none, none, none],
         Operation::CopyCollection(a, b, x) => {
             let mark = mark_of(x);
             [
                 Column::Byte(6),
                 Column::Name(a),
                 Column::Name(b),
+                Column::Byte(mark),
+                none,
+            ]
+        }
+        Operation::MarkedWrite(c, k, s, x) => {
+            let mark = mark_of(x);
+            [
+                Column::Byte(7),
+                Column::Name(c),
+                Column::Name(k),
+                Column::Name(s),
                 Column::Byte(mark),
             ]
         }
@@ -320,6 +355,7 @@ pub fn is_sound(src: &[u8], op: Operation) -> bool
         Operation::CreateCollection(c) => spans::is_sound(src, c),
         Operation::DeleteCollection(c) => spans::is_sound(src, c),
         Operation::CopyCollection(a, b, _) => are_sound(src, a, b),
+        Operation::MarkedWrite(c, k, s, _) => spans::is_sound(src, c) && are_sound(src, k, s),
     }
 }
 
@@ -331,7 +367,7 @@ fn fields_of(src: &[u8], op: Operation) -> Payload
     let row = row_of(kind_of(op));
     let n = count_fields(row);
     let columns = columns_of(op);
-    let mut bytes = [0u8; 268];
+    let mut bytes = [0u8; 335];
     let mut at: usize = 0;
     let mut i: usize = 0;
     while i < n {
@@ -353,7 +389,7 @@ pub fn payload_of(src: &[u8], op: Operation) -> Payload
         return fields_of(src, op);
     }
     Payload {
-        bytes: [0u8; 268],
+        bytes: [0u8; 335],
         len: 0,
     }
 }

@@ -22,6 +22,9 @@ enum-known-op-5 c = search needs
 enum-known-op-6 : tie.Need-enum-known-op-6
 enum-known-op-6 c = search needs
 
+enum-known-op-7 : tie.Need-enum-known-op-7
+enum-known-op-7 c = search needs
+
 returns : tie.Need-returns
 returns c = λ src s. rw (c .before .op .given .1) record { sound = (rw (c .before .op .given .1) at s) .0; same = refl }
 
@@ -40,6 +43,9 @@ returns-5 c = λ src s. rw (c .before .op5 .given .1) record { sound = rw (c .be
 returns-6 : tie.Need-returns-6
 returns-6 c = λ src s. rw (c .before .op6 .given .1) record { sound = (rw (c .before .op6 .given .1) at s) .1; same = refl }
 
+returns-7 : tie.Need-returns-7
+returns-7 c = λ src s. rw (c .before .op7 .given .1) record { sound = (rw (c .before .op7 .given .1) at s) .0; same = refl }
+
 pub collection-of-spec : {M : Type 1} → statement M
 collection-of-spec =
     tie.close
@@ -50,9 +56,11 @@ collection-of-spec =
     enum-known-op-4
     enum-known-op-5
     enum-known-op-6
+    enum-known-op-7
     returns
     returns-2
     returns-3
     returns-4
     returns-5
-    returns-6)
+    returns-6
+    returns-7)

@@ -1,4 +1,5 @@
 -- `apply_operation`: by the operation's kind.
+use mathlib.Core.Option.{none, some}
 use borrow.Author.Needs.{needs}
 use Rattle.laws.specs.ValidNames.{valid-named}
 use Rattle.steps.proofs.FileNames.{file-name}
@@ -47,8 +48,14 @@ enum-known-op-6 c = search needs
 copy-collection-requires : tie.Need-copy-collection-requires
 copy-collection-requires c κs = let o = rw (c .before .before .before .op6 .given .1) at (c .before .before .before .before .before .before .before .pre .1) in (c .before .before .before .before .before .before .before .pre .0, o .0)
 
+enum-known-op-7 : tie.Need-enum-known-op-7
+enum-known-op-7 c = search needs
+
+write-requires-2 : tie.Need-write-requires-2
+write-requires-2 c κs = let o = rw (c .before .before .before .op7 .given .1) at (c .before .before .before .before .before .before .before .pre .1) in (c .before .before .before .before .before .before .before .pre .0, (o .0 .0, (file-name (o .0 .1 .0) (valid-named _ (o .1 .1)), o .0 .1 .1)))
+
 returns-2 : tie.Need-returns-2
-returns-2 c = rw (c .before .before .before .before .op .given .1) (c .write .ensures)
+returns-2 c = rw (c .before .before .before .before .op .given .1) (c .write .ensures none)
 
 returns-3 : tie.Need-returns-3
 returns-3 c = follows-as lawful (c .back-up-standing .ensures) (rw (c .before .before .before .before .op2 .given .1) (by-delete _ _ _))
@@ -64,6 +71,9 @@ returns-6 c = follows-as lawful (c .back-up-standing-dir .ensures) (rw (c .befor
 
 returns-7 : tie.Need-returns-7
 returns-7 c = rw (c .before .before .before .before .op6 .given .1) (c .copy-collection .ensures _)
+
+returns-8 : tie.Need-returns-8
+returns-8 c = rw (c .before .before .before .before .op7 .given .1) (c .write2 .ensures (some _))
 
 pub apply-operation-spec : {M : Type 1} → statement M
 apply-operation-spec =
@@ -82,9 +92,12 @@ apply-operation-spec =
     back-up-standing-dir-requires
     enum-known-op-6
     copy-collection-requires
+    enum-known-op-7
+    write-requires-2
     returns-2
     returns-3
     returns-4
     returns-5
     returns-6
-    returns-7)
+    returns-7
+    returns-8)

@@ -19,7 +19,7 @@ attempt-requires c κs = (c .before .before .back-up-standing .ensures .sound, r
 
 returns : tie.Need-returns
 unfolding stepOf
-returns c = follows-as lawful (follows-then lawful (follows-then lawful (c .before .before .before .before .before .before .make-missing .ensures) (c .before .before .before .back-up-standing .ensures)) (c .attempt .ensures)) (by-write _ _ _ _ (filled (c .before .before .before .before .before .before .before .before .before .before .pre .1 .1 .0)))
+returns c = λ mark. follows-as lawful (follows-then lawful (follows-then lawful (c .before .before .before .before .before .before .make-missing .ensures) (c .before .before .before .back-up-standing .ensures)) (c .attempt .ensures)) (by-write _ _ _ _ mark (filled (c .before .before .before .before .before .before .before .before .before .before .pre .1 .1 .0)))
 
 pub write-spec : {M : Type 1} → statement M
 write-spec =

@@ -25,6 +25,12 @@ enum-known-op-6 c = search needs
 mark-of-requires : tie.Need-mark-of-requires
 mark-of-requires c κs = search needs
 
+enum-known-op-7 : tie.Need-enum-known-op-7
+enum-known-op-7 c = search needs
+
+mark-of-requires-2 : tie.Need-mark-of-requires-2
+mark-of-requires-2 c κs = search needs
+
 returns : tie.Need-returns
 returns c = rw (c .before .op .given .1) (has-columns _)
 
@@ -43,6 +49,9 @@ returns-5 c = rw (c .before .op5 .given .1) (has-columns _)
 returns-6 : tie.Need-returns-6
 returns-6 c = rw (c .before .before .op6 .given .1, c .mark-of .ensures) (has-columns _)
 
+returns-7 : tie.Need-returns-7
+returns-7 c = rw (c .before .before .op7 .given .1, c .mark-of2 .ensures) (has-columns _)
+
 pub columns-of-spec : {M : Type 1} → statement M
 columns-of-spec =
     tie.close
@@ -54,9 +63,12 @@ columns-of-spec =
     enum-known-op-5
     enum-known-op-6
     mark-of-requires
+    enum-known-op-7
+    mark-of-requires-2
     returns
     returns-2
     returns-3
     returns-4
     returns-5
-    returns-6)
+    returns-6
+    returns-7)

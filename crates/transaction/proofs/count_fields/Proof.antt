@@ -11,7 +11,7 @@ abbrev Inv-loop : tie.InvT-loop
 Inv-loop row n₀ n = Counting row n
 
 abbrev μ-loop : tie.MeasureT-loop
-μ-loop row n₀ n = 4 - n
+μ-loop row n₀ n = 5 - n
 
 loop-holds : tie.Need-loop-holds Inv-loop μ-loop
 loop-holds c = record { within = omega arith; same = refl }

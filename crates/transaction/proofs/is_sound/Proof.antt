@@ -43,6 +43,15 @@ enum-known-op-6 c = search needs
 are-sound-requires-3 : tie.Need-are-sound-requires-3
 are-sound-requires-3 c κs = search needs
 
+enum-known-op-7 : tie.Need-enum-known-op-7
+enum-known-op-7 c = search needs
+
+is-sound-requires-5 : tie.Need-is-sound-requires-5
+is-sound-requires-5 c κs = search needs
+
+are-sound-requires-4 : tie.Need-are-sound-requires-4
+are-sound-requires-4 c κs = search needs
+
 returns : tie.Need-returns
 returns c = rw (c .before .before .before .before .op .given .1) (second-decides (c .before .before .is-sound .ensures) (c .before .if1 .taken) (c .are-sound .ensures))
 
@@ -64,6 +73,12 @@ returns-6 c = rw (c .before .before .op5 .given .1) (c .is-sound4 .ensures)
 returns-7 : tie.Need-returns-7
 returns-7 c = rw (c .before .before .op6 .given .1) (c .are-sound3 .ensures)
 
+returns-8 : tie.Need-returns-8
+returns-8 c = rw (c .before .before .before .before .op7 .given .1) (second-decides (c .before .before .is-sound5 .ensures) (c .before .if2 .taken) (c .are-sound4 .ensures))
+
+returns-9 : tie.Need-returns-9
+returns-9 c = rw (c .before .before .before .op7 .given .1) (first-decides (c .before .is-sound5 .ensures) (c .if2 .left))
+
 pub is-sound-spec : {M : Type 1} → statement M
 is-sound-spec =
     tie.close
@@ -81,10 +96,15 @@ is-sound-spec =
     is-sound-requires-4
     enum-known-op-6
     are-sound-requires-3
+    enum-known-op-7
+    is-sound-requires-5
+    are-sound-requires-4
     returns
     returns-2
     returns-3
     returns-4
     returns-5
     returns-6
-    returns-7)
+    returns-7
+    returns-8
+    returns-9)

@@ -10,7 +10,7 @@ use Rattle.laws.specs.Bounds.{write-bounded}
 use Rattle.local_storage.proofs.Asked.{write-asks}
 use Rattle.handover.specs.Numbers.{write-numbers}
 use Rattle.handover.specs.Trees.{write-leaves}
-use Rattle.cda_storage.proofs.Lent.{copied, lent-next, lend-room, lent-readable, lent-sound, lent-answers, given-write}
+use Rattle.cda_storage.proofs.Lent.{copied, lent-next, lend-room, lent-ready, lent-answers, given-write}
 use Rattle.cda_storage.proofs.Recorded.{hands-on, stands, handed}
 use borrow.Author.Needs.{needs}
 use Rattle.cda_storage.proofs.recording.write.Statement.{statement}
@@ -41,7 +41,7 @@ write-requires : tie.Need-write-requires
 write-requires c κs =
     let l = lent-next (lent-next (lent-next (copied (c .before .before .before .before .before .before .before .before .before .before .before .before .before .before .before .before .before .before .before .before .before .before .before .before .before .before .before .pre .1) (c .before .before .before .before .before .before .before .before .before .before .before .before .before .before .before .before .before .before .before .put-bytes .ensures)) (c .before .before .before .before .before .before .before .before .before .before .before .before .before .before .before .lend-name .ensures)) (c .before .before .before .before .before .before .before .before .before .before .before .lend-key .ensures)) (c .before .before .before .before .before .before .before .lend-name2 .ensures) in
     let h = c .before .before .before .before .before .before .before .before .before .before .before .before .before .before .before .before .before .before .before .before .before .before .before .before .before .before .before .pre .0 .0 .held (c .before .before .before .before .before .before .before .before .before .before .before .before .before .before .before .before .before .before .before .before .before .before .before .before .before .before .before .pre .0 .1) in
-    ((lent-readable l h, lent-sound l h .staging), write-asks (given-write (c .before .before .before .before .before .before .before .before .before .before .before .before .before .before .before .lend-name .ensures) (c .before .before .before .before .before .before .before .before .before .before .before .lend-key .ensures) (c .before .before .before .before .before .before .before .lend-name2 .ensures) (c .before .before .before .before .both .ensures) (c .before .before .before .both2 .ensures)))
+    (lent-ready l h, write-asks (given-write (c .before .before .before .before .before .before .before .before .before .before .before .before .before .before .before .lend-name .ensures) (c .before .before .before .before .before .before .before .before .before .before .before .lend-key .ensures) (c .before .before .before .before .before .before .before .lend-name2 .ensures) (c .before .before .before .before .both .ensures) (c .before .before .before .both2 .ensures)))
 
 hand-on-requires : tie.Need-hand-on-requires
 unfolding write
@@ -49,7 +49,7 @@ hand-on-requires c κs =
     let z = c .before .before .before .before .before .before .before .before .before .before .before .before .before .before .before .before .before .before .before .before .before .before .before .before .before .before .before .before .before .before .before .before in
     let l = lent-next (lent-next (lent-next (copied (c .before .before .before .before .before .before .before .before .before .before .before .before .before .before .before .before .before .before .before .before .before .before .before .before .before .before .before .before .before .before .before .before .pre .1) (c .before .before .before .before .before .before .before .before .before .before .before .before .before .before .before .before .before .before .before .before .before .before .before .before .put-bytes .ensures)) (c .before .before .before .before .before .before .before .before .before .before .before .before .before .before .before .before .before .before .before .before .lend-name .ensures)) (c .before .before .before .before .before .before .before .before .before .before .before .before .before .before .before .before .lend-key .ensures)) (c .before .before .before .before .before .before .before .before .before .before .before .before .lend-name2 .ensures) in
     let h = c .before .before .before .before .before .before .before .before .before .before .before .before .before .before .before .before .before .before .before .before .before .before .before .before .before .before .before .before .before .before .before .before .pre .0 .0 .held (c .before .before .before .before .before .before .before .before .before .before .before .before .before .before .before .before .before .before .before .before .before .before .before .before .before .before .before .before .before .before .before .before .pre .0 .1) in
-    let a = lent-answers l h (recordWrite (z .args .collection .now) (z .args .key .now) (z .args .staged .now) (z .args .number)) (c .before .before .before .before .write .ensures (z .args .tree .now) (lent-sound l h) (z .args .collection .now) (z .args .key .now) (z .args .staged .now) (given-write (c .before .before .before .before .before .before .before .before .before .before .before .before .before .before .before .before .before .before .before .before .lend-name .ensures) (c .before .before .before .before .before .before .before .before .before .before .before .before .before .before .before .before .lend-key .ensures) (c .before .before .before .before .before .before .before .before .before .before .before .before .lend-name2 .ensures) (c .before .before .before .before .before .before .before .before .before .both .ensures) (c .before .before .before .before .before .before .before .before .both2 .ensures))) in
+    let a = lent-answers l h (recordWrite (z .args .collection .now) (z .args .key .now) (z .args .staged .now) (z .args .number)) (c .before .before .before .before .write .ensures (z .args .collection .now) (z .args .key .now) (z .args .staged .now) (given-write (c .before .before .before .before .before .before .before .before .before .before .before .before .before .before .before .before .before .before .before .before .lend-name .ensures) (c .before .before .before .before .before .before .before .before .before .before .before .before .before .before .before .before .lend-key .ensures) (c .before .before .before .before .before .before .before .before .before .before .before .before .lend-name2 .ensures) (c .before .before .before .before .before .before .before .before .before .both .ensures) (c .before .before .before .before .before .before .before .before .both2 .ensures))) in
     hands-on (recordWrite (z .args .collection .now) (z .args .key .now) (z .args .staged .now) (z .args .number)) (z .args .image .now) (length (z .args .out .now)) (c .before .before .before .before .before .before .before .before .before .before .before .before .before .before .before .before .before .before .before .before .before .before .before .before .before .before .before .before .before .before .before .before .pre .0 .0) (c .before .before .before .before .before .before .before .before .before .before .before .before .before .before .before .before .before .before .before .before .before .before .before .before .before .before .before .before .before .before .before .before .pre .0 .1) a
     (write-bounded (z .args .collection .now) (z .args .key .now) (z .args .staged .now) (z .args .number) (z .args .image .now) (length (z .args .out .now))) (4 ∷ 5 ∷ 6 ∷ 10 ∷ []) (refl, (refl, (refl, (refl, tt)))) (write-numbers (z .args .collection .now) (z .args .key .now) (z .args .staged .now) (z .args .number) _) (stands (recordWrite (z .args .collection .now) (z .args .key .now) (z .args .staged .now) (z .args .number)) (z .args .image .now) (length (z .args .out .now)) (c .before .before .before .before .before .before .before .before .before .before .before .before .before .before .before .before .before .before .before .before .before .before .before .before .before .before .before .before .before .before .before .before .pre .0 .0) (c .before .before .before .before .before .before .before .before .before .before .before .before .before .before .before .before .before .before .before .before .before .before .before .before .before .before .before .before .before .before .before .before .pre .0 .1) a (write-leaves (z .args .collection .now) (z .args .key .now) (z .args .staged .now) (z .args .number) _) (l .front))
 
@@ -66,7 +66,7 @@ returns c =
     let z = c .before .before .before .before .before .before .before .before .before .before .before .before .before .before .before .before .before .before .before .before .before .before .before .before .before .before .before .before .before .before .before .before .before .before .before in
     let l = lent-next (lent-next (lent-next (copied (c .before .before .before .before .before .before .before .before .before .before .before .before .before .before .before .before .before .before .before .before .before .before .before .before .before .before .before .before .before .before .before .before .before .before .before .pre .1) (c .before .before .before .before .before .before .before .before .before .before .before .before .before .before .before .before .before .before .before .before .before .before .before .before .before .before .before .put-bytes .ensures)) (c .before .before .before .before .before .before .before .before .before .before .before .before .before .before .before .before .before .before .before .before .before .before .before .lend-name .ensures)) (c .before .before .before .before .before .before .before .before .before .before .before .before .before .before .before .before .before .before .before .lend-key .ensures)) (c .before .before .before .before .before .before .before .before .before .before .before .before .before .before .before .lend-name2 .ensures) in
     let h = c .before .before .before .before .before .before .before .before .before .before .before .before .before .before .before .before .before .before .before .before .before .before .before .before .before .before .before .before .before .before .before .before .before .before .before .pre .0 .0 .held (c .before .before .before .before .before .before .before .before .before .before .before .before .before .before .before .before .before .before .before .before .before .before .before .before .before .before .before .before .before .before .before .before .before .before .before .pre .0 .1) in
-    handed (recordWrite (z .args .collection .now) (z .args .key .now) (z .args .staged .now) (z .args .number)) (z .args .image .now) (length (z .args .out .now)) (c .before .before .before .before .before .before .before .before .before .before .before .before .before .before .before .before .before .before .before .before .before .before .before .before .before .before .before .before .before .before .before .before .before .before .before .pre .0 .0) (c .before .before .before .before .before .before .before .before .before .before .before .before .before .before .before .before .before .before .before .before .before .before .before .before .before .before .before .before .before .before .before .before .before .before .before .pre .0 .1) (lent-answers l h (recordWrite (z .args .collection .now) (z .args .key .now) (z .args .staged .now) (z .args .number)) (c .before .before .before .before .before .before .before .write .ensures (z .args .tree .now) (lent-sound l h) (z .args .collection .now) (z .args .key .now) (z .args .staged .now) (given-write (c .before .before .before .before .before .before .before .before .before .before .before .before .before .before .before .before .before .before .before .before .before .before .before .lend-name .ensures) (c .before .before .before .before .before .before .before .before .before .before .before .before .before .before .before .before .before .before .before .lend-key .ensures) (c .before .before .before .before .before .before .before .before .before .before .before .before .before .before .before .lend-name2 .ensures) (c .before .before .before .before .before .before .before .before .before .before .before .before .both .ensures) (c .before .before .before .before .before .before .before .before .before .before .before .both2 .ensures)))) (c .before .before .hand-on .ensures)
+    handed (recordWrite (z .args .collection .now) (z .args .key .now) (z .args .staged .now) (z .args .number)) (z .args .image .now) (length (z .args .out .now)) (c .before .before .before .before .before .before .before .before .before .before .before .before .before .before .before .before .before .before .before .before .before .before .before .before .before .before .before .before .before .before .before .before .before .before .before .pre .0 .0) (c .before .before .before .before .before .before .before .before .before .before .before .before .before .before .before .before .before .before .before .before .before .before .before .before .before .before .before .before .before .before .before .before .before .before .before .pre .0 .1) (lent-answers l h (recordWrite (z .args .collection .now) (z .args .key .now) (z .args .staged .now) (z .args .number)) (c .before .before .before .before .before .before .before .write .ensures (z .args .collection .now) (z .args .key .now) (z .args .staged .now) (given-write (c .before .before .before .before .before .before .before .before .before .before .before .before .before .before .before .before .before .before .before .before .before .before .before .lend-name .ensures) (c .before .before .before .before .before .before .before .before .before .before .before .before .before .before .before .before .before .before .before .lend-key .ensures) (c .before .before .before .before .before .before .before .before .before .before .before .before .before .before .before .lend-name2 .ensures) (c .before .before .before .before .before .before .before .before .before .before .before .before .both .ensures) (c .before .before .before .before .before .before .before .before .before .before .before .both2 .ensures)))) (c .before .before .hand-on .ensures)
 
 pub write-spec : {M : Type 1} → statement M
 write-spec =

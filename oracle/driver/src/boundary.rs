@@ -1,9 +1,9 @@
-//! Limits: at them, one short of them, one over them.
+//! Limits: at them, one short of them, one over them. Where Writes are marked, the same is asked of Writes of kind 1 too.
 use crate::panel::Panel;
 use crate::text;
 use plain::{
     Image, Name, Operation,
-    image::{DIR_LIMIT, FILE_LIMIT, LOG_LIMIT, STAGING_LIMIT},
+    image::{DIR_LIMIT, FILE_LIMIT, LOG_LIMIT, STAGING_LIMIT, unmarked},
     log::{OPERATION_LIMIT, Status},
 };
 use store::{Call, IMAGE_ROOM, KEYS_ROOM, Lent, Plan, STEP_ROOM};
@@ -27,17 +27,17 @@ fn names(panel: &mut Panel, length: usize) {
     let long: Name = vec![b'n'; length];
     let word = text::name(&long);
     let stores = [
-        format!("{word}/a=1 ~s=2 recording /write/{word}/a/s open"),
-        format!("db/{word}=1 ~s=2 recording /write/db/{word}/s open"),
+        format!("{word}/a=1 ~s=2 recording /write/{word}/a/s/1 open"),
+        format!("db/{word}=1 ~s=2 recording /write/db/{word}/s/1 open"),
         format!("db/{word}=1 recording /delete/db/{word} open"),
         format!("db/a=1 db/{word}=1 recording /delete_all/db open"),
-        format!("db/a=1 ~{word}=2 recording /write/db/a/{word} open"),
+        format!("db/a=1 ~{word}=2 recording /write/db/a/{word}/1 open"),
         format!("{word}/a=1 recording /delete_collection/{word} open"),
         format!("{word}/a=1 db/b=1 recording /copy_collection/db/{word}/1 open"),
         format!("{word}/a=1 recording /copy_collection/{word}/db/0 open"),
         format!("recording /create_collection/{word} open"),
         format!("{word}.bak/a=1 {word}/b=2 committing"),
-        format!("db/{word}.bak=1 db/{word}=2 committing /write/db/{word}/s"),
+        format!("db/{word}.bak=1 db/{word}=2 committing /write/db/{word}/s/1"),
     ];
     for store in stores {
         let image = text::read_store(&store).encode();
@@ -72,12 +72,16 @@ fn calls(panel: &mut Panel, image: &[u8], name: &Name) {
     }
 }
 
+/// Plans of an image, and of what the cuts of its commit leave; if its Writes are marked, of their kin of kind 1 too.
 fn plans(panel: &mut Panel, image: &[u8]) {
-    let cuts = panel.plan(Plan::Commit, image);
-    for cut in cuts.iter().step_by(1 + cuts.len() / 16) {
-        panel.plan(Plan::Recover, cut);
+    let old = unmarked(image);
+    for image in if old == image { vec![old] } else { vec![old, image.to_vec()] } {
+        let cuts = panel.plan(Plan::Commit, &image);
+        for cut in cuts.iter().step_by(1 + cuts.len() / 16) {
+            panel.plan(Plan::Recover, cut);
+        }
+        panel.plan(Plan::Recover, &image);
     }
-    panel.plan(Plan::Recover, image);
 }
 
 /// So many directories, files, staging files, operations, log bytes, each limit with this slack.
@@ -111,8 +115,8 @@ fn full_commits(panel: &mut Panel) {
         stores.push(format!("{all} recording /create_collection/d00 /create_collection/x /create_collection/y open"));
         stores.push(format!("{all} recording /copy_collection/d00/d01/1 open"));
         stores.push(format!("{all} recording /copy_collection/d00/d00/1 /copy_collection/d01/d00/1 open"));
-        stores.push(format!("{all} ~s=1 recording /write/x/k/s open"));
-        stores.push(format!("{all} recording /write/x/k/missing open"));
+        stores.push(format!("{all} ~s=1 recording /write/x/k/s/0 open"));
+        stores.push(format!("{all} recording /write/x/k/missing/0 open"));
         stores.push(format!("{all} recording /delete_collection/d00 /create_collection/x open"));
         let with_backup = all.replace("d01/", "d00.bak/");
         stores.push(format!("{with_backup} recording /delete_collection/d00 /create_collection/x open"));
@@ -120,13 +124,13 @@ fn full_commits(panel: &mut Panel) {
     }
     for count in [FILE_LIMIT - 2, FILE_LIMIT - 1, FILE_LIMIT] {
         let all = files(count);
-        stores.push(format!("{all} ~s=1 recording /write/f/x/s open"));
-        stores.push(format!("{all} ~s=1 ~t=2 recording /write/f/000/s /write/g/000/t open"));
-        stores.push(format!("{all} recording /write/f/x/missing open"));
-        stores.push(format!("{all} ~s=1 recording /delete/f/000 /write/f/000/s open"));
+        stores.push(format!("{all} ~s=1 recording /write/f/x/s/0 open"));
+        stores.push(format!("{all} ~s=1 ~t=2 recording /write/f/000/s/1 /write/g/000/t/0 open"));
+        stores.push(format!("{all} recording /write/f/x/missing/0 open"));
+        stores.push(format!("{all} ~s=1 recording /delete/f/000 /write/f/000/s/1 open"));
         let with_backup = all.replace("f/001=", "f/000.bak=");
-        stores.push(format!("{with_backup} ~s=1 recording /write/f/000/s open"));
-        stores.push(format!("{with_backup} ~s=1 recording /delete/f/000 /write/f/x/s open"));
+        stores.push(format!("{with_backup} ~s=1 recording /write/f/000/s/1 open"));
+        stores.push(format!("{with_backup} ~s=1 recording /delete/f/000 /write/f/x/s/0 open"));
         stores.push(format!("{all} recording /delete_all/f open"));
         let two = all.replacen("f/", "g/", 2);
         stores.push(format!("{two} recording /copy_collection/g/h/0 open"));
@@ -140,7 +144,7 @@ fn full_commits(panel: &mut Panel) {
 /// Lent outputs of every length that matters.
 fn lent_lengths(panel: &mut Panel) {
     let lengths = |room: usize| [0, 1, room - 1, room, room + 1, 2 * room];
-    let store = "db/a=7 db/B=2 ~s.tmp=9 recording /write/db/a/s.tmp open";
+    let store = "db/a=7 db/B=2 ~s.tmp=9 recording /write/db/a/s.tmp/1 open";
     for image in [text::read_store(store).encode(), text::read_store(&store.replace("open", "")).encode(), b"\x10".to_vec()] {
         for out in lengths(IMAGE_ROOM).into_iter().chain(lengths(KEYS_ROOM)) {
             let some = Lent { out, step: STEP_ROOM };
@@ -171,10 +175,10 @@ fn lent_lengths(panel: &mut Panel) {
     }
 }
 
-/// The largest image, and what comes of it.
+/// The largest image, and what comes of it; it has marked Writes.
 fn largest(panel: &mut Panel) {
     let name = |letter: char, i: usize, length: usize| format!("{letter:x<0$}{i:03}", length - 3).into_bytes();
-    for length in [60, 64] {
+    for (length, mark) in [(60, None), (64, None), (60, Some(true)), (64, Some(false)), (64, Some(true))] {
         let dirs: Vec<Name> = (0..DIR_LIMIT).map(|i| name('d', i, length)).collect();
         let files = |dir: usize| (0..FILE_LIMIT / DIR_LIMIT).map(|i| (name('f', dir * 8 + i, length), u32::MAX)).collect();
         let staged: Vec<Name> = (0..STAGING_LIMIT).map(|i| name('s', i, length)).collect();
@@ -182,6 +186,7 @@ fn largest(panel: &mut Panel) {
             collection: dirs[i / 2].clone(),
             key: name('f', i / 2 * 8 + i % 2, length),
             staged: staged[i].clone(),
+            mark,
         };
         let writes: Vec<Operation> = (0..OPERATION_LIMIT).map(write).collect();
         for status in [Status::Recording, Status::Committing] {
@@ -191,7 +196,7 @@ fn largest(panel: &mut Panel) {
                 log: Some(text::log(status, &writes)),
                 open: true,
             };
-            assert!(length < 64 || image.encode().len() == IMAGE_ROOM);
+            assert_eq!(image.encode().len() == IMAGE_ROOM, length == 64 && mark.is_some());
             panel.plan(Plan::Commit, &image.encode());
             panel.plan(Plan::Recover, &image.encode());
             calls(panel, &image.encode(), &dirs[0]);
@@ -204,7 +209,7 @@ fn largest(panel: &mut Panel) {
 
 /// Step numbers past the end.
 fn step_numbers(panel: &mut Panel) {
-    let image = text::read_store("db/a=7 ~s.tmp=9 recording /write/db/a/s.tmp open").encode();
+    let image = text::read_store("db/a=7 ~s.tmp=9 recording /write/db/a/s.tmp/1 open").encode();
     for n in [9, 10, 11, 12, 256, 266, 1 << 32, (1 << 32) + 10, u64::MAX - 1, u64::MAX] {
         panel.ask(&Call::CommitStep(n), &image, Lent::AMPLE);
         panel.ask(&Call::RecoverStep(n), &image, Lent::AMPLE);

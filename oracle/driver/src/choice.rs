@@ -1,12 +1,14 @@
 //! Chooses, of a great many questions, a few thousand that differ in kind, the shortest of each.
 use crate::panel::Question;
+use original::old;
 use plain::{
     Image, Name, Operation, Plain,
+    image::unmarked,
     log::{Ending, operations, status},
     name::{NAME_LIMIT, is_backup, is_valid},
 };
 use std::collections::{BTreeMap, BTreeSet};
-use store::{Answer, Call, IMAGE_ROOM, KEYS_ROOM, Plan, STEP_ROOM, Store};
+use store::{Answer, Call, IMAGE_ROOM, KEYS_ROOM, Plan, STEP_ROOM, Store, ask};
 
 /// No more questions are chosen, nor more bytes of images, nor longer ones without need; no more of a kind are kept to choose from.
 const QUESTIONS: usize = 3_000;
@@ -15,7 +17,7 @@ const SHORT: usize = 300;
 const OF_A_KIND: usize = 3;
 
 /// The longest outputs that the programs lend: ROOM and STEP_ROOM of crates/questions/src/lib.rt.
-const LONGEST: usize = 19_300;
+const LONGEST: usize = 19_430;
 const LONGEST_STEP: usize = 300;
 
 pub const LOGS: [&str; 12] = [
@@ -33,7 +35,7 @@ pub const LOGS: [&str; 12] = [
     "Committing, over 32",
 ];
 
-/// Where the marks say what the answer hands back: nothing, the image as it was, another.
+/// Where the signs say what the answer hands back: nothing, the image as it was, another.
 const HANDED_BACK: usize = 4;
 
 /// What is looked at in a question and its answer.
@@ -44,14 +46,16 @@ pub struct Kind {
     pub number: u32,
     /// An index of LOGS.
     pub log: usize,
-    /// The kinds of operations in the log, of an entry that carries them out or back.
-    operations: BTreeSet<u8>,
+    /// The kinds of operations in the log, of an entry that carries them out or back; 8 is a marked Write to a key that stood.
+    pub operations: BTreeSet<u8>,
     /// The tags of all steps, or of the one that was asked for.
     pub steps: BTreeSet<u8>,
     /// What the names are like.
     names: Vec<u8>,
     /// What else is in the image, whether the answer changes it, how much is lent.
-    marks: [u8; 7],
+    signs: [u8; 7],
+    /// Whether document 02, item 4 answers otherwise than where the Writes are of kind 1.
+    by_item_4: bool,
 }
 
 #[derive(Default)]
@@ -116,15 +120,15 @@ impl Kind {
         self.steps.first().copied().filter(|_| [10, 13].contains(&self.entry))
     }
 
-    /// The entry, number and log, with the step that was asked for or the operations that are carried out.
-    fn turn(&self) -> (u8, u32, usize, BTreeSet<u8>) {
+    /// The entry, number and log, whether item 4 shows, and the step that was asked for or the operations that are carried out.
+    fn turn(&self) -> (u8, u32, usize, bool, BTreeSet<u8>) {
         let done = if self.asked_for().is_some() { &self.steps } else { &self.operations };
-        (self.entry, self.number, self.log, done.clone())
+        (self.entry, self.number, self.log, self.by_item_4, done.clone())
     }
 
     /// How many go into a turn: few of the many refusals and of the many sets of operations.
     fn share(&self) -> usize {
-        let hands_back = self.marks[HANDED_BACK] != 0;
+        let hands_back = self.signs[HANDED_BACK] != 0;
         if hands_back && self.operations.len() < 2 || self.asked_for().is_some() { 12 } else { 3 }
     }
 
@@ -135,7 +139,7 @@ impl Kind {
         facts.extend(self.operations.iter().map(|kind| (self.entry, self.number, 1, usize::from(*kind))));
         facts.extend(self.steps.iter().map(|tag| (self.entry, 0, 2, usize::from(*tag))));
         facts.extend(self.names.iter().enumerate().map(|(at, like)| (self.entry, self.number, 3, at * 16 + usize::from(*like))));
-        facts.extend(self.marks.iter().enumerate().map(|(at, mark)| (self.entry, self.number, 4, at * 16 + usize::from(*mark))));
+        facts.extend(self.signs.iter().enumerate().map(|(at, sign)| (self.entry, self.number, 4, at * 16 + usize::from(*sign))));
         facts
     }
 }
@@ -172,8 +176,14 @@ fn kind(question: &Question, answer: &Answer) -> Kind {
         operations: log.filter(|_| carried).map(operation_kinds).unwrap_or_default(),
         steps: steps(question, answer),
         names: names.into_iter().map(|name| name_kind(name)).collect(),
-        marks: marks(question, answer, &image.unwrap_or_default()),
+        by_item_4: image.is_some() && is_by_item_4(question, answer),
+        signs: signs(question, answer, &image.unwrap_or_default()),
     }
+}
+
+fn is_by_item_4(question: &Question, answer: &Answer) -> bool {
+    let before = unmarked(&question.image);
+    before != question.image && old(answer) != old(&ask(&Plain, &question.call, &before, question.lent))
 }
 
 fn log_kind(log: Option<&[u8]>) -> usize {
@@ -189,7 +199,7 @@ fn log_kind(log: Option<&[u8]>) -> usize {
 }
 
 fn operation_kinds(log: &[u8]) -> BTreeSet<u8> {
-    let kind = |operation: &Operation| operation.encode()[3];
+    let kind = |operation: &Operation| operation.kind() + u8::from(operation.mark() == Some(true));
     if status(log).is_some() { operations(log).0.iter().map(kind).collect() } else { BTreeSet::new() }
 }
 
@@ -220,7 +230,7 @@ fn name_kind(name: &[u8]) -> u8 {
     }
 }
 
-fn marks(question: &Question, answer: &Answer, image: &Image) -> [u8; 7] {
+fn signs(question: &Question, answer: &Answer, image: &Image) -> [u8; 7] {
     let lent = |length: usize, room: usize| match length.cmp(&room) {
         std::cmp::Ordering::Less => 0,
         std::cmp::Ordering::Equal => 1,

@@ -1,8 +1,8 @@
 //! Real cuts: the original is stopped by its process's exit after each step, its disk is read back and held to the step
-//! entry's image, and both sides recover from there.
+//! entry's image, and both sides recover from there. The Writes are of kind 1, which is all that the original knows.
 use crate::child;
 use crate::generate::{self, Rng};
-use crate::panel::Panel;
+use crate::panel::{By, Panel};
 use crate::text;
 use original::{Cut, Original};
 use plain::{Image, Plain};
@@ -74,13 +74,13 @@ pub fn run(panel: &mut Panel, seed: u64, transactions: u64) {
     let mut cuts = Cuts { original: &original, other: other.as_ref(), commits: 0, recoveries: 0 };
     for case in 0..transactions {
         let rng = &mut Rng::new(seed, case);
-        let images = cuts.all(Plan::Commit, &generate::transaction(rng));
+        let images = cuts.all(Plan::Commit, &generate::transaction(rng).unmarked());
         if rng.one_in(4) && !images.is_empty() {
             // The key turned twice: recovery is cut too.
             cuts.all(Plan::Recover, &images[rng.below(images.len())]);
         }
         panel.inputs = cuts.commits + cuts.recoveries;
-        panel.by_original = 2 * panel.inputs;
+        panel.compared[By::Original as usize] = 2 * panel.inputs;
         panel.progress("cuts", case, transactions);
     }
     println!(

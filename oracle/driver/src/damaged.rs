@@ -1,5 +1,5 @@
 //! Damage: every flipped bit and every truncation of some logs and images, and every flipped bit and truncation of a payload
-//! whose checksum and length are then put right.
+//! whose checksum and length are then put right; of a marked Write's also every value of its mark.
 use crate::panel::Panel;
 use crate::text;
 use plain::{
@@ -9,7 +9,7 @@ use plain::{
 use store::{Call, Lent, Plan};
 
 /// Stores in which damage shows: backups stand, and what the log names stands or doesn't.
-const STORES: [&str; 8] = [
+const STORES: [&str; 11] = [
     "db/a=7 ~s.tmp=9 recording /write/db/a/s.tmp open",
     "db/a=7 db/a.bak=8 ~s=1 committing",
     "db/a=9 db/a.bak=7 committing /write/db/a/s.tmp open",
@@ -18,6 +18,9 @@ const STORES: [&str; 8] = [
     "c.bak/a=1 d/a=1 d.bak/b=2 committing /delete_collection/c /copy_collection/c.bak/d/1",
     "db/A=1 db/b.tmp=2 recording /delete_all/db /create_collection/n open",
     "db/K=4294967295 db/k.bak=256 ~s=1 ~t=2",
+    "db/a=7 ~s.tmp=9 recording /write/db/a/s.tmp/1 /write/db/b/t/0 open",
+    "db/a=7 db/b=1 ~s=9 committing /write/db/a/s/1 /write/db/b/t",
+    "db/a=9 db/a.bak=7 db/b=1 committing /write/db/b/t/0 /write/db/a/s/1 open",
 ];
 
 pub fn run(panel: &mut Panel, every: usize) {
@@ -30,7 +33,8 @@ pub fn run(panel: &mut Panel, every: usize) {
         damaged.extend((0..log.len()).map(|n| with_log(log[..n].to_vec())));
         let (found, _) = operations(log);
         for at in 0..found.len() {
-            damaged.extend(hurt(&found[at].encode()).into_iter().map(|payload| with_log(relogged(&log[..8], &found, at, &payload))));
+            let payloads = hurt(&found[at].encode()).into_iter().chain(marks(&found[at]));
+            damaged.extend(payloads.map(|payload| with_log(relogged(&log[..8], &found, at, &payload))));
         }
     }
     let total = damaged.len() as u64;
@@ -43,7 +47,7 @@ pub fn run(panel: &mut Panel, every: usize) {
         panel.progress("damaged", i as u64, total);
     }
     panel.summary(&format!(
-        "damaged, {total} flips and truncations{}",
+        "damaged, {total} flips, truncations and marks{}",
         if every == 1 { String::new() } else { format!(", every {every}th") }
     ));
 }
@@ -56,6 +60,14 @@ fn hurt(bytes: &[u8]) -> Vec<Vec<u8>> {
         flipped
     });
     flipped.chain((0..bytes.len()).map(|n| bytes[..n].to_vec())).collect()
+}
+
+/// A marked Write's payload with each value of its last byte, the mark.
+fn marks(operation: &Operation) -> Vec<Vec<u8>> {
+    let mut front = operation.encode();
+    front.pop();
+    let with = |mark: u8| operation.mark().map(|_| [front.as_slice(), &[mark]].concat());
+    (0..=u8::MAX).filter_map(with).collect()
 }
 
 /// The log with another payload in one place, its entry whole.

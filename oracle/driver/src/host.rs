@@ -1,15 +1,23 @@
-//! The host (host/) and the original on one directory, in turns. Each opens what the other left, which recovers it, records a
-//! transaction, and is ended by its process's exit after some step of the commit; now and then a recovery is ended too, or a
+//! The host (host/) and the original on one directory, in turns, by lot. Each opens what stands there, which recovers it, records
+//! a transaction, and is ended by its process's exit after some step of the commit; now and then a recovery is ended too, or a
 //! file is put there from outside. Behind every call the disk is held to what the port says, as the original's side reads it
 //! and as the host does. A commit of the host that runs to its end is watched as the original's are, unless it has copies,
 //! which the host makes on the side: its file calls, syncs included, are the plan's steps.
+//!
+//! The host records marked Writes (document 02, item 4), the original Writes of kind 1, which the port is held to but for kind
+//! and mark. A log that the host left is opened by the host as it is; for the original its Writes are turned into such of kind 1.
 use crate::child;
 use crate::generate::Rng;
 use crate::panel::Panel;
 use crate::text;
 use cda_store::{Event, FileStore, StoreError, Transaction, scan};
 use original::{Cut, Original};
-use plain::{Image, image::Files, step::Step};
+use plain::{
+    Image,
+    image::Files,
+    log::{self, Status},
+    step::Step,
+};
 use std::{
     path::Path,
     sync::{
@@ -33,6 +41,9 @@ struct Turns<'a> {
     watched: u64,
     recoveries: u64,
     disks: u64,
+    /// Committing logs with marked Writes that the host opened, and those that the original was given as old ones.
+    marked: u64,
+    unmarked: u64,
 }
 
 /// Opens the store for the host, whose process ends after as many steps as are set.
@@ -54,6 +65,7 @@ fn after(n: u64) -> Arc<AtomicU64> {
 impl Turns<'_> {
     fn host(&mut self, rng: &mut Rng) {
         let (original, steps) = (self.original, after(u64::MAX));
+        self.marked += u64::from(self.is_marked());
         let store = open(&original.root.0, &steps);
         self.told(&Call::Recover, true);
         let mut transaction = store.begin().unwrap();
@@ -79,13 +91,14 @@ impl Turns<'_> {
 
     fn original(&mut self, rng: &mut Rng) {
         let original = self.original;
+        self.put_old_log();
         let mut opened = original.reopen();
         self.told(&Call::Recover, true);
         opened.begin();
         self.told(&Call::Begin, true);
         for call in calls(rng) {
             let accepted = opened.record(&call);
-            self.told(&call, accepted);
+            self.held(&call, accepted, Image::unmarked);
         }
         let (n, image) = (choose(rng, self.plan(Plan::Commit).len()), self.model.clone());
         let status = child::run(move || opened.commit(&image, Cut::Exit(n)));
@@ -103,12 +116,18 @@ impl Turns<'_> {
 
     /// A recovery, by either, that is ended too.
     fn recovery(&mut self, rng: &mut Rng) {
+        let by_host = rng.one_in(2);
+        if by_host {
+            self.marked += u64::from(self.is_marked());
+        } else {
+            self.put_old_log();
+        }
         let steps = self.plan(Plan::Recover).len();
         if steps == 0 {
             return;
         }
         let (n, original) = (rng.below(steps) + 1, self.original);
-        let status = if rng.one_in(2) {
+        let status = if by_host {
             child::run(|| drop(open(&original.root.0, &after(n as u64))))
         } else {
             child::run(|| drop(original.recover_in_place(&self.model, Cut::Exit(n))))
@@ -117,14 +136,34 @@ impl Turns<'_> {
         self.recoveries += 1;
     }
 
+    /// Whether a log stands that is recovered by its marks.
+    fn is_marked(&self) -> bool {
+        let committing = |log: &&Vec<u8>| log::status(log) == Some(Status::Committing);
+        self.model.log.as_ref().filter(committing).is_some_and(|log| log::unmarked(log) != *log)
+    }
+
+    /// Turns the Writes of the log on disk into such of kind 1: the original knows no other.
+    fn put_old_log(&mut self) {
+        self.unmarked += u64::from(self.is_marked());
+        self.model = std::mem::take(&mut self.model).unmarked();
+        if let Some(log) = &self.model.log {
+            std::fs::write(self.original.root.log(), log).unwrap();
+        }
+    }
+
     /// The fields of a plan's steps, by the port.
     fn plan(&self, plan: Plan) -> Vec<Vec<u8>> {
         let answers = self.port.plan(plan, &self.model.encode()).1;
         answers.into_iter().skip(1).filter_map(|answer| answer.step).collect()
     }
 
-    /// A call was accepted or refused on disk: so it is by the port. A Write's staging file has the name that was found for it.
     fn told(&mut self, call: &Call, accepted: bool) {
+        self.held(call, accepted, |image| image);
+    }
+
+    /// A call was accepted or refused on disk: so it is by the port, and the disk holds what the port hands back, recorded as it would be
+    /// there. A Write's staging file has the name that was found for it.
+    fn held(&mut self, call: &Call, accepted: bool, recorded: fn(Image) -> Image) {
         let mut call = call.clone();
         if let Call::Write { staged, .. } = &mut call {
             let standing = self.original.root.get().staging;
@@ -133,7 +172,7 @@ impl Turns<'_> {
         let answer = ask(self.port, &call, &self.model.encode(), Lent::AMPLE);
         self.agree(&call, (answer.number == 0) == accepted);
         if let Some(image) = answer.out {
-            self.model = Image::decode(&image).expect("an image");
+            self.model = recorded(Image::decode(&image).expect("an image"));
         }
         self.same_disk(&call);
         self.disks += 1;
@@ -233,7 +272,7 @@ pub fn run(panel: &mut Panel, seed: u64, turns: u64) {
     let port = panel.port.take().expect("the port");
     original.root.clear();
     let (model, port) = (Image::default(), port.as_ref());
-    let mut all = Turns { original: &original, port, model, cut: 0, watched: 0, recoveries: 0, disks: 0 };
+    let mut all = Turns { original: &original, port, model, cut: 0, watched: 0, recoveries: 0, disks: 0, marked: 0, unmarked: 0 };
     for turn in 0..turns {
         let rng = &mut Rng::new(seed, turn);
         if rng.one_in(4) {
@@ -242,7 +281,7 @@ pub fn run(panel: &mut Panel, seed: u64, turns: u64) {
         if rng.one_in(2) {
             all.provision(rng);
         }
-        if turn % 2 == 0 {
+        if rng.one_in(2) {
             all.host(rng)
         } else {
             all.original(rng)
@@ -252,11 +291,13 @@ pub fn run(panel: &mut Panel, seed: u64, turns: u64) {
     }
     println!(
         "host, seed {seed}: original, host and port agree; {turns} turns on one directory, {} commits and {} recoveries cut, {} commits of the \
-         host watched, {} disks compared, {:.1} s",
+         host watched, {} disks compared; logs of cut commits with marked Writes: {} opened by the host, {} by the original as old ones; {:.1} s",
         all.cut,
         all.recoveries,
         all.watched,
         all.disks,
+        all.marked,
+        all.unmarked,
         started.elapsed().as_secs_f64()
     );
 }

@@ -1,24 +1,22 @@
-//! The lists that the programs corners and replay ask of the port, and what the programs must print. Answers are the original's; where
-//! it has no opinion, the plain reading's. The port is not asked. crates/questions/src/lib.rt has the layout of a list.
+//! The lists that the programs corners and replay ask of the port, and what the programs must print. Answers are the original's, but for
+//! the kinds and marks of Writes; where it has no opinion, or document 02, item 4 departs from it, the plain reading's. The port is not
+//! asked. crates/questions/src/lib.rt has the layout of a list.
 use crate::choice::{Choice, Kind, LOGS, entry};
 use crate::corners::{self, Line};
-use crate::panel::{Panel, Question};
+use crate::panel::{By, Panel, Question};
 use crate::{boundary, damaged, random, small, text, wrong};
-use plain::{
-    Plain,
-    image::{put_field, take_field},
-};
+use plain::image::{put_field, take_field};
 use std::collections::BTreeMap;
 use std::path::Path;
-use store::{Answer, Call, Lent, NO_OPINION, ask};
+use store::{Answer, Call, Lent};
 
 const SEED: u64 = 1;
 const CASES: u64 = 10_000;
-const EVERY: u64 = 8;
+const EVERY: u64 = 16;
 
 const TEXT: u8 = 0x40;
 const ASKED: u8 = 0x41;
-const ASKED_BY_01: u8 = 0x42;
+const ASKED_BY_DOCUMENTS: u8 = 0x42;
 
 const ENTRIES: [&str; 14] = [
     "begin",
@@ -36,6 +34,10 @@ const ENTRIES: [&str; 14] = [
     "recover_step",
     "list_keys",
 ];
+
+/// As `choice::Kind` numbers them, from 1.
+const OPERATIONS: [&str; 8] =
+    ["Write of kind 1", "Delete", "DeleteAll", "CreateCollection", "DeleteCollection", "CopyCollection", "marked 0", "marked 1"];
 
 /// Every step of document 01: 0x2A is none.
 const STEPS: [u8; 14] = [0x20, 0x21, 0x22, 0x23, 0x24, 0x25, 0x26, 0x27, 0x28, 0x29, 0x2B, 0x2C, 0x2D, 0x2E];
@@ -62,12 +64,28 @@ pub fn run(panel: &mut Panel, table: &str, root: &str) {
     write("crates/replay/stdout", replay.printed.as_bytes());
 }
 
-/// The answer that decides, and whether it is document 01's alone. The other judges must agree with it.
-fn decided(panel: &Panel, question: &Question) -> (Answer, bool) {
-    assert!(!panel.differ(question), "the judges differ: {}", text::command(&question.call, &question.image, question.lent));
-    let asked = |judge| ask(judge, &question.call, &question.image, question.lent);
-    let answer = asked(panel.original.as_ref().expect("the original"));
-    if answer.number == NO_OPINION { (ask(&Plain, &question.call, &question.image, question.lent), true) } else { (answer, false) }
+/// The answer that decides, and whose it is. The judges must agree.
+fn decided(panel: &Panel, question: &Question) -> (Answer, By) {
+    let differ = || panic!("the judges differ: {}", text::command(&question.call, &question.image, question.lent));
+    panel.decide(question).unwrap_or_else(differ)
+}
+
+/// The tag under which a question is listed.
+fn tag(by: By) -> u8 {
+    match by {
+        By::Original | By::ButForMarks => ASKED,
+        By::Item4 | By::Documents => ASKED_BY_DOCUMENTS,
+    }
+}
+
+/// How a line of corners says whose its answer is.
+fn said_by(by: By) -> &'static str {
+    match by {
+        By::Original => "",
+        By::ButForMarks => "but for kind and mark | ",
+        By::Item4 => "other than the original, by document 02 | ",
+        By::Documents => "by the documents alone | ",
+    }
 }
 
 /// A question as the fields of a list.
@@ -106,11 +124,11 @@ fn corners_list(panel: &Panel, table: &str) -> (Vec<u8>, String) {
             Line::Part(part) => format!("{part}\n"),
             Line::Sentence(sentence) => format!("  {sentence}\n"),
             Line::Asked { label, question, told } => {
-                let (answer, by_01) = decided(panel, question);
+                let (answer, by) = decided(panel, question);
                 assert_eq!(*told, text::answer(&question.call, &answer), "{label}");
-                let label = format!("    {label} | {}", if by_01 { "by document 01 alone | " } else { "" });
+                let label = format!("    {label} | {}", said_by(by));
                 put_field(&mut list, TEXT, &[label.as_bytes()]);
-                put_field(&mut list, if by_01 { ASKED_BY_01 } else { ASKED }, &[&fields(question)]);
+                put_field(&mut list, tag(by), &[&fields(question)]);
                 printed += &format!("{label}{}\n", shown(&answer));
                 continue;
             }
@@ -181,13 +199,13 @@ struct Replay {
 
 impl Replay {
     fn new(panel: &Panel, chosen: &[(Kind, Question)]) -> Replay {
-        let (mut list, mut by_01) = (Vec::new(), 0);
+        let (mut list, mut whose) = (Vec::new(), [0; 4]);
         for (_, question) in chosen {
-            let (answer, alone) = decided(panel, question);
+            let (answer, by) = decided(panel, question);
             let mut value = fields(question);
             put_answer(&mut value, &answer);
-            put_field(&mut list, if alone { ASKED_BY_01 } else { ASKED }, &[&value]);
-            by_01 += usize::from(alone);
+            put_field(&mut list, tag(by), &[&value]);
+            whose[by as usize] += 1;
         }
         let mut entries: BTreeMap<u8, BTreeMap<u32, usize>> = BTreeMap::new();
         chosen.iter().for_each(|(kind, _)| *entries.entry(kind.entry).or_default().entry(kind.number).or_default() += 1);
@@ -196,8 +214,9 @@ impl Replay {
             let cells: Vec<String> = numbers.iter().map(|(number, count)| format!("{number}:{count}")).collect();
             printed += &format!("{} {}\n", ENTRIES[usize::from(*entry) - 1], cells.join(" "));
         }
-        let tables = tables(chosen, by_01, &printed);
-        printed += &format!("{0} of {0} answers are equal, {by_01} of them by document 01 alone\n", chosen.len());
+        let tables = tables(chosen, whose, &printed);
+        let by_documents = whose[By::Item4 as usize] + whose[By::Documents as usize];
+        printed += &format!("{0} of {0} answers are equal, {by_documents} of them by the documents alone\n", chosen.len());
         Replay { list, printed, tables }
     }
 
@@ -206,14 +225,15 @@ impl Replay {
             "# How this list was made
 
 `answers` holds questions to the exported entries, each with its answer; crates/questions/src/lib.rt has its layout. `oracle/lists` makes it
-anew, with this page and ../stdout, and `oracle/lists --check` compares. The answers are the original's, or document 01's alone where the
-original has no opinion; the port is not asked.
+anew, with this page and ../stdout, and `oracle/lists --check` compares. The answers are the original's, but for the kinds and marks of Writes;
+where it has no opinion, or document 02, item 4 departs from it, they are the documents' alone. The port is not asked.
 
 The questions are those of the runs `random {SEED} {CASES}`, `small narrow {EVERY}`, `boundary` and `damaged` of oracle/driver. They are sorted into
-kinds: entry, number, kind of log, kinds of operations in it, tags of the steps, what the names, the image and the lent lengths are like. The
-shortest of each kind are kept. Of these are taken, first, all that bring an entry's first answer of a number with some log, operation, name
-or mark, or its first step of a tag; then, in turn, some of each entry, number, log, and step or operations (oracle/driver/src/choice.rs).
-Every number and every step must be there, and each of the useless stores of oracle/driver/src/wrong.rs is found out.
+kinds: entry, number, kind of log, kinds of operations in it, tags of the steps, what the names, the image and the lent lengths are like, and
+whether document 02, item 4 gives another answer than the original. The shortest of each kind are kept. Of these are taken, first, all that
+bring an entry's first answer of a number with some log, operation, name or sign, or its first step of a tag; then, in turn, some of each
+entry, number, log, and step or operations (oracle/driver/src/choice.rs). Every number and every step must be there, and each of the useless
+stores of oracle/driver/src/wrong.rs is found out.
 
 {}",
             self.tables
@@ -221,18 +241,23 @@ Every number and every step must be there, and each of the useless stores of ora
     }
 }
 
-/// How many questions there are by entry and number, by kind of log, and by the step that is asked for.
-fn tables(chosen: &[(Kind, Question)], by_01: usize, entries: &str) -> String {
+/// How many questions there are by entry and number, by kind of log, by operation in it, and by the step that is asked for.
+fn tables(chosen: &[(Kind, Question)], [_, but_for_marks, item_4, documents]: [usize; 4], entries: &str) -> String {
     let count = |test: &dyn Fn(&Kind) -> bool| chosen.iter().filter(|(kind, _)| test(kind)).count();
     let numbers: Vec<String> = (0..=16).map(|n| format!("{n}:{}", count(&|kind| kind.number == n))).collect();
     let logs: Vec<String> = LOGS.iter().enumerate().map(|(at, log)| format!("{log}: {}", count(&|kind| kind.log == at))).collect();
     let steps: Vec<String> = STEPS.iter().map(|tag| format!("{tag:02x}:{}", count(&|kind| kind.asked_for() == Some(*tag)))).collect();
+    let operations: Vec<String> =
+        OPERATIONS.iter().zip(1..).map(|(what, at)| format!("{what}: {}", count(&|kind| kind.operations.contains(&at)))).collect();
     format!(
-        "{} questions, {by_01} by document 01 alone. By entry, number and count:\n\n    {}\n\nBy number: {}.\n\nBy log: {}.\n\nBy step asked for: {}.\n",
+        "{} questions: {documents} on which the original has no opinion, {item_4} in which document 02, item 4 departs from it, {but_for_marks} \
+         that it answers but for kind and mark. By entry, number and count:\n\n    {}\n\nBy number: {}.\n\nBy log: {}.\n\nBy operation \
+         in a log that is carried out or back: {}.\n\nBy step asked for: {}.\n",
         chosen.len(),
         entries.trim_end().replace('\n', "\n    "),
         numbers.join(", "),
         logs.join("; "),
+        operations.join(", "),
         steps.join(", ")
     )
 }

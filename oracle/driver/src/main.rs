@@ -1,4 +1,4 @@
-//! Compares the port, the original and the plain reading of document 01.
+//! Compares the port, the original and the plain reading of documents 01 and 02.
 mod boundary;
 mod child;
 mod choice;
@@ -11,12 +11,14 @@ mod host;
 mod lists;
 mod panel;
 mod random;
+mod rule;
 mod shrink;
 mod small;
 mod text;
 mod wrong;
 
 use panel::Panel;
+use plain::image::unmarked;
 use std::io::Write;
 use store::{Call, Lent, Plan, Store, ask};
 
@@ -27,6 +29,8 @@ diff small narrow|wide [N REST]  every small case, or each whose number divided 
 diff boundary                    limits
 diff damaged [N]                 damaged logs and images, all or each N-th
 diff cuts SEED TRANSACTIONS      the original stopped after each step
+diff rule SEED TRANSACTIONS      the cut rule of documents 01 and 02, recoveries cut again too
+diff rule small                  the same of every small case
 diff host SEED TURNS             the host and the original on one directory, in turns
 diff lists FILE ROOT             the lists of the programs corners and replay, and what these must print
 diff show CALL IMAGE             every judge's answer; the steps too, of a commit or recovery
@@ -55,6 +59,8 @@ fn main() {
         Some("boundary") => boundary::run(&mut panel),
         Some("damaged") => damaged::run(&mut panel, number(1).unwrap_or(1) as usize),
         Some("cuts") => cuts::run(&mut panel, number(1).unwrap_or(1), number(2).unwrap_or(100)),
+        Some("rule") if words[1] == "small" => rule::run_small(&mut panel),
+        Some("rule") => rule::run(&mut panel, number(1).unwrap_or(1), number(2).unwrap_or(100)),
         #[cfg(feature = "host")]
         Some("host") => host::run(&mut panel, number(1).unwrap_or(1), number(2).unwrap_or(100)),
         #[cfg(not(feature = "host"))]
@@ -92,8 +98,16 @@ fn show(panel: &Panel, words: &[String], lent: Lent) {
         Call::Recover => Some(Plan::Recover),
         _ => None,
     };
+    let marked = panel.original.is_some() && unmarked(&image) != image;
+    if marked {
+        lines += "the original has no marked Write: it is given Writes of kind 1\n";
+    }
     if let Some(plan) = plan {
-        lines += &steps(panel.judges()[0], plan, &image);
+        let judges = panel.judges();
+        lines += &steps(judges[0], plan, &image);
+        if marked {
+            lines += &steps(judges[judges.len() - 1], plan, &image);
+        }
     }
     let _ = std::io::stdout().write_all(lines.as_bytes());
 }

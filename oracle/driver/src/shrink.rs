@@ -63,6 +63,9 @@ fn smaller_images(image: &Image) -> Vec<Image> {
                 let mut fewer = found.clone();
                 fewer.remove(at);
                 without(&|i| i.log = Some(text::log(status, &fewer)));
+                let mut plainer = found.clone();
+                plainer[at] = plainer[at].clone().with_mark(None);
+                without(&|i| i.log = Some(text::log(status, &plainer)));
             });
         }
         fewer_bytes(log).into_iter().for_each(|fewer| without(&|i| i.log = Some(fewer.clone())));
@@ -107,7 +110,7 @@ fn shorter_names(image: &Image, q: &Question) -> Vec<Question> {
 fn names_of(o: &Operation) -> Vec<Name> {
     use Operation::*;
     match o {
-        Write { collection, key, staged } => vec![collection.clone(), key.clone(), staged.clone()],
+        Write { collection, key, staged, .. } => vec![collection.clone(), key.clone(), staged.clone()],
         Delete { collection, key } => vec![collection.clone(), key.clone()],
         DeleteAll { collection: name } | CreateCollection { name } | DeleteCollection { name } => vec![name.clone()],
         CopyCollection { source, dest, .. } => vec![source.clone(), dest.clone()],
@@ -117,7 +120,7 @@ fn names_of(o: &Operation) -> Vec<Name> {
 fn renamed(o: &Operation, new: &dyn Fn(&Name) -> Name) -> Operation {
     use Operation::*;
     match o {
-        Write { collection, key, staged } => Write { collection: new(collection), key: new(key), staged: new(staged) },
+        Write { collection, key, staged, mark } => Write { collection: new(collection), key: new(key), staged: new(staged), mark: *mark },
         Delete { collection, key } => Delete { collection: new(collection), key: new(key) },
         DeleteAll { collection } => DeleteAll { collection: new(collection) },
         CreateCollection { name } => CreateCollection { name: new(name) },

@@ -1,4 +1,5 @@
-//! Every small case: stores of up to two directories with up to two files each, lists of up to two operations, every cut.
+//! Every small case: stores of up to two directories with up to two files each, lists of up to two operations, Writes of both kinds and with
+//! either mark, every cut.
 use crate::panel::Panel;
 use crate::text;
 use plain::{Image, Name, Operation, image::Files, log::Status};
@@ -22,19 +23,27 @@ pub fn run(panel: &mut Panel, names: &Names, every: u64, rest: u64) {
     let mut seen: HashSet<u64> = HashSet::new();
     for case in (rest..total).step_by(every as usize) {
         let (store, list) = (&stores[case as usize / lists.len()], &lists[case as usize % lists.len()]);
-        let image = Image { log: Some(text::log(Status::Recording, list)), open: true, ..store.clone() };
+        let images: Vec<Vec<u8>> = markings(list).iter().map(|list| transaction(store, list).encode()).collect();
+        let cuts = panel.plans(Plan::Commit, &images);
         // Many cuts leave the same image, of this commit or another: it is recovered once.
-        for cut in panel.plan(Plan::Commit, &image.encode()) {
+        let mut is_new = |cut: &&[u8]| {
             let mut hasher = DefaultHasher::new();
             cut.hash(&mut hasher);
-            if seen.insert(hasher.finish()) {
-                panel.plan(Plan::Recover, &cut);
-            }
+            seen.insert(hasher.finish())
+        };
+        for n in 0..cuts.iter().map(Vec::len).max().unwrap_or_default() {
+            let after_n: Vec<&[u8]> = cuts.iter().filter_map(|cuts| Some(cuts.get(n)?.as_slice())).filter(&mut is_new).collect();
+            panel.plans(Plan::Recover, &after_n);
         }
         panel.progress("small", case, total);
     }
     let part = if every == 1 { String::new() } else { format!(", every {every}th from {rest} on") };
     panel.summary(&format!("small, {} stores, {} lists, {} cut images{part}", stores.len(), lists.len(), seen.len()));
+}
+
+/// The store with an open transaction of these operations.
+pub fn transaction(store: &Image, list: &[Operation]) -> Image {
+    Image { log: Some(text::log(Status::Recording, list)), open: true, ..store.clone() }
 }
 
 /// The parts of at most two names.
@@ -47,7 +56,7 @@ fn parts<'a>(names: &[&'a str]) -> Vec<Vec<&'a str>> {
     parts
 }
 
-fn stores(names: &Names) -> Vec<Image> {
+pub fn stores(names: &Names) -> Vec<Image> {
     let folders = parts(names.files);
     let mut stores = Vec::new();
     for dirs in parts(names.dirs) {
@@ -72,15 +81,16 @@ fn stores(names: &Names) -> Vec<Image> {
     stores
 }
 
-/// Every list of at most two operations on these names.
-fn lists(names: &Names) -> Vec<Vec<Operation>> {
+/// Every list of at most two operations on these names, Writes of kind 1.
+pub fn lists(names: &Names) -> Vec<Vec<Operation>> {
     use Operation::*;
     let mut all = Vec::new();
     for dir in names.dirs {
         let collection = Name::from(*dir);
         for file in names.files {
             let key = Name::from(*file);
-            all.extend(["s", "t", "u"].map(|staged| Write { collection: collection.clone(), key: key.clone(), staged: staged.into() }));
+            let write = |staged: &str| Write { collection: collection.clone(), key: key.clone(), staged: staged.into(), mark: None };
+            all.extend(["s", "t", "u"].map(write));
             all.push(Delete { collection: collection.clone(), key });
         }
         for dest in names.dirs {
@@ -94,4 +104,16 @@ fn lists(names: &Names) -> Vec<Vec<Operation>> {
     lists.extend(all.iter().map(|o| vec![o.clone()]));
     lists.extend(all.iter().flat_map(|first| all.iter().map(move |second| vec![first.clone(), second.clone()])));
     lists
+}
+
+/// A list, and the same with marked Writes: every choice of kinds and marks.
+pub fn markings(list: &[Operation]) -> Vec<Vec<Operation>> {
+    list.iter().fold(vec![vec![]], |lists, operation| {
+        let marks = if matches!(operation, Operation::Write { .. }) { &[None, Some(false), Some(true)][..] } else { &[None] };
+        let with_one_more = |list: Vec<Operation>| {
+            let one_more = |mark: &Option<bool>| [list.clone(), vec![operation.clone().with_mark(*mark)]].concat();
+            marks.iter().map(one_more).collect::<Vec<_>>()
+        };
+        lists.into_iter().flat_map(with_one_more).collect()
+    })
 }

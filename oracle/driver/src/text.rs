@@ -1,11 +1,11 @@
 //! Images, calls and answers as text, so that a difference can be read, and pasted back.
 //!
 //! An image is words: `db/` a directory, `db/a=7` a file, `~s.tmp=9` a staging file, `recording` or `committing` a log,
-//! `/write/db/a/s.tmp` an operation in it (and `/delete/db/a`, `/delete_all/db`, `/create_collection/db`,
-//! `/delete_collection/db`, `/copy_collection/db/e/0` with whether the destination existed), `times:32` that operation so many
-//! times in all, `more:HEX` bytes behind the log, `log:HEX` any other log, `open` the open mark. `dirs:16`, `files:128`,
-//! `staged:32` and `bytes:6824` are so many directories, files of db, staging files and zero bytes of log. `hex:HEX` is an
-//! image by its bytes. A name that can't be a word is `hex:HEX` too.
+//! `/write/db/a/s.tmp` an operation in it, a Write of kind 1, `/write/db/a/s.tmp/1` a marked Write with its mark (and
+//! `/delete/db/a`, `/delete_all/db`, `/create_collection/db`, `/delete_collection/db`, `/copy_collection/db/e/0` with whether the
+//! destination existed), `times:32` that operation so many times in all, `more:HEX` bytes behind the log, `log:HEX` any other
+//! log, `open` the open mark. `dirs:16`, `files:128`, `staged:32` and `bytes:6952` are so many directories, files of db, staging
+//! files and zero bytes of log. `hex:HEX` is an image by its bytes. A name that can't be a word is `hex:HEX` too.
 use plain::{
     Image, Name, Operation,
     log::{Ending, Status, append, header, operations, status},
@@ -33,7 +33,10 @@ fn read_name(text: &str) -> Name {
 fn operation(o: &Operation) -> String {
     use Operation::*;
     match o {
-        Write { collection, key, staged } => format!("/write/{}/{}/{}", name(collection), name(key), name(staged)),
+        Write { collection, key, staged, mark } => {
+            let mark = mark.map_or(String::new(), |stood| format!("/{}", u8::from(stood)));
+            format!("/write/{}/{}/{}{mark}", name(collection), name(key), name(staged))
+        }
         Delete { collection, key } => format!("/delete/{}/{}", name(collection), name(key)),
         DeleteAll { collection } => format!("/delete_all/{}", name(collection)),
         CreateCollection { name: n } => format!("/create_collection/{}", name(n)),
@@ -42,17 +45,25 @@ fn operation(o: &Operation) -> String {
     }
 }
 
+fn read_flag(text: &str) -> bool {
+    match text {
+        "0" => false,
+        "1" => true,
+        other => panic!("{other} is not 0 or 1"),
+    }
+}
+
 fn read_operation(text: &str) -> Operation {
     use Operation::*;
     let parts: Vec<&str> = text.split('/').skip(1).collect();
     let n = |i: usize| read_name(parts[i]);
     match parts[0] {
-        "write" => Write { collection: n(1), key: n(2), staged: n(3) },
+        "write" => Write { collection: n(1), key: n(2), staged: n(3), mark: parts.get(4).map(|mark| read_flag(mark)) },
         "delete" => Delete { collection: n(1), key: n(2) },
         "delete_all" => DeleteAll { collection: n(1) },
         "create_collection" => CreateCollection { name: n(1) },
         "delete_collection" => DeleteCollection { name: n(1) },
-        "copy_collection" => CopyCollection { source: n(1), dest: n(2), existed: parts[3] == "1" },
+        "copy_collection" => CopyCollection { source: n(1), dest: n(2), existed: read_flag(parts[3]) },
         other => panic!("no operation is called {other}"),
     }
 }

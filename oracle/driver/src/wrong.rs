@@ -1,13 +1,14 @@
-//! Useless stores, most of them from document 01's note to the testers, in the port's place: the panel must differ on each.
+//! Useless stores, most of them from document 01's note to the testers, three of document 02's item 4, in the port's place: the panel must
+//! differ on each.
 use crate::corners;
 use crate::panel::{Panel, Question};
-use plain::Plain;
-use store::{Call, Out, Plan, Store};
+use plain::{Image, Plain, image::unmarked, log::map_operations};
+use store::{Call, Out, Plan, Store, pass};
 
 /// Spoils an answer of the plain reading: the call, the lent image, the number, the outputs.
 type Spoil = fn(&Call, &[u8], u32, &mut Out, &mut Out) -> u32;
 
-const WRONG: [(&str, Spoil); 11] = [
+const WRONG: [(&str, Spoil); 14] = [
     ("refuses each call", |_, _, _, _, _| 4),
     ("gives one image always", |_, _, number, out, _| {
         if number == 0 {
@@ -61,7 +62,23 @@ const WRONG: [(&str, Spoil); 11] = [
         }
         _ => number,
     }),
+    ("records a Write as kind 1", |call, _, number, out, _| record_marked(call, number, out, None)),
+    ("every written key is marked as standing", |call, _, number, out, _| record_marked(call, number, out, Some(true))),
+    ("recovery reads no mark", |call, image, number, out, _| match call {
+        Call::Recover => Plain.recover(&unmarked(image), out),
+        _ => number,
+    }),
 ];
+
+/// Gives the Writes of the log that is handed back this mark.
+fn record_marked(call: &Call, number: u32, out: &mut Out, mark: Option<bool>) -> u32 {
+    if matches!(call, Call::Write { .. }) && number == 0 {
+        let image = Image::decode(&out.bytes[..out.written]).expect("an image");
+        let log = image.log.as_deref().map(|log| map_operations(log, |operation| operation.with_mark(mark)));
+        out.put(&Image { log, ..image }.encode());
+    }
+    number
+}
 
 pub fn run(panel: &mut Panel, file: &str) {
     let questions: Vec<Question> = corners::read(file).into_iter().map(|(question, _)| question).collect();
@@ -85,8 +102,21 @@ pub fn found_out(panel: &mut Panel, questions: &[Question], file: &str) {
 struct Wrong(Spoil);
 
 impl Wrong {
-    fn spoiled(&self, call: Call, image: &[u8], number: u32, out: &mut Out) -> u32 {
-        (self.0)(&call, image, number, out, &mut Out { bytes: &mut [], written: 0 })
+    /// The plain reading's answer, spoiled. Behind what is written anew stand the bytes that were lent.
+    fn answer(&self, call: Call, image: &[u8], out: &mut Out, step: &mut Out, pending: &mut u32) -> u32 {
+        let clean = out.bytes.to_vec();
+        let number = pass(&Plain, &call, image, out, step, pending);
+        let end = out.written.min(clean.len());
+        let number = (self.0)(&call, image, number, out, step);
+        if out.written < end {
+            out.bytes[out.written..end].copy_from_slice(&clean[out.written..end]);
+        }
+        number
+    }
+
+    /// An entry with one output.
+    fn one(&self, call: Call, image: &[u8], out: &mut Out) -> u32 {
+        self.answer(call, image, out, &mut Out { bytes: &mut [], written: 0 }, &mut 0)
     }
 }
 
@@ -95,51 +125,47 @@ impl Store for Wrong {
         "wrong"
     }
     fn begin(&self, image: &[u8], out: &mut Out) -> u32 {
-        self.spoiled(Call::Begin, image, Plain.begin(image, out), out)
+        self.one(Call::Begin, image, out)
     }
     fn write(&self, image: &[u8], collection: &[u8], key: &[u8], staged: &[u8], number: u32, out: &mut Out) -> u32 {
         let call = Call::Write { collection: collection.into(), key: key.into(), staged: staged.into(), number };
-        self.spoiled(call, image, Plain.write(image, collection, key, staged, number, out), out)
+        self.one(call, image, out)
     }
     fn delete(&self, image: &[u8], collection: &[u8], key: &[u8], out: &mut Out) -> u32 {
-        let call = Call::Delete { collection: collection.into(), key: key.into() };
-        self.spoiled(call, image, Plain.delete(image, collection, key, out), out)
+        self.one(Call::Delete { collection: collection.into(), key: key.into() }, image, out)
     }
     fn delete_all(&self, image: &[u8], collection: &[u8], out: &mut Out) -> u32 {
-        self.spoiled(Call::DeleteAll { collection: collection.into() }, image, Plain.delete_all(image, collection, out), out)
+        self.one(Call::DeleteAll { collection: collection.into() }, image, out)
     }
     fn create_collection(&self, image: &[u8], name: &[u8], out: &mut Out) -> u32 {
-        self.spoiled(Call::CreateCollection { name: name.into() }, image, Plain.create_collection(image, name, out), out)
+        self.one(Call::CreateCollection { name: name.into() }, image, out)
     }
     fn delete_collection(&self, image: &[u8], name: &[u8], out: &mut Out) -> u32 {
-        self.spoiled(Call::DeleteCollection { name: name.into() }, image, Plain.delete_collection(image, name, out), out)
+        self.one(Call::DeleteCollection { name: name.into() }, image, out)
     }
     fn copy_collection(&self, image: &[u8], source: &[u8], dest: &[u8], out: &mut Out) -> u32 {
-        let call = Call::CopyCollection { source: source.into(), dest: dest.into() };
-        self.spoiled(call, image, Plain.copy_collection(image, source, dest, out), out)
+        self.one(Call::CopyCollection { source: source.into(), dest: dest.into() }, image, out)
     }
     fn commit(&self, image: &[u8], out: &mut Out) -> u32 {
-        self.spoiled(Call::Commit, image, Plain.commit(image, out), out)
+        self.one(Call::Commit, image, out)
     }
     fn commit_step(&self, image: &[u8], n: u64, out: &mut Out, step: &mut Out) -> u32 {
-        let number = Plain.commit_step(image, n, out, step);
-        (self.0)(&Call::CommitStep(n), image, number, out, step)
+        self.answer(Call::CommitStep(n), image, out, step, &mut 0)
     }
     fn rollback(&self, image: &[u8], out: &mut Out) -> u32 {
-        self.spoiled(Call::Rollback, image, Plain.rollback(image, out), out)
+        self.one(Call::Rollback, image, out)
     }
     fn has_pending_work(&self, image: &[u8], pending: &mut u32) -> u32 {
-        let number = Plain.has_pending_work(image, pending);
-        self.spoiled(Call::HasPendingWork, image, number, &mut Out { bytes: &mut [], written: 0 })
+        let none = || Out { bytes: &mut [], written: 0 };
+        self.answer(Call::HasPendingWork, image, &mut none(), &mut none(), pending)
     }
     fn recover(&self, image: &[u8], out: &mut Out) -> u32 {
-        self.spoiled(Call::Recover, image, Plain.recover(image, out), out)
+        self.one(Call::Recover, image, out)
     }
     fn recover_step(&self, image: &[u8], n: u64, out: &mut Out, step: &mut Out) -> u32 {
-        let number = Plain.recover_step(image, n, out, step);
-        (self.0)(&Call::RecoverStep(n), image, number, out, step)
+        self.answer(Call::RecoverStep(n), image, out, step, &mut 0)
     }
     fn list_keys(&self, image: &[u8], collection: &[u8], out: &mut Out) -> u32 {
-        self.spoiled(Call::ListKeys { collection: collection.into() }, image, Plain.list_keys(image, collection, out), out)
+        self.one(Call::ListKeys { collection: collection.into() }, image, out)
     }
 }

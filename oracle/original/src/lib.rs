@@ -4,6 +4,9 @@
 //! Where document 01 added a rule, the original has no opinion (`NO_OPINION`): numbers 1, 2, 4, 5, 10, 12, and 6 for a name
 //! that the original takes. Document 01's limits are laid upon it as failing calls (`Watch::within_limits`), so 14 for a
 //! long backup name and 15 are 01's, and what follows them is the original's.
+//!
+//! The original has no marked Write (document 02, item 4): a log with some is put on disk with Writes of kind 1 in their
+//! place, and its answers have such a log too.
 mod calls;
 mod disk;
 mod listing;
@@ -14,7 +17,12 @@ pub use trace::{Cut, Trace};
 
 use cda_interfaces::storage_api::{Collection, CollectionName, Operation, Storage, StorageError, Transaction, staging_folder};
 use cda_storage::{LocalStorage, WalStatus, collection, has_pending_work, open_wal, read_wal, sanitize};
-use plain::{Image, image::STAGING_LIMIT, image::put_field, log::OPERATION_LIMIT, name::is_valid};
+use plain::{
+    Image,
+    image::{self, STAGING_LIMIT, put_field},
+    log::OPERATION_LIMIT,
+    name::is_valid,
+};
 use std::cell::Cell;
 use std::path::Path;
 use std::time::{Duration, Instant};
@@ -54,7 +62,7 @@ impl Original {
 
     /// How long the original's own code takes over a call, unwatched. The disk is made ready before and read back behind.
     pub fn time(&self, call: &Call, image: &[u8]) -> Duration {
-        let run = |plan| Image::decode(image).and_then(|image| self.run(plan, &image, Cut::Unwatched));
+        let run = |plan| decode(image, true).and_then(|image| self.run(plan, &image, Cut::Unwatched));
         let done = match call {
             Call::Commit => run(Plan::Commit).is_some(),
             Call::Recover => run(Plan::Recover).is_some(),
@@ -272,8 +280,14 @@ fn is_open(storage: &LocalStorage) -> bool {
     matches!(storage.begin_transaction(), Err(StorageError::TransactionBusy))
 }
 
+/// The store of an image, with an old log.
 fn decode(image: &[u8], room: bool) -> Opinion<Image> {
-    Image::decode(image).filter(|_| room)
+    Image::decode(image).filter(|_| room).map(Image::unmarked)
+}
+
+/// An answer as the original gives it: its image has an old log.
+pub fn old(answer: &Answer) -> Answer {
+    Answer { out: answer.out.as_deref().map(image::unmarked), ..answer.clone() }
 }
 
 /// Number 12 is added: a Committing log of which the original reads 32 operations and that goes on.
@@ -375,7 +389,7 @@ impl Store for Original {
     }
 
     fn has_pending_work(&self, image: &[u8], pending: &mut u32) -> u32 {
-        let Some(image) = Image::decode(image) else { return NO_OPINION };
+        let Some(image) = decode(image, true) else { return NO_OPINION };
         self.root.clear();
         self.root.put(&image);
         let (journal, collections) = (self.root.journal(), self.root.collections());
@@ -410,7 +424,7 @@ impl Store for Original {
 
     /// All answers by one run.
     fn plan(&self, plan: Plan, image: &[u8]) -> (Answer, Vec<Answer>) {
-        let run = Image::decode(image).and_then(|image| Some((self.run(plan, &image, Cut::Never)?, image)));
+        let run = decode(image, true).and_then(|image| Some((self.run(plan, &image, Cut::Never)?, image)));
         let (run, start) = match run {
             None => return (Answer::refusal(NO_OPINION), vec![Answer::refusal(NO_OPINION)]),
             Some((run, _)) if (11..=13).contains(&run.number) => {

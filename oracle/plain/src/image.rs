@@ -1,11 +1,13 @@
 //! A store and its image: document 01, 'How a store is handed over'.
-use crate::name::{self, Name};
+use crate::log;
+use crate::name::{self, Name, backup};
 use std::collections::BTreeMap;
 
 pub const DIR_LIMIT: usize = 16;
 pub const FILE_LIMIT: usize = 128;
 pub const STAGING_LIMIT: usize = 32;
-pub const LOG_LIMIT: usize = 6_824;
+/// "The log limit becomes 6,952 bytes" (02, item 4).
+pub const LOG_LIMIT: usize = 6_952;
 
 pub type Files = BTreeMap<Name, u32>;
 
@@ -40,6 +42,17 @@ impl Image {
 
     pub fn has(&self, dir: &[u8], file: &[u8]) -> bool {
         self.dirs.get(dir).is_some_and(|files| files.contains_key(file))
+    }
+
+    /// Whether a Write's target is new, "to remove or to count it". 02, item 4: "exactly if it stands, the mark is 0 and no backup of it
+    /// stands"; without a mark, of kind 1, it is asked as if the mark were 0.
+    pub fn is_new(&self, collection: &[u8], key: &[u8], mark: Option<bool>) -> bool {
+        self.has(collection, key) && mark != Some(true) && !self.has(collection, &backup(key))
+    }
+
+    /// The store with an old log, as `log::unmarked` has it.
+    pub fn unmarked(self) -> Image {
+        Image { log: self.log.as_deref().map(log::unmarked), ..self }
     }
 
     pub fn encode(&self) -> Vec<u8> {
@@ -94,6 +107,18 @@ impl Image {
             && image.log.as_ref().is_none_or(|log| log.len() <= LOG_LIMIT);
         within.then_some(image)
     }
+}
+
+/// As `Image::unmarked`, of bytes that need not pass for an image.
+pub fn unmarked(image: &[u8]) -> Vec<u8> {
+    let (mut out, mut rest) = (Vec::new(), image);
+    while let Some((tag, value)) = take_field(&mut rest) {
+        match tag {
+            0x13 => put_field(&mut out, tag, &[&log::unmarked(value)]),
+            _ => put_field(&mut out, tag, &[value]),
+        }
+    }
+    [&out, rest].concat()
 }
 
 /// Adds a file above those that stand.

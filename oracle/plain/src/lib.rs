@@ -1,4 +1,4 @@
-//! A plain reading of document 01: a store in memory, on ordered maps, with nothing in mind but the text.
+//! A plain reading of document 01, and of item 4 of document 02: a store in memory, on ordered maps, with nothing in mind but the text.
 pub mod image;
 pub mod log;
 pub mod name;
@@ -79,7 +79,7 @@ fn any_backup(image: &Image) -> bool {
 /// `has_new_artifacts`
 fn any_new_artifact(image: &Image, operations: &[Operation]) -> bool {
     operations.iter().any(|operation| match operation {
-        Operation::Write { collection, key, .. } => image.has(collection, key) && !image.has(collection, &backup(key)),
+        Operation::Write { collection, key, mark, .. } => image.is_new(collection, key, *mark),
         Operation::CreateCollection { name } => image.dirs.contains_key(name),
         Operation::CopyCollection { dest, existed, .. } => {
             !existed && image.dirs.contains_key(dest) && !image.dirs.contains_key(&backup(dest))
@@ -143,7 +143,9 @@ impl Store for Plain {
             let free = !image.staging.contains_key(staged) && image.staging.len() < image::STAGING_LIMIT;
             refuse_unless(free && number != 0, 10)?;
             image.staging.insert(staged.to_vec(), number);
-            Ok(Operation::Write { collection: collection.to_vec(), key, staged: staged.to_vec() })
+            // 02, item 4: "1 if the key's file stood when it was recorded, else 0"
+            let mark = Some(image.has(collection, &key));
+            Ok(Operation::Write { collection: collection.to_vec(), key, staged: staged.to_vec(), mark })
         })
     }
 

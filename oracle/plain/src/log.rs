@@ -1,13 +1,15 @@
-//! The log and its operations: document 01, wal.rs and 'How a store is handed over'.
+//! The log and its operations: document 01, wal.rs and 'How a store is handed over'; document 02, item 4.
 use crate::image::{put_field, take_field};
 use crate::name::{self, Name};
 
 pub const OPERATION_LIMIT: usize = 32;
 const HEADER: usize = 8;
 
+/// A Write with a mark is a marked Write, kind 7: the mark says whether "the key's file stood when it was recorded" (02, item 4). One of kind 1
+/// has none.
 #[derive(Clone, PartialEq, Eq, Hash, Debug)]
 pub enum Operation {
-    Write { collection: Name, key: Name, staged: Name },
+    Write { collection: Name, key: Name, staged: Name, mark: Option<bool> },
     Delete { collection: Name, key: Name },
     DeleteAll { collection: Name },
     CreateCollection { name: Name },
@@ -16,22 +18,52 @@ pub enum Operation {
 }
 
 /// The tags of each kind's fields; kind 1 is the first row.
-const ROWS: [&[u8]; 6] = [&[1, 2, 3, 4], &[1, 2, 3], &[1, 2], &[1, 2], &[1, 2], &[1, 2, 5, 6]];
+const ROWS: [&[u8]; 7] = [&[1, 2, 3, 4], &[1, 2, 3], &[1, 2], &[1, 2], &[1, 2], &[1, 2, 5, 6], &[1, 2, 3, 4, 7]];
+
+/// "one byte 0 or 1"
+fn flag(set: bool) -> &'static [u8] {
+    if set { &[1] } else { &[0] }
+}
+
+/// "all names valid"; of a mark "another value doesn't decode".
+fn is_valid(tag: u8, value: &[u8]) -> bool {
+    match tag {
+        1 => value.len() == 1,
+        6 | 7 => value == flag(false) || value == flag(true),
+        _ => name::is_valid(value),
+    }
+}
 
 impl Operation {
-    pub fn encode(&self) -> Vec<u8> {
+    pub fn kind(&self) -> u8 {
         use Operation::*;
-        let (kind, values): (u8, Vec<&[u8]>) = match self {
-            Write { collection, key, staged } => (1, vec![collection, key, staged]),
-            Delete { collection, key } => (2, vec![collection, key]),
-            DeleteAll { collection } => (3, vec![collection]),
-            CreateCollection { name } => (4, vec![name]),
-            DeleteCollection { name } => (5, vec![name]),
-            CopyCollection { source, dest, existed } => (6, vec![source, dest, if *existed { &[1] } else { &[0] }]),
-        };
+        match self {
+            Write { mark: None, .. } => 1,
+            Delete { .. } => 2,
+            DeleteAll { .. } => 3,
+            CreateCollection { .. } => 4,
+            DeleteCollection { .. } => 5,
+            CopyCollection { .. } => 6,
+            Write { mark: Some(_), .. } => 7,
+        }
+    }
+
+    /// The values behind the kind, in the order of its row.
+    fn values(&self) -> Vec<&[u8]> {
+        use Operation::*;
+        match self {
+            Write { collection, key, staged, mark: None } => vec![collection, key, staged],
+            Write { collection, key, staged, mark: Some(stood) } => vec![collection, key, staged, flag(*stood)],
+            Delete { collection, key } => vec![collection, key],
+            DeleteAll { collection: name } | CreateCollection { name } | DeleteCollection { name } => vec![name],
+            CopyCollection { source, dest, existed } => vec![source, dest, flag(*existed)],
+        }
+    }
+
+    pub fn encode(&self) -> Vec<u8> {
         let mut out = Vec::new();
-        put_field(&mut out, 1, &[&[kind]]);
-        for (tag, value) in ROWS[usize::from(kind) - 1][1..].iter().zip(values) {
+        put_field(&mut out, 1, &[&[self.kind()]]);
+        for (tag, value) in ROWS[usize::from(self.kind()) - 1][1..].iter().zip(self.values()) {
             put_field(&mut out, *tag, &[value]);
         }
         out
@@ -43,23 +75,38 @@ impl Operation {
         while !payload.is_empty() {
             fields.push(take_field(&mut payload)?);
         }
-        let (1, &[kind @ 1..=6]) = *fields.first()? else { return None };
+        let (1, &[kind @ 1..=7]) = *fields.first()? else { return None };
         let tags: Vec<u8> = fields.iter().map(|f| f.0).collect();
-        if tags != ROWS[usize::from(kind) - 1] || fields.iter().any(|(tag, v)| (2..=5).contains(tag) && !name::is_valid(v)) {
+        if tags != ROWS[usize::from(kind) - 1] || !fields.iter().all(|(tag, value)| is_valid(*tag, value)) {
             return None;
         }
         let value = |i: usize| fields[i].1.to_vec();
+        let is_set = |i: usize| fields[i].1 == flag(true);
         Some(match kind {
-            1 => Write { collection: value(1), key: value(2), staged: value(3) },
+            1 => Write { collection: value(1), key: value(2), staged: value(3), mark: None },
             2 => Delete { collection: value(1), key: value(2) },
             3 => DeleteAll { collection: value(1) },
             4 => CreateCollection { name: value(1) },
             5 => DeleteCollection { name: value(1) },
-            _ => match fields[3].1 {
-                [flag @ 0..=1] => CopyCollection { source: value(1), dest: value(2), existed: *flag == 1 },
-                _ => return None,
-            },
+            6 => CopyCollection { source: value(1), dest: value(2), existed: is_set(3) },
+            _ => Write { collection: value(1), key: value(2), staged: value(3), mark: Some(is_set(4)) },
         })
+    }
+
+    /// The mark of a marked Write.
+    pub fn mark(&self) -> Option<bool> {
+        match self {
+            Operation::Write { mark, .. } => *mark,
+            _ => None,
+        }
+    }
+
+    /// The operation with this mark, if it is a Write.
+    pub fn with_mark(mut self, new: Option<bool>) -> Operation {
+        if let Operation::Write { mark, .. } = &mut self {
+            *mark = new;
+        }
+        self
     }
 
     /// The collection whose directory commit syncs.
@@ -129,20 +176,42 @@ pub fn status(log: &[u8]) -> Option<Status> {
 /// The operations behind the header, up to where the walk ends, and how it ends.
 pub fn operations(log: &[u8]) -> (Vec<Operation>, Ending) {
     let mut found = Vec::new();
-    let mut rest = &log[HEADER..];
+    let ending = walk(&mut &log[HEADER..], &mut found);
+    (found, ending)
+}
+
+/// Takes the operations off the front of the entries.
+fn walk(rest: &mut &[u8], found: &mut Vec<Operation>) -> Ending {
     while !rest.is_empty() {
         if found.len() == OPERATION_LIMIT {
-            return (found, Ending::TooMany);
+            return Ending::TooMany;
         }
-        let Some((head, behind)) = rest.split_at_checked(8) else { return (found, Ending::Truncated) };
+        let Some((head, behind)) = rest.split_at_checked(8) else { return Ending::Truncated };
         let word = |i: usize| u32::from_le_bytes([head[i], head[i + 1], head[i + 2], head[i + 3]]);
-        let Some((payload, behind)) = behind.split_at_checked(word(4) as usize) else { return (found, Ending::Truncated) };
+        let Some((payload, behind)) = behind.split_at_checked(word(4) as usize) else { return Ending::Truncated };
         if payload.is_empty() || crc32(payload) != word(0) {
-            return (found, Ending::Truncated);
+            return Ending::Truncated;
         }
-        let Some(operation) = Operation::decode(payload) else { return (found, Ending::Undecodable) };
+        let Some(operation) = Operation::decode(payload) else { return Ending::Undecodable };
         found.push(operation);
-        rest = behind;
+        *rest = behind;
     }
-    (found, Ending::Whole)
+    Ending::Whole
+}
+
+/// The log with its operations changed; what isn't read of it stays.
+pub fn map_operations(log: &[u8], change: impl Fn(Operation) -> Operation) -> Vec<u8> {
+    if status(log).is_none() {
+        return log.to_vec();
+    }
+    let (head, mut rest) = log.split_at(HEADER);
+    let (mut found, mut changed) = (Vec::new(), head.to_vec());
+    walk(&mut rest, &mut found);
+    found.into_iter().for_each(|operation| append(&mut changed, &change(operation).encode()));
+    [&changed, rest].concat()
+}
+
+/// An old log, such as the original knows: each marked Write is one of kind 1, all else is as it was.
+pub fn unmarked(log: &[u8]) -> Vec<u8> {
+    map_operations(log, |operation| operation.with_mark(None))
 }

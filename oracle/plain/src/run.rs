@@ -1,4 +1,4 @@
-//! Commit and recovery, step by step and up to a cut. Document 01, local_storage.rs and recovery.rs.
+//! Commit and recovery, step by step and up to a cut. Document 01, local_storage.rs and recovery.rs; document 02, item 4.
 use crate::image::Image;
 use crate::log::Operation;
 use crate::name::{Name, backup, is_backup, is_tmp, original};
@@ -63,7 +63,7 @@ impl Run {
 
     fn apply(&mut self, operation: &Operation) -> Result<(), Stop> {
         match operation {
-            Operation::Write { collection, key, staged } => {
+            Operation::Write { collection, key, staged, .. } => {
                 self.make_directory(collection)?;
                 self.back_up_file(collection, key)?;
                 self.attempt(MoveStaged(staged.clone(), collection.clone(), key.clone()))
@@ -90,20 +90,14 @@ impl Run {
     fn undo(&mut self, operations: &[Operation]) -> Result<(), Stop> {
         for operation in operations.iter().rev() {
             match operation {
-                Operation::Write { collection, key, .. } => {
-                    if self.image.has(collection, key) && !self.image.has(collection, &backup(key)) {
-                        self.step(RemoveFile(collection.clone(), key.clone()))?;
-                    }
+                Operation::Write { collection, key, mark, .. } if self.image.is_new(collection, key, *mark) => {
+                    self.step(RemoveFile(collection.clone(), key.clone()))?
                 }
-                Operation::CreateCollection { name } => {
-                    if self.image.dirs.get(name).is_some_and(|files| files.is_empty()) {
-                        self.step(RemoveDirectory(name.clone()))?;
-                    }
+                Operation::CreateCollection { name } if self.image.dirs.get(name).is_some_and(|files| files.is_empty()) => {
+                    self.step(RemoveDirectory(name.clone()))?
                 }
-                Operation::CopyCollection { dest, existed: false, .. } => {
-                    if self.stands(dest) && !self.stands(&backup(dest)) {
-                        self.step(RemoveDirectory(dest.clone()))?;
-                    }
+                Operation::CopyCollection { dest, existed: false, .. } if self.stands(dest) && !self.stands(&backup(dest)) => {
+                    self.step(RemoveDirectory(dest.clone()))?
                 }
                 _ => {}
             }

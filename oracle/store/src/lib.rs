@@ -6,8 +6,8 @@ pub use call::{Answer, Call, Lent, Plan, ask, pass};
 
 pub type Name = Vec<u8>;
 
-/// Least lengths of the lent outputs (refusal 2).
-pub const IMAGE_ROOM: usize = 19_262;
+/// Least lengths of the lent outputs (refusal 2). 02, item 4: "the image limit and least output of refusal 2 become 19,390".
+pub const IMAGE_ROOM: usize = 19_390;
 pub const KEYS_ROOM: usize = 8_576;
 pub const STEP_ROOM: usize = 197;
 

@@ -1,6 +1,6 @@
 //! How times are taken: medians, in nanoseconds, in one thread.
 use crate::cases::{Case, steps};
-use original::Original;
+use original::{Original, old};
 use plain::Plain;
 use std::time::{Duration, Instant};
 use store::{Call, IMAGE_ROOM, Lent, Out, Plan, STEP_ROOM, Store, ask, pass};
@@ -53,13 +53,13 @@ fn of_original(call: &Call) -> bool {
     !matches!(call, Call::CommitStep(_) | Call::RecoverStep(_))
 }
 
-/// Times a call, to which all judges give the same answer.
+/// Times a call, to which all judges give the same answer, the original but for the kinds and marks of Writes.
 pub fn time(port: &dyn Store, original: &Original, case: &Case) -> Times {
     let answer = |store: &dyn Store| ask(store, &case.call, &case.image, Lent::AMPLE);
     assert_eq!(answer(port), answer(&Plain), "{}", case.what);
     let (on_port, on_plain) = in_memory(port, case, TURNS);
     let on_disk = of_original(&case.call).then(|| {
-        assert_eq!(answer(original), answer(&Plain), "{}", case.what);
+        assert_eq!(answer(original), old(&answer(&Plain)), "{}", case.what);
         median((0..TURNS).map(|_| original.time(&case.call, &case.image).as_nanos() as f64).collect())
     });
     Times { port: on_port, plain: on_plain, original: on_disk }

@@ -7,11 +7,12 @@ const START: &str = "## Against the original and a plain reading
 
     bench/compare
 
-It times each entry three times over on the same images: the port; the original's own code on a tmpfs; and the plain reading of document 01 in memory, on \
-ordered maps (`oracle/plain`), built with optimisation and without debug assertions. The original is not watched, and what the driver reads and writes \
-around it is not timed; its files have four bytes each, its listings are sorted, and no async runtime is behind it (`oracle/README.md`). Medians of 301 \
-turns in one thread; a turn in memory has as many calls as fill 50 µs. An operation is recorded as the last one of its transaction. Recovery starts where \
-all is done but the log stands. The original has no call for a single step. The command prints this section and draws the picture.
+It times each entry three times over on the same images: the port; the original's own code on a tmpfs; and the plain reading of documents 01 and 02 in \
+memory, on ordered maps (`oracle/plain`), built with optimisation and without debug assertions. The original has no marked Write and is given Writes of \
+kind 1 in their place. It is not watched, and what the driver reads and writes around it is not timed; its files have four bytes each, its listings are \
+sorted, and no async runtime is behind it (`oracle/README.md`). Medians of 301 turns in one thread; a turn in memory has as many calls as fill 50 µs. An \
+operation is recorded as the last one of its transaction. Recovery starts where all is done but the log stands. The original has no call for a single \
+step. The command prints this section and draws the picture.
 
 ![Times of the entries](compare.svg)
 ";

@@ -9,10 +9,11 @@
 extern "C" {
 #endif
 
-/* Least lengths of the lent outputs: an image, a key list, a step field. */
-#define CDA_STORAGE_IMAGE_ROOM 19262
+/* Least lengths of the lent outputs (an image, a key list, a step field), and the most bytes of a log. */
+#define CDA_STORAGE_IMAGE_ROOM 19390
 #define CDA_STORAGE_KEYS_ROOM 8576
 #define CDA_STORAGE_STEP_ROOM 197
+#define CDA_STORAGE_LOG_LIMIT 6952
 
 /* What the functions return: 0, or a refusal, which leaves outputs and counters as they were (but for 14 and 15 of a commit). */
 enum cda_storage_number {
@@ -56,7 +57,7 @@ uint32_t cda_storage_begin(
     const uint8_t *image, size_t image_len,
     uint8_t *out, size_t out_len, size_t *out_written);
 
-/* Records a Write of the staged content to a key, which is lowered, and adds the staging file with this number. */
+/* Records a Write of the staged content to a key, which is lowered, with a mark whether the key's file stands, and adds the staging file with this number. */
 uint32_t cda_storage_write(
     const uint8_t *image, size_t image_len,
     const uint8_t *collection, size_t collection_len,

@@ -41,8 +41,10 @@ use std::{
 /// - the removal of a directory removes its files one by one. Where a cut leaves a part of them, the next open removes the
 ///   rest.
 ///
-/// Outside the rule's conditions files can be lost, as with the original. Above all, a written key that existed is lost where
-/// the cut comes after the log is marked Committing and before the key's rename to its backup. docs/FINDINGS.md has them all.
+/// For Writes that were recorded by this version the rule speaks of every step, the first ones too: a key that was there is
+/// not lost. A log of an older version does not say which keys were there; a written key is lost where the cut comes after that
+/// log is marked Committing and before the key's rename to its backup. Outside the rule's conditions files can be lost, as with
+/// the original. docs/FINDINGS.md has the cases.
 ///
 /// Syncs are carried out where the original has them. What a loss of power takes from a disk is outside the rule.
 pub struct FileStore {

@@ -2,7 +2,7 @@
 mod common;
 
 use cda_store::{Contents, Image};
-use common::Folder;
+use common::{Folder, OLD_WRITE, RECORDING};
 use std::{
     collections::BTreeMap,
     fs,
@@ -18,9 +18,9 @@ The commit has 10 steps. Cut behind step n and recovered, the store has:
 
  n  step                       files
  0  -                          earlier
- 1  mark the log Committing    lost db/a (no backup yet)
- 2  sync the staging files     lost db/a (no backup yet)
- 3  sync the log               lost db/a (no backup yet)
+ 1  mark the log Committing    earlier
+ 2  sync the staging files     earlier
+ 3  sync the log               earlier
  4  rename db/a to db/a.bak    earlier
  5  move staged 2.tmp to db/a  earlier
  6  sync directory db          earlier
@@ -29,7 +29,7 @@ The commit has 10 steps. Cut behind step n and recovered, the store has:
  9  sync the journal           later
 10  remove db/a.bak            later
 
-11 cuts: 5 earlier, 3 lost, 3 later.
+11 cuts: 8 earlier, 3 later.
 ";
 
 /// A folder with a store in `store` and the files that are put.
@@ -179,6 +179,20 @@ fn an_image_file_holds_a_transaction() {
     place.fails(1, "cuts image", "refusal 1");
 }
 
+#[test]
+fn an_old_log_can_lose_a_key() {
+    let directories = [("db".to_string(), [("a".to_string(), 7)].into())].into();
+    let log = Some([RECORDING, OLD_WRITE].concat());
+    let old = Contents { directories, staging: [("s".to_string(), 9)].into(), log, open: true };
+    let place = Place::new();
+    fs::write(place.0.0.join("image"), old.image().unwrap().bytes()).unwrap();
+    let table = place.done("cuts image");
+    for step in ["1  mark the log Committing", "2  sync the staging files ", "3  sync the log           "] {
+        assert!(table.contains(&format!("\n {step}  lost db/a (no mark and no backup)\n")), "{table}");
+    }
+    assert!(table.contains("\n11 cuts: 5 earlier, 3 lost, 3 later.\n"), "{table}");
+}
+
 /// The first word that the table says of each cut.
 fn claims(table: &str) -> Vec<&str> {
     let rows = table.lines().skip(3).take_while(|line| !line.is_empty());
@@ -258,6 +272,8 @@ fn reasons_are_told() {
     told("put db/a new\ndrop db", &["changed db/a (written by this update); kept db/a.bak (a name in .bak)\n"]);
     told("copy db z\ncopy e z", &["kept z/, z/a (made by this update)\n"]);
     told("drop db\ncopy db z", &["This commit is refused, and its last steps roll it back: refusal 14"]);
+    fs::write(place.0.0.join("store/collections/db/K"), "").unwrap();
+    told("put db/k new\ndelete db/k\nput db/a new", &["lost db/k (no mark and no backup)\n"]);
     place.done("put store db/t.tmp old");
     told("clear db", &["lost db/t.tmp (a name in .tmp)\n"]);
 }
@@ -265,8 +281,8 @@ fn reasons_are_told() {
 #[test]
 fn the_picture_is_well_formed() {
     let place = Place::with_a();
-    place.done("put store db/<&\"'> old");
-    assert!(place.done("cuts store put db/a new db/<&\"'> new --svg cuts.svg").contains("lost db/<&\"'>"));
+    place.done("put store db/<&\"'>.tmp old");
+    assert!(place.done("cuts store put db/a new --svg cuts.svg").contains("lost db/<&\"'>.tmp (a name in .tmp)"));
     let picture = fs::read_to_string(place.0.0.join("cuts.svg")).unwrap();
     assert_eq!(open_elements(&picture), Vec::<String>::new());
     for words in ["&lt;&amp;&quot;'&gt;", ">earlier<", ">later<", ">lost<"] {

@@ -1,6 +1,9 @@
 //! The entries on images, every refusal, and every step in words.
-use cda_storage_sys::{self as sys, Output};
+mod common;
+
+use cda_storage_sys::{self as sys, IMAGE_ROOM, LOG_LIMIT, Output};
 use cda_store::{Contents, Files, Image, Refusal, Step};
+use common::{OLD_WRITE, RECORDING};
 use std::collections::BTreeMap;
 
 fn store(files: &[(&str, &[(&str, u32)])]) -> Contents {
@@ -16,6 +19,13 @@ fn begun(files: &[(&str, &[(&str, u32)])]) -> Image {
 /// db/a=7 and a Write of 9 to a, staged as s.tmp: document 01's ten-step case.
 fn ten_steps() -> Image {
     begun(&[("db", &[("a", 7)])]).write("db", "a", "s.tmp", 9).unwrap()
+}
+
+/// db/a=7 and b=8, and the ten-step case's Write to a as an older version recorded it.
+fn old_log() -> Image {
+    let log = Some([RECORDING, OLD_WRITE].concat());
+    let staging = Files::from([("s".into(), 9)]);
+    Contents { staging, log, open: true, ..store(&[("db", &[("a", 7), ("b", 8)])]) }.image().unwrap()
 }
 
 /// An image whose log is another.
@@ -63,16 +73,54 @@ fn the_ten_step_case() {
     assert_eq!(image.commit_step(0).unwrap(), (image.clone(), None));
     for n in 0..=10 {
         let cut = image.commit_step(n).unwrap().0;
-        let left: &[(&str, u32)] = match n {
-            1..=3 => &[],
-            0 | 4..=7 => &[("a", 7)],
-            _ => &[("a", 9)],
-        };
+        let left = if n < 8 { 7 } else { 9 };
         let recovered = cut.recover().unwrap();
-        assert_eq!(recovered.contents(), store(&[("db", left)]), "cut after {n}");
+        assert_eq!(recovered.contents(), store(&[("db", &[("a", left)])]), "cut after {n}");
         assert_eq!(cut.recover_steps().last().map_or(cut.clone(), |stepped| stepped.unwrap().image), recovered, "cut after {n}");
         assert!(!recovered.has_pending_work().unwrap());
     }
+}
+
+#[test]
+fn a_write_remembers_whether_its_key_was_there() {
+    let log = |key| begun(&[("db", &[("a", 7), ("B", 8)])]).write("db", key, "s", 9).unwrap().contents().log.unwrap();
+    let marked = |key: &[u8], mark| [b"\x01\x01\0\x07\x02\x02\0db\x03\x01\0", key, b"\x04\x01\0s\x07\x01\0", &[mark]].concat();
+    assert!(log("a").ends_with(&marked(b"a", 1)) && log("A").ends_with(&marked(b"a", 1)));
+    assert!(log("b").ends_with(&marked(b"b", 0)) && log("x").ends_with(&marked(b"x", 0)), "B is another file than b");
+}
+
+#[test]
+fn an_old_write_keeps_its_meaning() {
+    let told = |image: &Image| image.commit_steps().map(|stepped| stepped.unwrap().step.to_string()).collect::<Vec<_>>();
+    let alone = old_log();
+    assert_eq!(told(&alone), told(&ten_steps()).into_iter().map(|step| step.replace("s.tmp", "s")).collect::<Vec<_>>());
+    // A Write that is recorded behind it is a marked one: b stays where a is lost.
+    let mixed = alone.write("db", "b", "t", 10).unwrap();
+    for (image, log_goes, b) in [(alone, 8, 8), (mixed, 10, 10)] {
+        for n in 0..=told(&image).len() as u64 {
+            let left: &[(&str, u32)] = match n {
+                1..=3 => &[("b", 8)],
+                _ if n < log_goes => &[("a", 7), ("b", 8)],
+                _ => &[("a", 9), ("b", b)],
+            };
+            let recovered = image.commit_step(n).unwrap().0.recover().unwrap();
+            assert_eq!(recovered.contents(), store(&[("db", left)]), "cut after {n}");
+        }
+    }
+}
+
+#[test]
+fn the_largest_image_has_room() {
+    let name = |i: u32| format!("{i:064}");
+    let files = |count| (0..count).map(|i| (name(i), 1)).collect::<Files>();
+    let directories = (0..16).map(|i| (name(i), files(8))).collect();
+    let begun = Contents { directories, ..Contents::default() }.image().and_then(|image| image.begin()).unwrap();
+    let image = (0..32).fold(begun, |image, i| image.write(&name(0), &name(i), &name(i), 1).unwrap());
+    assert_eq!((image.contents().log.unwrap().len(), image.bytes().len()), (LOG_LIMIT, IMAGE_ROOM));
+    assert_eq!(image.commit_step(0).unwrap().0, image);
+    let mut longer = image.contents();
+    longer.log.as_mut().unwrap().push(0);
+    assert_eq!(longer.image(), Err(Refusal::InvalidImage));
 }
 
 #[test]
@@ -130,7 +178,7 @@ fn recording_is_refused() {
     assert_eq!(open.create_collection("db"), Err(Refusal::CollectionExists));
     assert_eq!(open.write("db", "a", "s.tmp", 0), Err(Refusal::StagingRefused));
     assert_eq!(ten_steps().write("db", "b", "s.tmp", 1), Err(Refusal::StagingRefused));
-    let (mut room, mut written) = ([0; sys::IMAGE_ROOM - 1], 0);
+    let (mut room, mut written) = ([0; IMAGE_ROOM - 1], 0);
     assert_eq!(sys::begin(b"", Output { bytes: &mut room, written: &mut written }), Refusal::OutputTooShort.number());
 }
 
@@ -142,7 +190,11 @@ fn recovery_is_refused() {
     assert_eq!(undecodable.recover_steps().collect::<Vec<_>>(), [Err(Refusal::UndecodablePayload)]);
     let full = (0..32).fold(begun(&[]), |image, _| image.delete_all("db").unwrap()).commit_step(1).unwrap().0;
     assert_eq!(with_log(&full, |log| log.push(0)).recover(), Err(Refusal::LogTooLong));
-    assert_eq!(with_log(&committing, |log| log.push(0)).recover(), Err(Refusal::Corruption));
+    let torn = |n| with_log(&ten_steps().commit_step(n).unwrap().0, |log| log.push(0)).recover();
+    (4..=7).for_each(|n| assert_eq!(torn(n), Err(Refusal::Corruption)));
+    (1..=3).for_each(|n| assert_eq!(torn(n).unwrap().contents(), store(&[("db", &[("a", 7)])]), "nothing was applied"));
+    let old = with_log(&old_log().commit_step(1).unwrap().0, |log| log.push(0));
+    assert_eq!(old.recover(), Err(Refusal::Corruption), "a standing key may be one that it wrote");
 }
 
 #[test]

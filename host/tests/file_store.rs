@@ -1,8 +1,9 @@
 //! A store on a real directory: what the calls do, what is refused, and what a failed file call leaves.
 mod common;
 
+use cda_storage_sys::LOG_LIMIT;
 use cda_store::{Event, FileStore, Refusal, Step, StoreError, Transaction, scan};
-use common::Folder;
+use common::{COMMITTING, Folder, OLD_WRITE, RECORDING};
 use std::{
     fs,
     io::{self, Read},
@@ -236,7 +237,7 @@ fn what_is_over_a_limit_is_named_and_left() {
     foreign(&store_and(|root| fill(root, "journal/staging", 32)), "journal/staging/s.tmp");
     let directories = |root: &Path| (0..16).for_each(|i| fs::create_dir(root.join(format!("collections/e{i:02}"))).unwrap());
     foreign(&store_and(directories), "collections/e15");
-    foreign(&store_and(|root| fs::write(root.join("journal/transaction.wal"), [0; 6825]).unwrap()), "journal/transaction.wal");
+    foreign(&store_and(|root| fs::write(root.join("journal/transaction.wal"), [0; LOG_LIMIT + 1]).unwrap()), "journal/transaction.wal");
 }
 
 #[test]
@@ -275,7 +276,7 @@ fn a_failed_call_stops_and_the_next_open_recovers() {
     assert!(matches!(FileStore::open(&folder.0), Err(StoreError::Foreign { .. })));
     fs::remove_dir(folder.0.join("collections/db/a.bak")).unwrap();
     FileStore::open(&folder.0).unwrap();
-    assert_eq!(folder.files(), ["db/"], "a key that waits for its backup is lost, as in the original (docs/FINDINGS.md, 2)");
+    assert_eq!(folder.files(), ["db/", "db/a=old"], "a key that has no backup yet");
 
     // The staged content is gone; the backup stands and is restored.
     let (folder, error) = fails_at(5, |root| fs::remove_dir_all(root.join("journal/staging")).unwrap());
@@ -304,14 +305,56 @@ fn a_lost_log_stops_the_recording() {
     assert_eq!(folder.files(), ["db/", "db/a=1"]);
 }
 
-#[test]
-fn a_refused_recovery_changes_nothing() {
-    let folder = Folder::with(&["db/a=1"]);
+/// A store with these files and this log; opened, it is recovered or refused.
+fn with_log(files: &[&str], log: &[u8]) -> Folder {
+    let folder = Folder::with(files);
     fs::create_dir(folder.0.join("journal")).unwrap();
-    let committing = scan(&folder.0).unwrap().begin().unwrap().write("db", "a", "s", 9).unwrap().commit_step(1).unwrap().0;
-    let log = [&committing.contents().log.unwrap()[..], b"?"].concat();
     fs::write(folder.0.join("journal/transaction.wal"), log).unwrap();
+    folder
+}
+
+/// What opening such a store leaves of its files.
+fn recovered(files: &[&str], log: &[u8]) -> Vec<String> {
+    let folder = with_log(files, log);
+    FileStore::open(&folder.0).unwrap();
+    assert!(!folder.0.join("journal/transaction.wal").exists());
+    folder.files()
+}
+
+/// Opening such a store is refused for its torn log, and nothing is changed.
+fn refused(files: &[&str], log: &[u8]) {
+    let folder = with_log(files, log);
     let before = folder.everything();
     assert_eq!(refusal(FileStore::open(&folder.0).map(|_| ())), Refusal::Corruption);
     assert_eq!(folder.everything(), before);
+}
+
+/// The log of a Write to db/a, marked Committing, behind which it is torn.
+fn torn(files: &[&str]) -> Vec<u8> {
+    let image = scan(&Folder::with(files).0).unwrap();
+    let committing = image.begin().unwrap().write("db", "a", "s", 9).unwrap().commit_step(1).unwrap().0;
+    [&committing.contents().log.unwrap()[..], b"?"].concat()
+}
+
+#[test]
+fn a_refused_recovery_changes_nothing() {
+    refused(&["db/a=2", "db/a.bak=1"], &torn(&["db/a=1"]));
+    refused(&["db/a=2"], &torn(&["db/"]));
+}
+
+#[test]
+fn a_log_torn_before_anything_was_done_is_discarded() {
+    assert_eq!(recovered(&["db/a=1"], &torn(&["db/a=1"])), ["db/", "db/a=1"]);
+    assert_eq!(recovered(&["db/"], &torn(&["db/"])), ["db/"]);
+}
+
+/// A log of an older version does not say whether a was there: by the old rule a written key without backup is taken for new.
+#[test]
+fn an_old_log_is_recovered_by_the_old_rule() {
+    let (recording, committing) = ([RECORDING, OLD_WRITE].concat(), [COMMITTING, OLD_WRITE].concat());
+    assert_eq!(recovered(&["db/a=1"], &recording), ["db/", "db/a=1"]);
+    assert_eq!(recovered(&["db/a=1", "db/b=2"], &committing), ["db/", "db/b=2"], "a is lost (docs/FINDINGS.md, 2)");
+    assert_eq!(recovered(&["db/a.bak=1"], &committing), ["db/", "db/a=1"]);
+    assert_eq!(recovered(&["db/a=2", "db/a.bak=1"], &committing), ["db/", "db/a=1"]);
+    refused(&["db/a=1"], &[&committing[..], b"?"].concat());
 }

@@ -4,6 +4,7 @@ use crate::{
     Refusal,
     image::{Contents, Files},
 };
+use cda_storage_sys::LOG_LIMIT;
 use std::{
     collections::BTreeMap,
     fs::{self, FileType},
@@ -14,7 +15,6 @@ use std::{
 const DIRECTORY_LIMIT: usize = 16;
 const FILE_LIMIT: usize = 128;
 const STAGING_LIMIT: usize = 32;
-const LOG_LIMIT: u64 = 6_824;
 
 /// Reads the store. Missing directories below the root read as empty. Files are numbered from 1 in the image's order.
 pub fn scan(layout: &Layout) -> Result<Contents, StoreError> {
@@ -62,7 +62,7 @@ fn journal(layout: &Layout) -> Result<Option<Vec<u8>>, StoreError> {
         if entry.path == layout.log() {
             entry.require(entry.kind.is_file(), "the log is a regular file")?;
             let length = fs::metadata(&entry.path).map_err(StoreError::at(&entry.path))?.len();
-            entry.require(length <= LOG_LIMIT, "a log has at most 6,824 bytes")?;
+            entry.require(length <= LOG_LIMIT as u64, &format!("a log has at most {LOG_LIMIT} bytes"))?;
             log = Some(fs::read(&entry.path).map_err(StoreError::at(&entry.path))?);
         } else {
             entry.require(entry.path == layout.staging(), "the journal holds transaction.wal and staging alone")?;

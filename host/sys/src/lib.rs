@@ -8,7 +8,7 @@ mod refusal;
 mod rooms;
 
 pub use refusal::Refusal;
-pub use rooms::{IMAGE_ROOM, KEYS_ROOM, STEP_ROOM};
+pub use rooms::{IMAGE_ROOM, KEYS_ROOM, LOG_LIMIT, STEP_ROOM};
 
 /// The header for C and C++, `include/cda_storage.h`.
 pub const HEADER: &str = include_str!(concat!(env!("OUT_DIR"), "/cda_storage.h"));

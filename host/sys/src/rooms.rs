@@ -1,8 +1,10 @@
-//! Least lengths of the lent outputs: document 01, refusal 2.
+//! Least lengths of the lent outputs (document 01, refusal 2), and the longest log.
 
 /// Least length of the lent output for an image.
-pub const IMAGE_ROOM: usize = 19_262;
+pub const IMAGE_ROOM: usize = 19_390;
 /// Least length of the lent output for a key list.
 pub const KEYS_ROOM: usize = 8_576;
 /// Least length of the lent output for a step field.
 pub const STEP_ROOM: usize = 197;
+/// Most bytes of a log; an image with a longer one is refused.
+pub const LOG_LIMIT: usize = 6_952;

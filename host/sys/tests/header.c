@@ -1,4 +1,5 @@
-/* db/a=7, a Write of 9 to a, its commit cut after 4 of ten steps, and recovery: prints a=7. Built and run by header.rs. */
+/* db/a=7, a Write of 9 to a, its commit cut after each of its ten steps, and recovery: prints a's number for each cut, from the one
+   before the first step. Built and run by header.rs. */
 #include "cda_storage.h"
 
 #include <stdio.h>
@@ -6,18 +7,21 @@
 #define BYTES(text) (const uint8_t *)text, sizeof text - 1
 #define ROOM(output) output, sizeof output
 
-static uint8_t a[CDA_STORAGE_IMAGE_ROOM], b[CDA_STORAGE_IMAGE_ROOM], step[CDA_STORAGE_STEP_ROOM];
+static uint8_t a[CDA_STORAGE_IMAGE_ROOM], b[CDA_STORAGE_IMAGE_ROOM], cut[CDA_STORAGE_IMAGE_ROOM], step[CDA_STORAGE_STEP_ROOM];
 
 int main(void) {
-    size_t n = 0, m = 0, field = 0;
+    size_t n = 0, m = 0, left = 0, field = 0;
+    uint64_t at;
     if (cda_storage_begin(BYTES("\x10\x02\0db\x11\x05\0\x07\0\0\0a"), ROOM(a), &n) != CDA_STORAGE_DONE) return 1;
     if (cda_storage_begin(a, n, ROOM(b), &m) != CDA_STORAGE_TRANSACTION_BUSY) return 2;
     if (cda_storage_write(a, n, BYTES("db"), BYTES("a"), BYTES("s.tmp"), 9, ROOM(b), &m) != CDA_STORAGE_DONE) return 3;
-    if (cda_storage_commit_step(b, m, 11, ROOM(a), &n, ROOM(step), &field) != CDA_STORAGE_PAST_THE_END) return 4;
-    if (cda_storage_commit_step(b, m, 4, ROOM(a), &n, ROOM(step), &field) != CDA_STORAGE_DONE) return 5;
-    if (step[0] != 0x24) return 6;
-    if (cda_storage_recover(a, n, ROOM(b), &m) != CDA_STORAGE_DONE) return 7;
-    if (m != 13) return 8;
-    printf("%c=%u\n", b[12], (unsigned)(b[8] | b[9] << 8 | b[10] << 16 | (uint32_t)b[11] << 24));
+    if (cda_storage_commit_step(b, m, 11, ROOM(cut), &left, ROOM(step), &field) != CDA_STORAGE_PAST_THE_END) return 4;
+    for (at = 0; at <= 10; at++) {
+        if (cda_storage_commit_step(b, m, at, ROOM(cut), &left, ROOM(step), &field) != CDA_STORAGE_DONE) return 5;
+        if (at == 4 && step[0] != 0x24) return 6;
+        if (cda_storage_recover(cut, left, ROOM(a), &n) != CDA_STORAGE_DONE) return 7;
+        if (n != 13) return 8;
+        printf("%u", (unsigned)(a[8] | a[9] << 8 | a[10] << 16 | (uint32_t)a[11] << 24));
+    }
     return 0;
 }

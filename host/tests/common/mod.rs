@@ -1,12 +1,18 @@
 //! What the tests share: folders of their own, stores read back by the files' contents, and a seeded generator.
 #![allow(dead_code)]
-use cda_store::{Contents, Files};
 use std::{
     collections::BTreeMap,
     fs,
     path::{Path, PathBuf},
     sync::atomic::{AtomicU32, Ordering},
 };
+
+/// The log entry of a Write of `s` to `db/a` as older versions recorded it, kind 1: checksum, length, and the fields 1, 2, 3, 4.
+pub const OLD_WRITE: &[u8] = b"\xa9\xe3\xd6\x90\x11\0\0\0\x01\x01\0\x01\x02\x02\0db\x03\x01\0a\x04\x01\0s";
+
+/// The header of a log that is recorded, and of one that is committed.
+pub const RECORDING: &[u8] = b"\xca\0\0\0\x3b\x2d\xcc\x70";
+pub const COMMITTING: &[u8] = b"\xca\x01\0\0\xad\x1d\xcb\x07";
 
 /// Collections, keys, contents.
 pub type Tree = BTreeMap<String, BTreeMap<String, Vec<u8>>>;
@@ -87,27 +93,6 @@ pub fn contents(folder: &Path) -> BTreeMap<String, Vec<u8>> {
 
 fn name(entry: &fs::DirEntry) -> String {
     entry.file_name().into_string().unwrap()
-}
-
-/// The contents behind the numbers of an image that stands on this disk.
-pub fn numbered(contents: &Contents, root: &Path) -> BTreeMap<u32, Vec<u8>> {
-    let mut by_number = BTreeMap::new();
-    let mut add = |files: &Files, folder: PathBuf| {
-        files.iter().for_each(|(name, number)| drop(by_number.insert(*number, fs::read(folder.join(name)).unwrap())));
-    };
-    contents.directories.iter().for_each(|(directory, files)| add(files, root.join("collections").join(directory)));
-    add(&contents.staging, root.join("journal/staging"));
-    by_number
-}
-
-/// The files of an image with their contents in the numbers' place.
-pub fn named(files: &Files, by_number: &BTreeMap<u32, Vec<u8>>) -> BTreeMap<String, Vec<u8>> {
-    files.iter().map(|(name, number)| (name.clone(), by_number[number].clone())).collect()
-}
-
-/// The collections of an image with the files' contents in the numbers' place.
-pub fn model_tree(contents: &Contents, by_number: &BTreeMap<u32, Vec<u8>>) -> Tree {
-    contents.directories.iter().map(|(directory, files)| (directory.clone(), named(files, by_number))).collect()
 }
 
 /// splitmix64

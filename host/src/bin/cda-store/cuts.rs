@@ -3,7 +3,7 @@ use crate::{
     failure::Failure,
     operation::Operation,
     progress::Progress,
-    why::{Scene, Why, backups},
+    why::{Scene, Why},
 };
 use cda_store::{Contents, Files, Image, Refusal, Step, Stepped, scan};
 use std::{collections::BTreeMap, fs, path::Path};
@@ -94,12 +94,12 @@ pub fn cuts(transaction: &Image) -> Result<Cuts, Failure> {
         progress.tell(|| format!("step {}", steps.len() + 1));
         steps.push(stepped?);
     }
-    let (before, backups) = (transaction.contents(), backups(&steps));
+    let before = transaction.contents();
     let mut cut = |n: usize| {
         progress.tell(|| format!("cut {n} of {}", steps.len()));
         let done = n.checked_sub(1).map(|i| &steps[i]);
         let image = done.map_or(transaction, |stepped| &stepped.image);
-        let scene = Scene { before: &before, backups: &backups, number: n, cut: image.contents() };
+        let scene = Scene { before: &before, cut: image.contents() };
         Cut { step: done.map(|stepped| stepped.step.clone()), outcome: outcome(&scene, image, &earlier, &later) }
     };
     Ok(Cuts { cuts: (0..=steps.len()).map(&mut cut).collect(), refusal })

@@ -1,12 +1,10 @@
 //! Why recovery leaves a file neither as before nor as after. The cases are those of docs/FINDINGS.md.
 use crate::cuts::Change;
-use cda_store::{Contents, Step, Stepped};
-use std::collections::BTreeMap;
+use cda_store::Contents;
 
 #[derive(Clone, Copy, PartialEq, Eq, PartialOrd, Ord, Debug)]
 pub enum Why {
-    Waits,
-    NoBackup,
+    Unmarked,
     BackupName,
     StagingName,
     Written,
@@ -18,8 +16,7 @@ impl Why {
     /// A few words for a table.
     pub fn words(self) -> &'static str {
         match self {
-            Why::Waits => "no backup yet",
-            Why::NoBackup => "no backup",
+            Why::Unmarked => "no mark and no backup",
             Why::BackupName => "a name in .bak",
             Why::StagingName => "a name in .tmp",
             Why::Written => "written by this update",
@@ -30,11 +27,9 @@ impl Why {
 
     pub fn sentence(self) -> &'static str {
         match self {
-            Why::Waits => {
-                "the update writes this key and has not renamed its old file to .bak. Recovery takes a written key without backup for new and removes it."
-            }
-            Why::NoBackup => {
-                "the update writes this key, and no .bak of it stands. Recovery takes a written key without backup for new and removes it."
+            Why::Unmarked => {
+                "the log has no mark that this key was there, and no .bak of it stands. Recovery takes such a key for new and removes it. Logs of older \
+                 versions have no marks; in this version's, a put lacks it where a delete of the same update then gave the key's file its lower case."
             }
             Why::BackupName => "recovery takes every file and collection whose name ends in .bak for a backup.",
             Why::StagingName => "recovery from an interrupted commit removes every file whose name ends in .tmp.",
@@ -47,22 +42,9 @@ impl Why {
     }
 }
 
-/// The last step that renames a file to its backup name, by the file's path.
-pub type Backups = BTreeMap<String, usize>;
-
-pub fn backups(steps: &[Stepped]) -> Backups {
-    let backup = |(i, stepped): (usize, &Stepped)| match &stepped.step {
-        Step::RenameFile { directory, from, to } if *to == format!("{from}.bak") => Some((format!("{directory}/{from}"), i + 1)),
-        _ => None,
-    };
-    steps.iter().enumerate().filter_map(backup).collect()
-}
-
-/// A cut: what stands before the commit and at the cut, which is behind so many steps.
+/// A cut: what stands before the commit, and at the cut.
 pub struct Scene<'a> {
     pub before: &'a Contents,
-    pub backups: &'a Backups,
-    pub number: usize,
     pub cut: Contents,
 }
 
@@ -74,8 +56,7 @@ impl Scene<'_> {
         match change {
             _ if [directory, file].into_iter().any(|name| has_extension(name, ".bak")) => Why::BackupName,
             Change::Lost if has_extension(file, ".tmp") => Why::StagingName,
-            Change::Lost if self.backups.get(path).is_some_and(|step| *step > self.number) => Why::Waits,
-            Change::Lost if has(&self.cut, directory, file) && !has(&self.cut, directory, &backup) => Why::NoBackup,
+            Change::Lost if has(&self.cut, directory, file) && !has(&self.cut, directory, &backup) => Why::Unmarked,
             _ if self.before.staging.values().any(|staged| Some(staged) == found) => Why::Written,
             Change::Kept if !self.before.directories.contains_key(directory) => Why::Made,
             Change::Changed if has(self.before, directory, &backup) => Why::BackupName,

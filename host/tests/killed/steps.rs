@@ -1,0 +1,96 @@
+//! A commit killed after every step.
+use crate::{
+    case::Case,
+    child::{killed, recover, say, stand_still_at},
+    disk::{Disk, by_number},
+    seen::{Count, Wrong},
+};
+use cda_store::{FileStore, Image, Plan};
+use std::{fmt, path::Path};
+
+#[derive(Default)]
+pub struct Seen {
+    transactions: Count,
+    failing: Count,
+    kills: Count,
+    puts: Count,
+    failing_puts: Count,
+    put_kills: Count,
+    earlier: Count,
+    standing: Count,
+    waiting: Count,
+    pub lost: Count,
+    pub wrong: Wrong,
+}
+
+impl fmt::Display for Seen {
+    fn fmt(&self, f: &mut fmt::Formatter) -> fmt::Result {
+        let Seen { transactions, failing, kills, puts, failing_puts, put_kills, earlier, standing, waiting, lost, .. } = self;
+        writeln!(f, "  after every step: {kills} kills of {transactions} transactions, {failing} of them failing; all as the port says")?;
+        writeln!(
+            f,
+            "  puts alone: {put_kills} kills of {puts} transactions, {failing_puts} of them failing; {earlier} left the earlier files"
+        )?;
+        write!(f, "  standing keys put: {standing} seen, {waiting} of them Committing and without a backup; lost: {lost}")
+    }
+}
+
+/// The child: says the transaction's image, commits it, and stands still behind step n.
+pub fn child(root: &str, case: &Case, n: u64) {
+    let store = FileStore::open_observed(root, stand_still_at(Plan::Commit, n)).unwrap();
+    let mut transaction = store.begin().unwrap();
+    case.record(&mut transaction);
+    say(&transaction.image().bytes().iter().map(|byte| format!("{byte:02x}")).collect::<String>());
+    let _ = transaction.commit();
+    panic!("there is no step {n}");
+}
+
+/// Lays out the case, kills its commit behind step n, and hands back the transaction's image.
+pub fn commit_killed(root: &Path, case: &Case, seed: u64, number: u64, n: u64) -> Image {
+    Disk::at_rest(case.before.clone()).lay_out(root);
+    let words = ["commit".to_string(), root.display().to_string()].into_iter().chain([seed, number, n].map(|word| word.to_string()));
+    let said = killed(&words.collect::<Vec<_>>());
+    let [hex] = &said[..] else { panic!("seed {seed}, case {number}, step {n}: the child said {said:?}") };
+    let bytes = (0..hex.len()).step_by(2).map(|at| u8::from_str_radix(&hex[at..at + 2], 16).unwrap());
+    Image::new(bytes.collect()).unwrap()
+}
+
+/// One case: kills at every step, and looks at what each left.
+pub fn every_step(seen: &Seen, root: &Path, seed: u64, number: u64) {
+    let case = Case::new(seed, number);
+    let kill = |n| commit_killed(root, &case, seed, number, n);
+    let image = kill(0);
+    let by_number = by_number(&image.contents(), root);
+    let (fails, is_puts) = (image.commit().is_err(), case.puts().is_some());
+    seen.transactions.add(true);
+    seen.failing.add(fails);
+    seen.puts.add(is_puts);
+    seen.failing_puts.add(fails && is_puts);
+    for n in 0..=image.commit_steps().count() as u64 {
+        if n > 0 {
+            assert_eq!(kill(n), image);
+        }
+        let at = format!("seed {seed}, case {number}, step {n}");
+        let cut = image.commit_step(n).unwrap().0;
+        let killed = Disk::read(root);
+        assert_eq!(killed, Disk::of(&cut.contents(), &by_number), "{at}");
+        recover(root);
+        let left = Disk::read(root);
+        assert_eq!(left, Disk::of(&cut.recover().unwrap().contents(), &by_number), "{at}");
+        seen.kills.add(true);
+        if let Some(expected) = case.expected(killed.log.is_some() || fails) {
+            look(seen, &case, &killed, &left);
+            seen.wrong.unless(left == Disk::at_rest(expected), || at);
+        }
+    }
+}
+
+/// What a kill of a transaction of puts, and the recovery, left of the keys that were there.
+fn look(seen: &Seen, case: &Case, killed: &Disk, left: &Disk) {
+    let standing = case.standing();
+    seen.put_kills.add(true);
+    seen.earlier.add(left.tree == case.before);
+    seen.standing.add(standing.len());
+    seen.waiting.add(standing.iter().filter(|(collection, key)| killed.waits(collection, key)).count());
+    seen.lost.add(standing.iter().filter(|(collection, key)| !left.has(collection, key)).count());
+}

@@ -13,7 +13,7 @@ use Rattle.model.specs.Limits.{imageRoom, stepRoom}
 use Rattle.model.specs.Base.{Bytes, caseOption}
 use Rattle.model.specs.Store.{Store}
 use Rattle.model.specs.Image.{decode}
-use Rattle.model.specs.Answers.{Answer, refusal, onImage, commit, commitStep, recover}
+use Rattle.model.specs.Answers.{Answer, refusal, onImage, commit, commitStep, recover, recoverStep}
 use Rattle.handover.specs.Contract.{handsBack, Gives, StepGives}
 
 -- A call that answers n, of an entry with one output: its answer by the output's length.
@@ -36,7 +36,7 @@ pub record StepCall (answers : ℕ → ℕ → Answer) (n : ℕ) : Type 0 where
   pub stepWritten' : ℕ
   pub gives : StepGives (answers (length out) (length step)) n out out' written written' step step' stepWritten stepWritten'
 
--- `cda_storage_commit` and `cda_storage_recover` on an image, `cda_storage_commit_step` at the step number k.
+-- `cda_storage_commit` and `cda_storage_recover` on an image, `cda_storage_commit_step` and `cda_storage_recover_step` at the step number k.
 abbrev pub CommitCall : Bytes → ℕ → Type 0
 CommitCall image = Call (commit image)
 
@@ -45,6 +45,9 @@ RecoverCall image = Call (recover image)
 
 abbrev pub CommitStepCall : ℕ → Bytes → ℕ → Type 0
 CommitStepCall k image = StepCall (commitStep k image)
+
+abbrev pub RecoverStepCall : ℕ → Bytes → ℕ → Type 0
+RecoverStepCall k image = StepCall (recoverStep k image)
 
 -- What a call has handed back.
 abbrev pub handedBack : {f : ℕ → Answer} {n : ℕ} → Call f n → Bytes
@@ -99,3 +102,9 @@ step-roomy k image c h = enough image (leb imageRoom (length (c .out)) && leb st
 
 pub step-done : (k : ℕ) (image : Bytes) (c : CommitStepCall k image 0) → commitStep k image imageRoom stepRoom .number ≡ 0
 step-done k image c = ap (λ (a : Answer). a .number) (step-roomy k image c zero-not-2) ∙ sym (c .gives .given .number)
+
+pub recover-step-roomy : (k : ℕ) (image : Bytes) (c : RecoverStepCall k image 0) →
+    recoverStep k image imageRoom stepRoom ≡ recoverStep k image (length (c .out)) (length (c .step))
+unfolding recoverStep
+recover-step-roomy k image c =
+    enough image (leb imageRoom (length (c .out)) && leb stepRoom (length (c .step))) _ (λ e. zero-not-2 (c .gives .given .number ∙ e))

@@ -91,14 +91,14 @@ FailingRuleOfEntries =
     RecoversTo (imageAt cut) (s .tree)
 
 -- From calls to answers.
-done-not-2 : (x : ℕ) → x ≡ 0 → x ≡ 2 → ⊥
+pub done-not-2 : (x : ℕ) → x ≡ 0 → x ≡ 2 → ⊥
 done-not-2 x p q = omega (arith, p, q)
 
-failed-not-2 : (x : ℕ) → (x ≡ 14) ⊎ (x ≡ 15) → x ≡ 2 → ⊥
+pub failed-not-2 : (x : ℕ) → (x ≡ 14) ⊎ (x ≡ 15) → x ≡ 2 → ⊥
 failed-not-2 x (inl p) q = omega (arith, p, q)
 failed-not-2 x (inr p) q = omega (arith, p, q)
 
-conditions : {N : ℕ → Type 0} {image : Bytes} {s : Store} {ws : List Write} → ((x : ℕ) → N x → x ≡ 2 → ⊥) →
+pub conditions : {N : ℕ → Type 0} {image : Bytes} {s : Store} {ws : List Write} → ((x : ℕ) → N x → x ≡ 2 → ⊥) →
     MeetsBy N image s ws → Meets N image s ws
 conditions {N} {image} not-2 t = record {
   committed =
@@ -112,7 +112,7 @@ conditions {N} {image} not-2 t = record {
   collections = t .collections;
 }
 
-cut-image : (k : ℕ) (image : Bytes) (c : CommitStepCall k image 0) → imageAt c ≡ cutAt k image
+pub cut-image : (k : ℕ) (image : Bytes) (c : CommitStepCall k image 0) → imageAt c ≡ cutAt k image
 cut-image k image c = step-image c ∙ sym (ap (λ (a : Answer). a .image) (step-roomy k image c zero-not-2))
 
 renamed : {k : ℕ} {image : Bytes} {w : Write} → RenamedBy k image w → Renamed k image w
@@ -121,7 +121,7 @@ renamed {image = image} r =
     record { place = r .place; early = r .early; given = ap (λ (a : Answer). a .step) roomy ∙ sym (step-field (r .call)) ∙ r .given }
 
 -- What recovery answers, of any output that is long enough, is what its calls hand back.
-recovers-to : (c : Bytes) (t : Map) → ((out : ℕ) → (recover c out .number ≡ 2 → ⊥) → recover c out ≡ answer 0 (settled t)) → RecoversTo c t
+pub recovers-to : (c : Bytes) (t : Map) → ((out : ℕ) → (recover c out .number ≡ 2 → ⊥) → recover c out ≡ answer 0 (settled t)) → RecoversTo c t
 recovers-to c t h n r room =
     let a = h (length (r .out)) (λ e. room (r .gives .number ∙ e)) in
     let z : n ≡ 0 = r .gives .number ∙ ap (λ (x : Answer). x .number) a in

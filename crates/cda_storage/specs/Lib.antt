@@ -1,4 +1,5 @@
 pub mod Buffers
 pub mod Calls
 pub mod CutRule
+pub mod Again
 pub mod Refusals

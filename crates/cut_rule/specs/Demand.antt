@@ -1,5 +1,5 @@
--- The cut rule over images: 01, 'The words of demand 3', and 02, item 4. Quotes are from 01, or from 02 where an item is named. Theorem.antt proves what
--- is stated here.
+-- The cut rule over images: 01, 'The words of demand 3', and 02, items 4 and 5. Quotes are from 01, or from 02 where an item is named. Theorem.antt and
+-- Again.antt prove what is stated here.
 use mathlib.Core.Path.{_≡_}
 use Prim.Native.Nat.{ℕ, _≤_}
 use mathlib.Core.List.{List, [], _∷_, _++_, map}
@@ -17,7 +17,7 @@ use Rattle.model.specs.Log.{journal, opsOf}
 use Rattle.model.specs.Store.{Store, stagingKey}
 use Rattle.model.specs.Image.{decode}
 use Rattle.model.specs.Step.{Step, renameFile, stepField}
-use Rattle.model.specs.Answers.{answer, commit, commitStep, recover}
+use Rattle.model.specs.Answers.{answer, commit, commitStep, recover, recoverStep}
 
 -- A name ends in .bak, or in .tmp: as text, whatever stands before the dot.
 pub record EndsIn (extension n : Name) : Type 0 where
@@ -140,3 +140,25 @@ FailingRule =
     (b : Bytes) (s : Store) (ws : List Write) (n out : ℕ) →
     Failing b s ws → TrulyMarked (s .tree) ws → commitStep n b imageRoom stepRoom .number ≡ 0 → (recover (cutAt n b) out .number ≡ 2 → ⊥) →
     recover (cutAt n b) out ≡ answer 0 (settled (s .tree))
+
+-- 02, item 5: "recovery may itself be cut after any of its steps, any number of times": the image c after recoveries that were cut after so many steps each.
+abbrev pub cutRecoveries : List ℕ → Bytes → Bytes
+cutRecoveries [] c = c
+cutRecoveries (m ∷ ms) c = cutRecoveries ms (recoverStep m c imageRoom stepRoom .image)
+
+-- Each of these numbers is one of a step of its recovery, or 0: the step entry's number is 0.
+abbrev pub InPlans : List ℕ → Bytes → Type 0
+InPlans [] c = Unit {0}
+InPlans (m ∷ ms) c = (recoverStep m c imageRoom stepRoom .number ≡ 0) × InPlans ms (recoverStep m c imageRoom stepRoom .image)
+
+-- The conditions of a transaction whose commit goes through or fails: it "isn't given 1 or 4".
+abbrev pub Either : Bytes → Store → List Write → Type 0
+Either = Meets (λ x. x ≡ 4 → ⊥)
+
+-- "For a transaction of marked Writes with true marks, under the other conditions of the cut rule, […] once one recovery runs to its end, the store is the
+-- same as if the first had." Beyond document 02, the commit may meet a failing step.
+abbrev pub AgainRule : Type 0
+AgainRule =
+    (b : Bytes) (s : Store) (ws : List Write) (n : ℕ) (ms : List ℕ) (out : ℕ) →
+    Either b s ws → TrulyMarked (s .tree) ws → commitStep n b imageRoom stepRoom .number ≡ 0 → InPlans ms (cutAt n b) →
+    recover (cutRecoveries ms (cutAt n b)) out ≡ recover (cutAt n b) out

@@ -21,12 +21,14 @@ use Rattle.model.specs.Store.{Store, dirs, files, validNode, validNodes, validS
 use Rattle.model.specs.Image.{imageFields, encode, treeOf, stagingOf, logOf, storeOf, decode}
 use Rattle.model.specs.Step.{removeDir, renameDir, apply, zeroSeparated, tagAndNames, stepField, stepFault}
 use Rattle.model.specs.Plan.{opSteps, undoSteps, restoreFile, restoreDirectory, removeBackupFile, removeBackupsIn, firstNamings, syncExisting, commitFault}
-use Rattle.model.specs.Plan.{commitPlan, committedAt, recoverPlan, recovered}
+use Rattle.model.specs.Plan.{commitPlan, committedAt, recoverPlan, recoveredAt, recovered}
 use Rattle.model.specs.Record.{transaction}
-use Rattle.model.specs.Answers.{answer, commitStore, commit, recoverStore, recover, commitStep}
+use Rattle.model.specs.Answers.{answer, commitStore, commit, recoverStore, recover, commitStep, recoverStep}
 use Rattle.laws.specs.MapLaws.{key-dec, none≢some, look-tail}
-use Rattle.cut_rule.specs.Demand.{NoExtension, Unmarked, TrulyMarked, Conditions, backupRename, Renamed, cutAt, settled, allWritesDone}
+use Rattle.cut_rule.specs.Demand.{NoExtension, Unmarked, TrulyMarked, Conditions, backupRename, Renamed, cutAt, settled, allWritesDone, cutRecoveries}
+use Rattle.cut_rule.specs.Demand.{InPlans}
 use Rattle.cut_rule.specs.Theorem.{demand-3, marked-rule}
+use Rattle.cut_rule.specs.Again.{again-rule, either, done-not-4}
 
 db : Name
 db = 0x64 ∷ 0x62 ∷ []
@@ -200,8 +202,12 @@ record ComputedMarked : Type 0 where
   commits : commit tenMarked imageRoom .number ≡ 0
   found : look (db, a) tree7 ≡ some 7
   steps1 : commitStep 1 tenMarked imageRoom stepRoom .number ≡ 0
+  steps5 : commitStep 5 tenMarked imageRoom stepRoom .number ≡ 0
   log1 : hasTag 0x13 (cutAt 1 tenMarked) ≡ true
+  log5 : hasTag 0x13 (cutAt 5 tenMarked) ≡ true
   recovers1 : recover (cutAt 1 tenMarked) imageRoom .number ≡ 0
+  recovers5 : recover (cutAt 5 tenMarked) imageRoom .number ≡ 0
+  cuts : InPlans (2 ∷ 0 ∷ 1 ∷ []) (cutAt 5 tenMarked)
 
 computedMarked : ComputedMarked
 unfolding tenMarked storeMarked tree7 write9Marked db a crc32 register feedByte shifts shift addPolynomial littleEndian fromLittleEndian encodeField
@@ -213,16 +219,20 @@ unfolding tenMarked storeMarked tree7 write9Marked db a crc32 register feedByte 
     imageFields encode treeOf stagingOf logOf storeOf decode
     removeDir renameDir apply zeroSeparated tagAndNames stepField stepFault
     opSteps undoSteps restoreFile restoreDirectory removeBackupFile removeBackupsIn firstNamings syncExisting commitFault commitPlan committedAt
-    recoverPlan recovered
-    transaction commitStore commit recoverStore recover commitStep
+    recoverPlan recoveredAt recovered
+    transaction commitStore commit recoverStore recover commitStep recoverStep
 computedMarked = record {
   holds = refl;
   writes = refl;
   commits = refl;
   found = refl;
   steps1 = refl;
+  steps5 = refl;
   log1 = refl;
+  log5 = refl;
   recovers1 = refl;
+  recovers5 = refl;
+  cuts = (refl, (refl, (refl, tt)));
 }
 
 metMarked : Conditions tenMarked storeMarked (write9Marked ∷ [])
@@ -250,9 +260,16 @@ unfolding write9Marked
 marked w (inl p) = rw p (ap (λ (q : Option ℕ). some (isSome q)) (sym (computedMarked .found)))
 marked w (inr p) = absurd p
 
--- After 1 step a waits, and recovery gives a=7 all the same.
+-- After 1 step a waits, and recovery gives a=7 all the same; after 5, with recovery cut after 2 steps, again at once, and again after 1: a=7.
 after-1 : recover (cutAt 1 tenMarked) imageRoom ≡ answer 0 (settled tree7)
 unfolding storeMarked
 after-1 =
     rw (computedMarked .log1) at (marked-rule tenMarked storeMarked (write9Marked ∷ []) 1 imageRoom metMarked marked (computedMarked .steps1)
     (not-2 _ (computedMarked .recovers1)))
+
+after-5-again : recover (cutRecoveries (2 ∷ 0 ∷ 1 ∷ []) (cutAt 5 tenMarked)) imageRoom ≡ answer 0 (settled tree7)
+unfolding storeMarked
+after-5-again =
+    again-rule tenMarked storeMarked (write9Marked ∷ []) 5 (2 ∷ 0 ∷ 1 ∷ []) imageRoom (either done-not-4 metMarked) marked (computedMarked .steps5) (computedMarked .cuts)
+    ∙ rw (computedMarked .log5) at
+    (marked-rule tenMarked storeMarked (write9Marked ∷ []) 5 imageRoom metMarked marked (computedMarked .steps5) (not-2 _ (computedMarked .recovers5)))

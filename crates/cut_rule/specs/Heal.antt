@@ -1,5 +1,6 @@
 -- What recovery heals: the stores between a commit's cut and the end of its recovery, and the tree that recovery gives them.
-use mathlib.Core.Path.{_≡_, refl, sym, _∙_, ap}
+use mathlib.Core.Path.{_≡_, refl, sym, _∙_, ap, subst}
+use Prim.Native.Nat.{ℕ}
 use mathlib.Core.List.{List, [], _∷_, _++_, map, reverse}
 use mathlib.Core.Option.{Option, none, some}
 use Rattle.model.specs.Order.{Name}
@@ -9,15 +10,15 @@ use Rattle.model.specs.Operation.{Op, write}
 use Rattle.model.specs.Log.{Journal, absent, recording, committing, journal, whole}
 use Rattle.model.specs.Store.{Store, stagingNames}
 use Rattle.model.specs.Step.{Step, removeLog, removeStaging, apply, applyAll}
-use Rattle.model.specs.Plan.{inTurn, run, undoSteps, restoreBackups, removeBackups, removeStagingFiles, recoverParts, recoverPlan, recovered, recoverFault}
-use Rattle.model.specs.Plan.{withoutMark}
+use Rattle.model.specs.Plan.{inTurn, run, undoSteps, restoreBackups, removeBackups, removeStandingLog, removeStagingFiles, recoverParts, recoverPlan}
+use Rattle.model.specs.Plan.{recoveredAt, recovered, recoverFault, withoutMark}
 use Rattle.laws.specs.MapLaws.{none≢some}
 use Rattle.laws.specs.StoreLaws.{Bare}
 use Rattle.laws.specs.Listings.{any-unreverse}
 use Rattle.cut_rule.specs.Demand.{settled}
 use Rattle.cut_rule.specs.Kinds.{Marked}
 use Rattle.cut_rule.specs.StoreRule.{OldTree, AllGood, Safe, marked-safe}
-use Rattle.cut_rule.specs.Walk.{runOver, applyAll-inTurn, steady, staging-gone, Through, through-end, through-append, through-map}
+use Rattle.cut_rule.specs.Walk.{runOver, applyAll-inTurn, steady, staging-gone, Through, through-end, through-take, through-append, through-map}
 use Rattle.cut_rule.specs.Directories.{Inv, inv-more}
 use Rattle.cut_rule.specs.Undo.{Undoes, undo-all}
 use Rattle.cut_rule.specs.Restore.{restore-all}
@@ -180,3 +181,38 @@ module _ (ops : List Op) (p : Map) (t : Tidy p) (m : Marked ops) where
 
       c : Through H ys v
       c = through-map (Undoes p [] (u .log)) H (λ x d. still x (inv-more (reverse ops) (λ d f r. absurd r) (λ d r. absurd r) (d .inv)) (d .same)) ys v (b .0)
+
+  -- Every step of recovery (02, item 5).
+  heal-through : (u : Store) → H u → Through H (recoverPlan u) u
+  unfolding recoverPlan
+  heal-through u (recorded e q) = subst (λ (j : Journal). Through H (inTurn run (recoverParts j) u) u) (sym e) (last-through [] (λ v h. h) u (recorded e q) q)
+  heal-through u (undoing o g e i k) =
+      subst (λ (j : Journal). Through H (inTurn run (recoverParts j) u) u) (sym e)
+      (back-through u o g e i ((λ s. removeLog ∷ []) ∷ removeStagingFiles ∷ []) (last-through [] (λ v h. h)))
+  heal-through u (ended h) =
+      subst (λ (j : Journal). Through H (inTurn run (recoverParts j) u) u) (sym (ap journal (h .same)))
+      (ended-through (inTurn run (recoverParts absent) u) u
+      (through-append (Ended p) (removeBackups u) (inTurn run (removeStandingLog ∷ removeStagingFiles ∷ []) v) u a (none-left (v .log) (z .same))))
+    where
+      a : Through (Ended p) (removeBackups u) u
+      a = clean-all p none u t h .0
+
+      v : Store
+      v = applyAll (removeBackups u) u
+
+      z : Ended p v
+      z = through-end (Ended p) (removeBackups u) u a
+
+      s : Through (Ended p) (removeStagingFiles v) v
+      s = unstage-through p (stagingNames (v .staging)) v z
+
+      none-left : (q : Option Bytes) → q ≡ none →
+          let xs = ifPresent q (removeLog ∷ []) in
+          Through (Ended p) (xs ++ inTurn run (removeStagingFiles ∷ []) (applyAll xs v)) v
+      none-left none e = through-append (Ended p) (removeStagingFiles v) [] v s (through-end (Ended p) (removeStagingFiles v) v s)
+      none-left (some l) e = none≢some (sym e)
+
+  -- Cut after any of its steps, it is still healed to the same tree.
+  pub heals-cut : (u : Store) (n : ℕ) → H u → H (recoveredAt n u)
+  unfolding recoveredAt
+  heals-cut u n h = through-take H n (recoverPlan (withoutMark u)) (withoutMark u) (heal-through (withoutMark u) (heals-shut ops p u h))

@@ -1,4 +1,5 @@
--- The cut rule for operations of every kind, over images: beyond document 02, whose rule speaks of Writes alone. KindsRule.antt proves it.
+-- The cut rule for operations of every kind, over images: beyond document 02, whose rule speaks of Writes alone. KindsRule.antt proves it, Again.antt where
+-- recovery is cut too.
 use mathlib.Core.Path.{_≡_}
 use Prim.Native.Nat.{ℕ}
 use mathlib.Core.List.{List, [], _∷_}
@@ -14,7 +15,7 @@ use Rattle.model.specs.Log.{journal, opsOf}
 use Rattle.model.specs.Store.{Store}
 use Rattle.model.specs.Image.{encode, decode}
 use Rattle.model.specs.Answers.{commit, commitStep, recover}
-use Rattle.cut_rule.specs.Demand.{NoExtension, TrueMark, settled, cutAt}
+use Rattle.cut_rule.specs.Demand.{NoExtension, TrueMark, settled, cutAt, cutRecoveries, InPlans}
 
 -- What an operation touches: a key of a collection, or a collection as a whole. A copy touches its destination; its source it only reads.
 pub data Place : Type 0 where
@@ -91,3 +92,11 @@ KindsFailing =
     (b : Bytes) (s : Store) (ops : List Op) → Suits b s ops → AllTrue (s .tree) ops → Marked ops →
     (commit b imageRoom .number ≡ 14) ⊎ (commit b imageRoom .number ≡ 15) →
     (commit b imageRoom .image ≡ encode (settled (s .tree))) × ((n out : ℕ) → CutGives b s n out)
+
+-- Both: where recovery is itself "cut after any of its steps, any number of times" (02, item 5), it answers as if it had not been, whatever the output's
+-- length.
+abbrev pub KindsAgain : Type 0
+KindsAgain =
+    (b : Bytes) (s : Store) (ops : List Op) (n : ℕ) (ms : List ℕ) (out : ℕ) →
+    Suits b s ops → AllTrue (s .tree) ops → Marked ops → (commit b imageRoom .number ≡ 4 → ⊥) → commitStep n b imageRoom stepRoom .number ≡ 0 →
+    InPlans ms (cutAt n b) → recover (cutRecoveries ms (cutAt n b)) out ≡ recover (cutAt n b) out

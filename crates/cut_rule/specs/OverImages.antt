@@ -50,7 +50,7 @@ unfolding originalName stripTmp
 plain n h = record { noBak = no-ext backupExtension n (h .noBak); noTmp = no-ext stagingExtension n (h .noTmp) }
 
 -- "..bak.bak" and "...bak.bak" are backups of backups; a plain name is neither.
-twice : (n : Name) → DotBakBak n → (g h : Name) × (originalName n ≡ some g) × (originalName g ≡ some h)
+pub twice : (n : Name) → DotBakBak n → (g h : Name) × (originalName n ≡ some g) × (originalName g ≡ some h)
 unfolding originalName stripExtension extension lastDot backupExtension
 twice n (inl e) = (dotBak, 0x2E ∷ [], ap originalName e ∙ original-backup dotBak (λ z. nil≢cons (sym z)), refl)
 twice n (inr e) = (dotsBak, 0x2E ∷ 0x2E ∷ [], ap originalName e ∙ original-backup dotsBak (λ z. nil≢cons (sym z)), refl)
@@ -89,7 +89,7 @@ unfolding commitStep
 stepped b s n d c = rw (d, c .found)
 
 -- The step number is within the plan.
-within-plan : (t : Bool) (a : Answer) → if_then_else_ t a (refusal 16) .number ≡ 0 → if_then_else_ t a (refusal 16) ≡ a
+pub within-plan : (t : Bool) (a : Answer) → if_then_else_ t a (refusal 16) .number ≡ 0 → if_then_else_ t a (refusal 16) ≡ a
 within-plan true a e = refl
 within-plan false a e = absurd (omega arith)
 
@@ -103,7 +103,7 @@ inside u g d [] h = h
 inside u g d (y ∷ ys) h = g .tree .node d (y ∷ ys) (h .0) (h .1) .inside (λ e. nil≢cons (sym e))
 
 -- What recovery answers where it heals.
-answered : (ops : List Op) (p : Map) (u : Store) (out : ℕ) → Tidy p → Good Valid u → Heals ops p u →
+pub answered : (ops : List Op) (p : Map) (u : Store) (out : ℕ) → Tidy p → Good Valid u → Heals ops p u →
     recover (encode u) out ≡ if_then_else_ (leb imageRoom out) (answer 0 (settled p)) (refusal 2)
 unfolding recover recoverStore
 answered ops p u out t g h =
@@ -148,7 +148,7 @@ module _ (b : Bytes) (s : Store) (ops : List Op) (C : Suits b s ops) (t : AllTru
       valid = subst (All ValidOp) (C .logged) (journal-valid (s .log))
 
   -- No "..bak.bak" is made, so every cut is well-formed.
-  cut-good : (n : ℕ) → Good Valid (committedAt n s)
+  pub cut-good : (n : ℕ) → Good Valid (committedAt n s)
   cut-good =
       commit-keeps-named s start (λ d f h. let p = C .names d f h in (plain-once d (p .0), plain-once f (p .1)))
       (subst (NoneMade DotBakBak) (sym (C .logged)) (made ops (C .places)))
@@ -158,7 +158,7 @@ module _ (b : Bytes) (s : Store) (ops : List Op) (C : Suits b s ops) (t : AllTru
       made (a ∷ l) h = (made-once a (h a (inl refl)), made l (λ c j. h c (inr j)))
 
   module _ (n : ℕ) (e : commitStep n b imageRoom stepRoom .number ≡ 0) where
-    cut-image : cutAt n b ≡ encode (committedAt n s)
+    pub cut-image : cutAt n b ≡ encode (committedAt n s)
     cut-image =
         let a = stepped b s n (C .holds) k in
         ap (λ (x : Answer). x .image) (a ∙ within-plan (leb n (length (commitPlan s))) _ (ap (λ (x : Answer). x .number) (sym a) ∙ e))

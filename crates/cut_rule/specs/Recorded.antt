@@ -29,9 +29,10 @@ use Rattle.laws.specs.LogLaws.{recorded-stands}
 use Rattle.laws.specs.AppendLaws.{appended-journal}
 use Rattle.laws.specs.RecordLaws.{Room, into, passing}
 use Rattle.laws.specs.Accepted.{begin-accepted, write-accepted}
-use Rattle.cut_rule.specs.Demand.{TrulyMarked, Conditions, cutAt, expectedFiles, settled}
+use Rattle.cut_rule.specs.Demand.{TrulyMarked, Conditions, Either, cutAt, cutRecoveries, InPlans, expectedFiles, settled}
 use Rattle.cut_rule.specs.Writes.{in-ops}
 use Rattle.cut_rule.specs.Theorem.{marked-rule}
+use Rattle.cut_rule.specs.Again.{again-rule}
 
 -- Every Write of the log is marked, and its mark is true of the tree; so is the log of what an entry hands on.
 record TrueLog (s : Store) : Type 0 where
@@ -137,3 +138,11 @@ pub recorded-rule : (a : Bytes) (cs : List WriteCall) → begin a imageRoom .num
     recover (cutAt n b) out ≡ answer 0 (settled (expectedFiles (hasTag 0x13 (cutAt n b)) s ws))
 recorded-rule a cs p k s ws n out C e l =
     marked-rule (wroteAll cs (begin a imageRoom .image)) s ws n out C (recorded-marks a cs p k s ws (C .holds) (C .writesAlone)) e l
+
+-- Nor does item 5.
+pub recorded-again : (a : Bytes) (cs : List WriteCall) → begin a imageRoom .number ≡ 0 → AllAnswered cs (begin a imageRoom .image) →
+    (s : Store) (ws : List Write) (n : ℕ) (ms : List ℕ) (out : ℕ) → let b : Bytes = wroteAll cs (begin a imageRoom .image) in
+    Either b s ws → commitStep n b imageRoom stepRoom .number ≡ 0 → InPlans ms (cutAt n b) →
+    recover (cutRecoveries ms (cutAt n b)) out ≡ recover (cutAt n b) out
+recorded-again a cs p k s ws n ms out C e i =
+    again-rule (wroteAll cs (begin a imageRoom .image)) s ws n ms out C (recorded-marks a cs p k s ws (C .holds) (C .writesAlone)) e i

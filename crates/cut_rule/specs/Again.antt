@@ -1,0 +1,109 @@
+-- Recovery cut, any number of times: item 5 of document 02, for operations of every kind.
+use mathlib.Core.Path.{_≡_, refl, sym, _∙_, ap, subst}
+use Prim.Native.Nat.{ℕ}
+use native.Mathlib.Omega.{arith}
+use mathlib.Core.List.{List, [], _∷_, map}
+use mathlib.Core.Option.{Option, none, some}
+use mathlib.Core.Bool.{Bool}
+use mathlib.Core.Logic.{inr}
+use lib.ListN.{length}
+use lib.Dec.{leb}
+use Rattle.model.specs.Limits.{imageRoom, stepRoom}
+use Rattle.model.specs.Map.{Map}
+use Rattle.model.specs.Base.{Bytes, isSome}
+use Rattle.model.specs.Operation.{Op, Write, write}
+use Rattle.model.specs.Log.{journal}
+use Rattle.model.specs.Store.{Store}
+use Rattle.model.specs.Image.{encode}
+use Rattle.model.specs.Step.{Fault}
+use Rattle.model.specs.Plan.{commitFault, committedAt, recoverPlan, recoveredAt, withoutMark}
+use Rattle.model.specs.Answers.{Answer, stepAnswer, recover, recoverStep}
+use Rattle.laws.specs.MapLaws.{none≢some}
+use Rattle.laws.specs.ImageLaws.{decode-encode}
+use Rattle.laws.specs.StoreLaws.{Good, well-formed}
+use Rattle.laws.specs.ValidNames.{Valid, DotBakBak}
+use Rattle.laws.specs.WellFormed.{NoneNamed, recover-keeps-valid, recover-keeps-named}
+use Rattle.cut_rule.specs.Demand.{Meets, Either, cutAt, cutRecoveries, InPlans, AgainRule}
+use Rattle.cut_rule.specs.Kinds.{Marked, KindsAgain}
+use Rattle.cut_rule.specs.StoreRule.{Transacts, marked-safe}
+use Rattle.cut_rule.specs.Directories.{Inv}
+use Rattle.cut_rule.specs.Clean.{Tidy, old-tidy}
+use Rattle.cut_rule.specs.Heal.{Heals, recorded, undoing, ended, heals-calm, heals-cut}
+use Rattle.cut_rule.specs.Commit.{treeAfter, after-tidy, cut-heals, failed-cut-heals}
+use Rattle.cut_rule.specs.OverImages.{twice, Found, found-in, within-plan, answered, transacts, cut-good, cut-image}
+use Rattle.cut_rule.specs.Writes.{suits, all-true, truly-true, truly-marked}
+
+-- No backup of a backup stands where what was done can be undone, so a cut of recovery leaves a well-formed store.
+none-twice : (ops : List Op) (p : Map) (u : Store) → Inv p ops (u .tree) → NoneNamed DotBakBak (u .tree)
+none-twice ops p u i d f h = (
+  λ z. let t = twice d z in none≢some (sym (i .dirsOnce d (t .0) (t .1) (t .2) (t .3) f) ∙ h .1),
+  λ z. let t = twice f z in none≢some (sym (i .filesOnce d f (t .0) (t .1) (t .2) (t .3)) ∙ h .1),
+)
+
+recovered-good : (ops : List Op) (p : Map) (u : Store) → Good Valid u → Heals ops p u → (n : ℕ) → Good Valid (recoveredAt n u)
+recovered-good ops p u g (recorded e q) = recover-keeps-valid u g (λ l z. let y : _≡_ {A = ℕ} 0 1 = cc in omega arith)
+recovered-good ops p u g (undoing o k e i z) = recover-keeps-named u g (none-twice _ p u i)
+recovered-good ops p u g (ended h) = recover-keeps-valid u g (λ l z. let y : _≡_ {A = ℕ} 0 1 = cc (ap journal (h .same)) in omega arith)
+
+-- Recovery's step entry.
+step-image : (ops : List Op) (p : Map) (u : Store) (m : ℕ) → Good Valid u → Heals ops p u → recoverStep m (encode u) imageRoom stepRoom .number ≡ 0 →
+    recoverStep m (encode u) imageRoom stepRoom .image ≡ encode (recoveredAt m u)
+step-image ops p u m g h e =
+    let a : recoverStep m (encode u) imageRoom stepRoom ≡ stepAnswer m (recoverPlan (withoutMark u)) (recoveredAt m u) =
+    unfold recoverStep in (rw (decode-encode u (well-formed u g), heals-calm ops p u h)) in
+    ap (λ (x : Answer). x .image) (a ∙ within-plan (leb m (length (recoverPlan (withoutMark u)))) _ (ap (λ (x : Answer). x .number) (sym a) ∙ e))
+
+-- From any store that recovery heals.
+again : (ops : List Op) (p : Map) → Tidy p → Marked ops → (out : ℕ) (ms : List ℕ) (u : Store) → Good Valid u → Heals ops p u → InPlans ms (encode u) →
+    recover (cutRecoveries ms (encode u)) out ≡ recover (encode u) out
+again ops p t m out [] u g h i = refl
+again ops p t m out (n ∷ ns) u g h i =
+    let v : Store = recoveredAt n u in
+    let e : recoverStep n (encode u) imageRoom stepRoom .image ≡ encode v = step-image ops p u n g h (i .0) in
+    let k : Good Valid v = recovered-good ops p u g h n in
+    let l : Heals ops p v = heals-cut ops p t m u n h in
+    ap (λ (c : Bytes). recover (cutRecoveries ns c) out) e
+    ∙ again ops p t m out ns v k l (subst (InPlans ns) e (i .1)) ∙ answered ops p v out t k l ∙ sym (answered ops p u out t g h)
+
+pub kinds-again : KindsAgain
+kinds-again b s ops n ms out C t m c e i =
+    subst (λ (x : Bytes). recover (cutRecoveries ms x) out ≡ recover x out) (sym image) (go (commitFault s) refl)
+  where
+    k : Found s
+    k = found-in b s (C .holds) c
+
+    T : Transacts s ops
+    T = transacts b s ops C t k
+
+    image : cutAt n b ≡ encode (committedAt n s)
+    image = cut-image b s ops C t k n e
+
+    from : (p : Map) → Tidy p → Heals ops p (committedAt n s) →
+        recover (cutRecoveries ms (encode (committedAt n s))) out ≡ recover (encode (committedAt n s)) out
+    from p y h = again ops p y m out ms (committedAt n s) (cut-good b s ops C t k n) h (subst (InPlans ms) image i)
+
+    go : (q : Option Fault) → commitFault s ≡ q → recover (cutRecoveries ms (encode (committedAt n s))) out ≡ recover (encode (committedAt n s)) out
+    go none f =
+        let log : Bool = isSome (committedAt n s .log) in
+        from (treeAfter s ops T log) (after-tidy s ops T f log) (cut-heals s ops T f n (inr (λ z. marked-safe (s .tree) ops _ (T .good) m)))
+    go (some x) f = from (s .tree) (old-tidy (T .old)) (failed-cut-heals s ops T m x f n)
+
+-- Item 5.
+pub again-rule : AgainRule
+again-rule b s ws n ms out C k e i =
+    kinds-again b s (map write ws) n ms out (suits C) (all-true (s .tree) ws (truly-true (s .tree) ws k)) (truly-marked (s .tree) ws k) (C .committed) e i
+
+-- A commit that goes through, or that fails, is either.
+pub either : {N : ℕ → Type 0} {b : Bytes} {s : Store} {ws : List Write} → ((x : ℕ) → N x → x ≡ 4 → ⊥) → Meets N b s ws → Either b s ws
+either h C = record {
+  committed = h _ (C .committed);
+  holds = C .holds;
+  writesAlone = C .writesAlone;
+  names = C .names;
+  keys = C .keys;
+  distinctKeys = C .distinctKeys;
+  collections = C .collections;
+}
+
+pub done-not-4 : (x : ℕ) → x ≡ 0 → x ≡ 4 → ⊥
+done-not-4 x p q = omega arith

@@ -42,9 +42,12 @@ use std::{
 ///   rest.
 ///
 /// For Writes that were recorded by this version the rule speaks of every step, the first ones too: a key that was there is
-/// not lost. A log of an older version does not say which keys were there; a written key is lost where the cut comes after that
-/// log is marked Committing and before the key's rename to its backup. Outside the rule's conditions files can be lost, as with
-/// the original. docs/FINDINGS.md has the cases.
+/// not lost. Their recovery may be cut as well, any number of times: once one runs to its end, the store is the same as if the
+/// first had.
+///
+/// A log of an older version does not say which keys were there; a written key is lost where the cut comes after that log is
+/// marked Committing and before the key's rename to its backup. Outside the rule's conditions files can be lost, as with the
+/// original. docs/FINDINGS.md has the cases.
 ///
 /// Syncs are carried out where the original has them. What a loss of power takes from a disk is outside the rule.
 pub struct FileStore {

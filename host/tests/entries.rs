@@ -109,6 +109,29 @@ fn an_old_write_keeps_its_meaning() {
     }
 }
 
+/// The image after every list of so many cuts of its recovery, one upon the other.
+fn cut_recoveries(image: &Image, cuts: u32) -> Vec<Image> {
+    if cuts == 0 {
+        return vec![image.clone()];
+    }
+    let each = (0..).map_while(|m| image.recover_step(m).ok());
+    each.flat_map(|(left, _)| cut_recoveries(&left, cuts - 1)).collect()
+}
+
+#[test]
+fn a_recovery_that_was_cut_is_done_by_the_next() {
+    let two = ten_steps().write("db", "b", "t", 10).unwrap();
+    let cuts = |image: &Image| image.commit_steps().map(|stepped| stepped.unwrap().image).chain([image.clone()]).collect::<Vec<_>>();
+    for cut in [ten_steps(), two].iter().flat_map(cuts) {
+        let first = cut.recover().unwrap();
+        (0..4).flat_map(|cuts| cut_recoveries(&cut, cuts)).for_each(|left| assert_eq!(left.recover().unwrap(), first));
+    }
+    // An old log does not say that a, restored, is not new.
+    let restored = old_log().commit_step(5).unwrap().0.recover_step(2).unwrap().0;
+    assert_eq!(restored.contents().directories, store(&[("db", &[("a", 7), ("b", 8)])]).directories);
+    assert_eq!(restored.recover().unwrap().contents(), store(&[("db", &[("b", 8)])]));
+}
+
 #[test]
 fn the_largest_image_has_room() {
     let name = |i: u32| format!("{i:064}");

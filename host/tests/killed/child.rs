@@ -8,7 +8,7 @@ use std::{
     process::{Child, Command, Stdio},
     sync::RwLock,
     thread,
-    time::Instant,
+    time::{Duration, Instant},
 };
 
 /// What a child says where it stands still, or where its work begins.
@@ -17,10 +17,11 @@ const HERE: &str = "here";
 /// A child that is being started holds this process's files, the lock of an open store among them, until it runs its program.
 static STARTS: RwLock<()> = RwLock::new(());
 
-/// Runs a child with these words and kills it where it stands still: what it said before.
-pub fn killed(words: &[String]) -> Vec<String> {
+/// Runs a child with these words and kills it so long after it says that it is here: what it said before.
+pub fn killed(words: &[String], wait: Duration) -> Vec<String> {
     let (child, mut lines) = start(words);
     let said = lines.by_ref().take_while(|line| line != HERE).collect();
+    thread::sleep(wait);
     kill(child);
     said
 }

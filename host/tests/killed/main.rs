@@ -8,13 +8,19 @@
 //!   from before if the log stood, else exactly those with all writes done. No key that was there is lost. A commit that fails
 //!   leaves those from before.
 //!
+//! After every step of a recovery of such puts, whose commit was killed, and then after any step of the recoveries that follow
+//! (`again`): the disk is what the port's step entry says, and once one recovery runs to its end, the store is the same as if the
+//! first had.
+//!
 //! At any moment, also inside a step (`moments`):
 //!
 //! - of commits of new keys with a copy of their collection, one after another, each is there whole or not at all, none behind
 //!   one that is not, and the copy is whole;
-//! - of commits that put twelve standing keys again and again, all twelve are those of one commit, and none is lost.
+//! - of commits that put twelve standing keys again and again, all twelve are those of one commit, and none is lost; up to three
+//!   recoveries are killed on the way.
 //!
 //! `killed TRANSACTIONS SEED` runs another number of transactions, from another seed.
+mod again;
 mod case;
 mod child;
 #[path = "../common/mod.rs"]
@@ -25,7 +31,8 @@ mod seen;
 mod steps;
 
 use case::Case;
-use common::Folder;
+use common::{Folder, Random};
+use seen::Wrong;
 use std::{
     env, iter,
     sync::atomic::{AtomicU64, Ordering},
@@ -42,6 +49,8 @@ fn main() {
     let given = |i: usize| number(i).expect("a number");
     match words.first().map(String::as_str) {
         Some("commit") => steps::child(&words[1], &Case::new(given(2), given(3)), given(4)),
+        Some("recover") => again::child(&words[1], given(2)),
+        Some("recovering") => moments::recovering_child(&words[1]),
         Some("new") => moments::new_keys_child(&words[1], given(2)),
         Some("standing") => moments::standing_child(&words[1], given(2)),
         _ => parent(number(0).unwrap_or(300), number(1).unwrap_or(1)),
@@ -49,12 +58,14 @@ fn main() {
 }
 
 fn parent(transactions: u64, seed: u64) {
-    let (started, steps, moments, next) = (Instant::now(), steps::Seen::default(), moments::Seen::default(), AtomicU64::new(0));
+    let (started, next) = (Instant::now(), AtomicU64::new(0));
+    let (steps, again, moments) = (steps::Seen::default(), again::Seen::default(), moments::Seen::default());
     let work = || {
         let folder = Folder::new();
         let cases = iter::repeat_with(|| next.fetch_add(1, Ordering::Relaxed)).take_while(|number| *number < transactions);
         cases.for_each(|number| {
-            steps::every_step(&steps, &folder.0.join("steps"), seed, number);
+            let recorded = steps::every_step(&steps, &folder.0.join("steps"), seed, number);
+            again::every_recovery(&again, &folder.0.join("steps"), &recorded, &mut Random::new(seed, number));
             match number % 2 {
                 0 => moments::new_keys_killed(&moments, &folder.0.join("new"), seed + number),
                 _ => moments::standing_killed(&moments, &folder.0.join("standing"), seed + number),
@@ -62,8 +73,7 @@ fn parent(transactions: u64, seed: u64) {
         });
     };
     thread::scope(|scope| (0..WORKERS).for_each(|_| drop(scope.spawn(work))));
-    println!("killed, seed {seed}:\n{steps}\n{moments}\n  {:.1} s", started.elapsed().as_secs_f64());
+    println!("killed, seed {seed}:\n{steps}\n{again}\n{moments}\n  {:.1} s", started.elapsed().as_secs_f64());
     assert_eq!((steps.lost.get(), moments.lost.get()), (0, 0), "lost keys that were there");
-    steps.wrong.none();
-    moments.wrong.none();
+    [&steps.wrong, &again.wrong, &moments.wrong].into_iter().for_each(Wrong::none);
 }

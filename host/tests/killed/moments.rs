@@ -1,12 +1,12 @@
 //! Commits killed at any moment, also inside a step.
 use crate::{
-    child::{here, killed_meanwhile, recover, say, stand_still},
+    child::{here, killed, killed_meanwhile, recover, say, stand_still},
     common::{Random, Tree},
     disk::Disk,
     seen::{Count, Wrong},
 };
 use cda_store::{FileStore, scan};
-use std::{collections::BTreeMap, fmt, path::Path};
+use std::{collections::BTreeMap, fmt, path::Path, time::Duration};
 
 #[derive(Default)]
 pub struct Seen {
@@ -14,18 +14,20 @@ pub struct Seen {
     standing: Count,
     committing: Count,
     waiting: Count,
+    recoveries: Count,
+    unfinished: Count,
     pub lost: Count,
     pub wrong: Wrong,
 }
 
 impl fmt::Display for Seen {
     fn fmt(&self, f: &mut fmt::Formatter) -> fmt::Result {
-        let Seen { new, standing, committing, waiting, lost, .. } = self;
+        let Seen { new, standing, committing, waiting, recoveries, unfinished, lost, .. } = self;
         writeln!(f, "  at any moment, new keys and copies: {new} kills")?;
         write!(
             f,
             "  at any moment, twelve standing keys put: {standing} kills, {committing} of them Committing, {waiting} with a key without a backup; \
-             lost: {lost}"
+             then {recoveries} kills of recoveries, {unfinished} of them before the end; lost: {lost}"
         )
     }
 }
@@ -105,10 +107,30 @@ pub fn standing_child(root: &str, seed: u64) {
     }
 }
 
+/// The child: recovers the store.
+pub fn recovering_child(root: &str) {
+    here();
+    FileStore::open(root).unwrap();
+    stand_still()
+}
+
+/// The longest time that a recovery runs before it is killed, in microseconds; some end before.
+const RECOVERING: u64 = 10_000;
+
+/// Kills up to three recoveries, one after another, at any moment.
+fn recoveries_killed(seen: &Seen, root: &Path, random: &mut Random) {
+    for _ in 0..random.below(4) {
+        killed(&["recovering".to_string(), root.display().to_string()], Duration::from_micros(random.below(RECOVERING)));
+        seen.recoveries.add(true);
+        seen.unfinished.add(scan(root).unwrap().has_pending_work().unwrap());
+    }
+}
+
 /// All twelve keys are of the last generation that was committed, or all are of the next one, where its log is gone.
 pub fn standing_killed(seen: &Seen, root: &Path, seed: u64) {
     let committed = killed_while("standing", root, generation(seed, 0), seed);
     let killed = Disk::read(root);
+    recoveries_killed(seen, root, &mut Random::new(seed, 100));
     recover(root);
     let left = Disk::read(root);
     let is = |number| left == Disk::at_rest(generation(seed, number));

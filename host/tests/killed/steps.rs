@@ -2,11 +2,11 @@
 use crate::{
     case::Case,
     child::{killed, recover, say, stand_still_at},
-    disk::{Disk, by_number},
+    disk::{ByNumber, Disk, by_number},
     seen::{Count, Wrong},
 };
 use cda_store::{FileStore, Image, Plan};
-use std::{fmt, path::Path};
+use std::{fmt, path::Path, time::Duration};
 
 #[derive(Default)]
 pub struct Seen {
@@ -49,40 +49,69 @@ pub fn child(root: &str, case: &Case, n: u64) {
 pub fn commit_killed(root: &Path, case: &Case, seed: u64, number: u64, n: u64) -> Image {
     Disk::at_rest(case.before.clone()).lay_out(root);
     let words = ["commit".to_string(), root.display().to_string()].into_iter().chain([seed, number, n].map(|word| word.to_string()));
-    let said = killed(&words.collect::<Vec<_>>());
+    let said = killed(&words.collect::<Vec<_>>(), Duration::ZERO);
     let [hex] = &said[..] else { panic!("seed {seed}, case {number}, step {n}: the child said {said:?}") };
     let bytes = (0..hex.len()).step_by(2).map(|at| u8::from_str_radix(&hex[at..at + 2], 16).unwrap());
     Image::new(bytes.collect()).unwrap()
 }
 
+/// A case that was recorded: the transaction's image, the contents behind its numbers, and whether its commit fails.
+pub struct Recorded {
+    pub case: Case,
+    pub image: Image,
+    pub fails: bool,
+    by_number: ByNumber,
+    /// Which case it is.
+    pub name: String,
+}
+
+impl Recorded {
+    /// Lays out the case and records it.
+    fn new(root: &Path, seed: u64, number: u64) -> Recorded {
+        let case = Case::new(seed, number);
+        let image = commit_killed(root, &case, seed, number, 0);
+        let (fails, by_number) = (image.commit().is_err(), by_number(&image.contents(), root));
+        Recorded { case, image, fails, by_number, name: format!("seed {seed}, case {number}") }
+    }
+
+    /// What an image of the transaction says of the disk.
+    pub fn disk(&self, image: &Image) -> Disk {
+        Disk::of(&image.contents(), &self.by_number)
+    }
+
+    /// What the rule says that recovery leaves, if the transaction is within its conditions.
+    pub fn expected(&self, log_stood: bool) -> Option<Disk> {
+        self.case.expected(log_stood || self.fails).map(Disk::at_rest)
+    }
+}
+
 /// One case: kills at every step, and looks at what each left.
-pub fn every_step(seen: &Seen, root: &Path, seed: u64, number: u64) {
-    let case = Case::new(seed, number);
-    let kill = |n| commit_killed(root, &case, seed, number, n);
-    let image = kill(0);
-    let by_number = by_number(&image.contents(), root);
-    let (fails, is_puts) = (image.commit().is_err(), case.puts().is_some());
+pub fn every_step(seen: &Seen, root: &Path, seed: u64, number: u64) -> Recorded {
+    let recorded = Recorded::new(root, seed, number);
+    let Recorded { case, image, fails, .. } = &recorded;
+    let is_puts = case.puts().is_some();
     seen.transactions.add(true);
-    seen.failing.add(fails);
+    seen.failing.add(*fails);
     seen.puts.add(is_puts);
-    seen.failing_puts.add(fails && is_puts);
+    seen.failing_puts.add(*fails && is_puts);
     for n in 0..=image.commit_steps().count() as u64 {
         if n > 0 {
-            assert_eq!(kill(n), image);
+            assert_eq!(commit_killed(root, case, seed, number, n), *image);
         }
-        let at = format!("seed {seed}, case {number}, step {n}");
+        let at = format!("{}, step {n}", recorded.name);
         let cut = image.commit_step(n).unwrap().0;
         let killed = Disk::read(root);
-        assert_eq!(killed, Disk::of(&cut.contents(), &by_number), "{at}");
+        assert_eq!(killed, recorded.disk(&cut), "{at}");
         recover(root);
         let left = Disk::read(root);
-        assert_eq!(left, Disk::of(&cut.recover().unwrap().contents(), &by_number), "{at}");
+        assert_eq!(left, recorded.disk(&cut.recover().unwrap()), "{at}");
         seen.kills.add(true);
-        if let Some(expected) = case.expected(killed.log.is_some() || fails) {
-            look(seen, &case, &killed, &left);
-            seen.wrong.unless(left == Disk::at_rest(expected), || at);
+        if let Some(expected) = recorded.expected(killed.log.is_some()) {
+            look(seen, case, &killed, &left);
+            seen.wrong.unless(left == expected, || at);
         }
     }
+    recorded
 }
 
 /// What a kill of a transaction of puts, and the recovery, left of the keys that were there.

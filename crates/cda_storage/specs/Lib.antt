@@ -2,4 +2,5 @@ pub mod Buffers
 pub mod Calls
 pub mod CutRule
 pub mod Again
+pub mod Steps
 pub mod Refusals

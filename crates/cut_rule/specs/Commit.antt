@@ -35,7 +35,7 @@ sync-same : (d : Name) (u : Store) (q : Option ℕ) → applyAll (ifPresent q (s
 sync-same d u none = refl
 sync-same d u (some x) = unfold apply in refl
 
-syncs-same : (l : List Name) (u : Store) → applyAll (inTurn syncExisting l u) u ≡ u
+pub syncs-same : (l : List Name) (u : Store) → applyAll (inTurn syncExisting l u) u ≡ u
 unfolding syncExisting
 syncs-same l u = applyAll-inTurn syncExisting l u ∙ all l u
   where
@@ -91,7 +91,7 @@ module _ (s : Store) (ops : List Op) (T : Transacts s ops) where
   steps-cautious : Cautious M steps begun
   steps-cautious = ops-apply (s .tree) (T .old) ops (T .good) ops begun (λ a i. i) (T .apart) (λ a i. begun-untouched a) begun-mid
 
-  fault-is : commitFault s ≡ firstFault steps begun
+  pub fault-is : commitFault s ≡ firstFault steps begun
   unfolding commitFault
   fault-is = ap (λ (o : List Op). firstFault (operationSteps o begun) begun) (ap opsOf (T .logged))
 
@@ -106,7 +106,7 @@ module _ (s : Store) (ops : List Op) (T : Transacts s ops) where
   abbrev collections : List Name
   collections = firstNamings [] (map collectionOf ops)
 
-  abbrev unlogged : Store
+  abbrev pub unlogged : Store
   unlogged = apply removeLog (applyAll steps begun)
 
   cleaned : Store
@@ -141,7 +141,7 @@ module _ (s : Store) (ops : List Op) (T : Transacts s ops) where
     unfolding final
     final-agrees d k p q = tidy .1 .agrees d k p q ∙ unfold apply in refl
 
-    unlogged-ended : Ended final unlogged
+    pub unlogged-ended : Ended final unlogged
     unlogged-ended = unfold apply in record {
       same = refl;
       sorted = applied-mid .inv .sorted;

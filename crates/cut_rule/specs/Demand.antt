@@ -1,23 +1,27 @@
--- The cut rule over images: 01, 'The words of demand 3', and 02, items 4 and 5. Quotes are from 01, or from 02 where an item is named. Theorem.antt and
--- Again.antt prove what is stated here.
+-- The cut rule over images: 01, 'The words of demand 3', and 02, items 4, 5 and 13. Quotes are from 01, or from 02 where an item is named. Theorem.antt,
+-- Again.antt and Count.antt prove what is stated here.
 use mathlib.Core.Path.{_≡_}
-use Prim.Native.Nat.{ℕ, _≤_}
+use Prim.Native.Nat.{ℕ, _+_, _*_, _≤_}
 use mathlib.Core.List.{List, [], _∷_, _++_, map}
 use mathlib.Core.Option.{none, some}
-use mathlib.Core.Bool.{Bool, false}
-use mathlib.Core.Logic.{_⊎_}
+use mathlib.Core.Bool.{Bool, false, not}
+use mathlib.Core.Logic.{_⊎_, _↔_}
+use lib.ListN.{length}
+use lib.Dec.{leb}
 use Rattle.model.specs.Limits.{imageRoom, stepRoom}
 use Rattle.model.specs.Order.{Name}
 use Rattle.model.specs.Map.{Map, look, put, Has}
-use Rattle.model.specs.Base.{Bytes, caseOption, if_then_else_, isSome, In}
+use Rattle.model.specs.Base.{Bytes, caseOption, if_then_else_, isSome, isIn, Any, In}
 use Rattle.model.specs.Name.{backupExtension, stagingExtension, backupName}
 use Rattle.model.specs.Field.{hasTag}
 use Rattle.model.specs.Operation.{Write, write, target}
 use Rattle.model.specs.Log.{journal, opsOf}
-use Rattle.model.specs.Store.{Store, stagingKey}
+use Rattle.model.specs.Store.{Store, stagingKey, stagingNames}
 use Rattle.model.specs.Image.{decode}
 use Rattle.model.specs.Step.{Step, renameFile, stepField}
+use Rattle.model.specs.Plan.{commitPlan}
 use Rattle.model.specs.Answers.{answer, commit, commitStep, recover, recoverStep}
+use Rattle.laws.specs.Listings.{Once}
 
 -- A name ends in .bak, or in .tmp: as text, whatever stands before the dot.
 pub record EndsIn (extension n : Name) : Type 0 where
@@ -162,3 +166,33 @@ AgainRule =
     (b : Bytes) (s : Store) (ws : List Write) (n : ℕ) (ms : List ℕ) (out : ℕ) →
     Either b s ws → TrulyMarked (s .tree) ws → commitStep n b imageRoom stepRoom .number ≡ 0 → InPlans ms (cutAt n b) →
     recover (cutRecoveries ms (cutAt n b)) out ≡ recover (cutAt n b) out
+
+-- 02, item 13: "w Writes, at least one, b of their keys already there, c distinct collections named by them, s staging files that no Write names".
+abbrev pub count : {A : Type 0} → (A → Bool) → List A → ℕ
+count p [] = 0
+count p (a ∷ l) = (if p a then 1 else 0) + count p l
+
+abbrev pub existedIn : Store → Write → Bool
+existedIn s w = isSome (look (target w) (s .tree))
+
+abbrev pub unnamed : List Name → Map → ℕ
+unnamed l m = count (λ f. not (isIn f l)) (stagingNames m)
+
+-- A list of the collections that the Writes name, none twice.
+abbrev pub ListedOnce : List Name → List Write → Type 0
+ListedOnce cs ws = Once cs × ((d : Name) → In d cs ↔ Any (λ w. d ≡ w .collection) ws)
+
+-- "the commit plan has exactly 6 + w + 2b + c + s steps"
+abbrev pub stepCount : Store → List Write → List Name → ℕ
+stepCount s ws cs = 6 + length ws + 2 * count (existedIn s) ws + length cs + unnamed (map (λ w. w .staged) ws) (s .staging)
+
+-- "This is a statement about the plan's own steps, for kinds 1 and 7 alike." It holds without a Write too. And what the step entry says of it.
+abbrev pub StepCount : Type 0
+StepCount =
+    (b : Bytes) (s : Store) (ws : List Write) (cs : List Name) → Conditions b s ws → TrueMarks (s .tree) ws → ListedOnce cs ws →
+    length (commitPlan s) ≡ stepCount s ws cs
+
+abbrev pub StepCountAt : Type 0
+StepCountAt =
+    (b : Bytes) (s : Store) (ws : List Write) (cs : List Name) (n : ℕ) → Conditions b s ws → TrueMarks (s .tree) ws → ListedOnce cs ws →
+    commitStep n b imageRoom stepRoom .number ≡ (if leb n (stepCount s ws cs) then 0 else 16)

@@ -26,9 +26,11 @@ use Rattle.model.specs.Record.{transaction}
 use Rattle.model.specs.Answers.{answer, commitStore, commit, recoverStore, recover, commitStep, recoverStep}
 use Rattle.laws.specs.MapLaws.{key-dec, none≢some, look-tail}
 use Rattle.cut_rule.specs.Demand.{NoExtension, Unmarked, TrulyMarked, Conditions, backupRename, Renamed, cutAt, settled, allWritesDone, cutRecoveries}
-use Rattle.cut_rule.specs.Demand.{InPlans}
+use Rattle.cut_rule.specs.Demand.{InPlans, ListedOnce, stepCount}
 use Rattle.cut_rule.specs.Theorem.{demand-3, marked-rule}
 use Rattle.cut_rule.specs.Again.{again-rule, either, done-not-4}
+use Rattle.cut_rule.specs.Writes.{truly-true}
+use Rattle.cut_rule.specs.Count.{step-count}
 
 db : Name
 db = 0x64 ∷ 0x62 ∷ []
@@ -208,6 +210,7 @@ record ComputedMarked : Type 0 where
   recovers1 : recover (cutAt 1 tenMarked) imageRoom .number ≡ 0
   recovers5 : recover (cutAt 5 tenMarked) imageRoom .number ≡ 0
   cuts : InPlans (2 ∷ 0 ∷ 1 ∷ []) (cutAt 5 tenMarked)
+  counted : stepCount storeMarked (write9Marked ∷ []) (db ∷ []) ≡ 10
 
 computedMarked : ComputedMarked
 unfolding tenMarked storeMarked tree7 write9Marked db a crc32 register feedByte shifts shift addPolynomial littleEndian fromLittleEndian encodeField
@@ -233,6 +236,7 @@ computedMarked = record {
   recovers1 = refl;
   recovers5 = refl;
   cuts = (refl, (refl, (refl, tt)));
+  counted = refl;
 }
 
 metMarked : Conditions tenMarked storeMarked (write9Marked ∷ [])
@@ -273,3 +277,12 @@ after-5-again =
     again-rule tenMarked storeMarked (write9Marked ∷ []) 5 (2 ∷ 0 ∷ 1 ∷ []) imageRoom (either done-not-4 metMarked) marked (computedMarked .steps5) (computedMarked .cuts)
     ∙ rw (computedMarked .log5) at
     (marked-rule tenMarked storeMarked (write9Marked ∷ []) 5 imageRoom metMarked marked (computedMarked .steps5) (not-2 _ (computedMarked .recovers5)))
+
+-- 02, item 13: "The ten-step case has w = b = c = 1 and s = 0."
+ten-steps : length (commitPlan storeMarked) ≡ 10
+unfolding storeMarked
+ten-steps =
+    step-count tenMarked storeMarked (write9Marked ∷ []) (db ∷ []) metMarked (truly-true tree7 (write9Marked ∷ []) marked) listed ∙ computedMarked .counted
+  where
+    listed : ListedOnce (db ∷ []) (write9Marked ∷ [])
+    listed = ((λ i. i, tt), λ d. unfold write9Marked in ((λ i. i), λ i. i))

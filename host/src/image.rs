@@ -1,5 +1,8 @@
 //! A store image: document 01, 'How a store is handed over'.
-use crate::{Refusal, field};
+use crate::{
+    Refusal, field,
+    log::{self, Write},
+};
 use std::collections::BTreeMap;
 
 /// Files of a directory and their content numbers.
@@ -54,12 +57,23 @@ impl Contents {
         Image::new(self.encode())
     }
 
+    /// Whether a collection holds a file.
+    pub fn has(&self, collection: &str, file: &str) -> bool {
+        self.directories.get(collection).is_some_and(|files| files.contains_key(file))
+    }
+
     /// The name of a staging file that does not stand, and a content number that no file has.
     pub fn unused(&self) -> (String, u32) {
         let files = self.directories.values().chain([&self.staging]);
         let last = files.flat_map(|files| files.values()).max().copied().unwrap_or(0);
         let mut names = (last + 1..).map(|number| (format!("{number}.tmp"), number));
         names.find(|(name, _)| !self.staging.contains_key(name)).expect("fewer files than numbers")
+    }
+
+    /// The Writes of an open transaction, in the order of its log; none where it holds anything else. The log must be one that
+    /// the port takes for a transaction's: it is not tested here.
+    pub fn writes(&self) -> Option<Vec<Write>> {
+        log::writes(self.log.as_ref()?)
     }
 
     fn encode(&self) -> Vec<u8> {

@@ -22,10 +22,12 @@ mod entries;
 mod field;
 mod file_store;
 mod image;
+mod log;
 mod step;
 
 pub use cda_storage_sys::Refusal;
 pub use entries::{CommitError, Plan, Stepped, Steps};
 pub use file_store::{Event, FileStore, StoreError, Transaction, scan};
 pub use image::{Contents, Files, Image};
+pub use log::Write;
 pub use step::Step;

@@ -1,8 +1,8 @@
 //! The command `cda-store`, run as a process.
 mod common;
 
-use cda_store::{Contents, Image};
-use common::{Folder, OLD_WRITE, RECORDING};
+use cda_store::Contents;
+use common::{Folder, OLD_WRITE, RECORDING, crc32, ten_steps};
 use std::{
     collections::BTreeMap,
     fs,
@@ -30,6 +30,7 @@ The commit has 10 steps. Cut behind step n and recovered, the store has:
 10  remove db/a.bak            later
 
 11 cuts: 8 earlier, 3 later.
+10 steps = 6 + w 1 + 2 x b 1 + c 1 + s 0: w writes, b of their keys already there, c collections named, s staging files that no write names.
 ";
 
 /// A folder with a store in `store` and the files that are put.
@@ -169,11 +170,8 @@ fn the_ten_step_case() {
 
 #[test]
 fn an_image_file_holds_a_transaction() {
-    let files = [("a".to_string(), 7)].into();
-    let rest = Contents { directories: [("db".to_string(), files)].into(), ..Contents::default() };
-    let image = rest.image().and_then(|image: Image| image.begin()?.write("db", "a", "s.tmp", 9)).unwrap();
     let place = Place::new();
-    fs::write(place.0.0.join("image"), image.bytes()).unwrap();
+    fs::write(place.0.0.join("image"), ten_steps().bytes()).unwrap();
     assert!(place.done("cuts image").starts_with(&TEN_STEPS.replace("2.tmp", "s.tmp")));
     fs::write(place.0.0.join("image"), "no image").unwrap();
     place.fails(1, "cuts image", "refusal 1");
@@ -181,9 +179,8 @@ fn an_image_file_holds_a_transaction() {
 
 #[test]
 fn an_old_log_can_lose_a_key() {
-    let directories = [("db".to_string(), [("a".to_string(), 7)].into())].into();
     let log = Some([RECORDING, OLD_WRITE].concat());
-    let old = Contents { directories, staging: [("s".to_string(), 9)].into(), log, open: true };
+    let old = Contents { staging: [("s".to_string(), 9)].into(), log, ..ten_steps().contents() };
     let place = Place::new();
     fs::write(place.0.0.join("image"), old.image().unwrap().bytes()).unwrap();
     let table = place.done("cuts image");
@@ -191,6 +188,52 @@ fn an_old_log_can_lose_a_key() {
         assert!(table.contains(&format!("\n {step}  lost db/a (no mark and no backup)\n")), "{table}");
     }
     assert!(table.contains("\n11 cuts: 5 earlier, 3 lost, 3 later.\n"), "{table}");
+    assert_eq!(sum(&table), Some([1, 1, 1, 0]), "counted as a marked Write");
+}
+
+/// The numbers w, b, c and s of the table's sum, which is the number of its steps; none where it has no sum.
+fn sum(table: &str) -> Option<[usize; 4]> {
+    let (steps, parts) = table.lines().find_map(|line| line.split(": ").next()?.split_once(" steps = 6 + "))?;
+    let number = |part: &str| part.rsplit(' ').next().unwrap().parse::<usize>().unwrap();
+    let [w, b, c, s] = parts.split(" + ").map(number).collect::<Vec<_>>().try_into().unwrap();
+    assert_eq!((number(steps), claims(table).len()), (6 + w + 2 * b + c + s, number(steps) + 1), "{table}");
+    Some([w, b, c, s])
+}
+
+#[test]
+fn the_steps_of_puts_are_a_sum() {
+    let (place, long) = (Place::with_a(), "l".repeat(62));
+    place.done(&format!("put store e/k old e/{long} old"));
+    fs::write(place.0.0.join("store/collections/db/K"), "").unwrap();
+    let counted = |update: &str| sum(&place.done(&format!("cuts store {update}")));
+    assert_eq!(counted("put db/a new"), Some([1, 1, 1, 0]));
+    assert_eq!(counted("put db/b new"), Some([1, 0, 1, 0]));
+    assert_eq!(counted("put db/k new"), Some([1, 0, 1, 0]), "K is another file");
+    assert_eq!(counted("put db/A new db/b new e/k new e/l new"), Some([4, 2, 2, 0]));
+    let failing = format!("put e/{long} new");
+    for outside in ["put n/k new", "put db/a new db/A old", "put db/b.bak new", "put db/b.tmp new", "delete db/a", "clear n", &failing] {
+        assert_eq!(counted(outside), None, "{outside}");
+    }
+    place.said("put store db/a new e/n new --stop-after 0");
+    ["one", "two"].iter().for_each(|name| fs::write(place.0.0.join("store/journal/staging").join(name), "").unwrap());
+    assert_eq!(counted(""), Some([2, 1, 2, 2]));
+    place.done("put store db/t.tmp old");
+    assert_eq!(counted("put db/a new"), None, "a name in .tmp");
+}
+
+#[test]
+fn the_steps_of_a_false_mark_are_no_sum() {
+    let (place, image) = (Place::new(), ten_steps());
+    let with_mark = |mark: u8| {
+        let mut contents = image.contents();
+        let log = contents.log.as_mut().unwrap();
+        *log.last_mut().unwrap() = mark;
+        let checksum = crc32(&log[16..]).to_le_bytes();
+        log[8..12].copy_from_slice(&checksum);
+        fs::write(place.0.0.join("image"), contents.image().unwrap().bytes()).unwrap();
+        sum(&place.done("cuts image"))
+    };
+    assert_eq!((with_mark(1), with_mark(0)), (Some([1, 1, 1, 0]), None));
 }
 
 /// The first word that the table says of each cut.

@@ -2,8 +2,8 @@
 mod common;
 
 use cda_storage_sys::{self as sys, IMAGE_ROOM, LOG_LIMIT, Output};
-use cda_store::{Contents, Files, Image, Refusal, Step};
-use common::{OLD_WRITE, RECORDING};
+use cda_store::{Contents, Files, Image, Refusal, Step, Write};
+use common::{OLD_WRITE, RECORDING, crc32, ten_steps};
 use std::collections::BTreeMap;
 
 fn store(files: &[(&str, &[(&str, u32)])]) -> Contents {
@@ -14,11 +14,6 @@ fn store(files: &[(&str, &[(&str, u32)])]) -> Contents {
 
 fn begun(files: &[(&str, &[(&str, u32)])]) -> Image {
     store(files).image().unwrap().begin().unwrap()
-}
-
-/// db/a=7 and a Write of 9 to a, staged as s.tmp: document 01's ten-step case.
-fn ten_steps() -> Image {
-    begun(&[("db", &[("a", 7)])]).write("db", "a", "s.tmp", 9).unwrap()
 }
 
 /// db/a=7 and b=8, and the ten-step case's Write to a as an older version recorded it.
@@ -33,12 +28,6 @@ fn with_log(image: &Image, log: impl FnOnce(&mut Vec<u8>)) -> Image {
     let mut contents = image.contents();
     log(contents.log.as_mut().unwrap());
     contents.image().unwrap()
-}
-
-fn crc32(bytes: &[u8]) -> u32 {
-    !bytes.iter().fold(!0, |crc, byte| {
-        (0..8).fold(crc ^ u32::from(*byte), |crc: u32, _| if crc & 1 == 1 { crc >> 1 ^ 0xEDB8_8320 } else { crc >> 1 })
-    })
 }
 
 #[test]
@@ -87,6 +76,16 @@ fn a_write_remembers_whether_its_key_was_there() {
     let marked = |key: &[u8], mark| [b"\x01\x01\0\x07\x02\x02\0db\x03\x01\0", key, b"\x04\x01\0s\x07\x01\0", &[mark]].concat();
     assert!(log("a").ends_with(&marked(b"a", 1)) && log("A").ends_with(&marked(b"a", 1)));
     assert!(log("b").ends_with(&marked(b"b", 0)) && log("x").ends_with(&marked(b"x", 0)), "B is another file than b");
+}
+
+#[test]
+fn the_writes_of_a_transaction_are_told() {
+    let write = |key: &str, staged: &str, mark| Write { collection: "db".into(), key: key.into(), staged: staged.into(), mark };
+    let mixed = old_log().write("db", "B", "t", 10).unwrap().write("db", "c", "u", 11).unwrap();
+    assert_eq!(mixed.contents().writes().unwrap(), [write("a", "s", None), write("b", "t", Some(true)), write("c", "u", Some(false))]);
+    assert_eq!(begun(&[]).contents().writes(), Some(Vec::new()));
+    assert_eq!(mixed.delete_all("db").unwrap().contents().writes(), None);
+    assert_eq!(Contents::default().writes(), None);
 }
 
 #[test]

@@ -1,5 +1,6 @@
 //! What the tests share: folders of their own, stores read back by the files' contents, and a seeded generator.
 #![allow(dead_code)]
+use cda_store::{Contents, Image};
 use std::{
     collections::BTreeMap,
     fs,
@@ -13,6 +14,19 @@ pub const OLD_WRITE: &[u8] = b"\xa9\xe3\xd6\x90\x11\0\0\0\x01\x01\0\x01\x02\x02\
 /// The header of a log that is recorded, and of one that is committed.
 pub const RECORDING: &[u8] = b"\xca\0\0\0\x3b\x2d\xcc\x70";
 pub const COMMITTING: &[u8] = b"\xca\x01\0\0\xad\x1d\xcb\x07";
+
+/// db/a=7 and a Write of 9 to a, staged as s.tmp: document 01's ten-step case.
+pub fn ten_steps() -> Image {
+    let directories = [("db".to_string(), [("a".to_string(), 7)].into())].into();
+    let rest = Contents { directories, ..Contents::default() }.image().unwrap();
+    rest.begin().and_then(|image| image.write("db", "a", "s.tmp", 9)).unwrap()
+}
+
+pub fn crc32(bytes: &[u8]) -> u32 {
+    !bytes.iter().fold(!0, |crc, byte| {
+        (0..8).fold(crc ^ u32::from(*byte), |crc: u32, _| if crc & 1 == 1 { crc >> 1 ^ 0xEDB8_8320 } else { crc >> 1 })
+    })
+}
 
 /// Collections, keys, contents.
 pub type Tree = BTreeMap<String, BTreeMap<String, Vec<u8>>>;

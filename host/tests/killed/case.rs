@@ -73,6 +73,14 @@ impl Case {
         self.puts().into_iter().flat_map(BTreeMap::into_keys).filter(stood).collect()
     }
 
+    /// The steps of a transaction of puts that commits, where no staging file is left over: 6, one for each put, two more for each
+    /// key that was there, one for each collection.
+    pub fn steps(&self) -> Option<usize> {
+        let puts = self.puts()?;
+        let collections: BTreeSet<&str> = puts.keys().map(|(collection, _)| *collection).collect();
+        Some(6 + puts.len() + 2 * self.standing().len() + collections.len())
+    }
+
     /// Records the operations; a refused one is left out.
     pub fn record(&self, transaction: &mut Transaction) {
         for operation in &self.operations {

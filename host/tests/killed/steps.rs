@@ -29,7 +29,8 @@ impl fmt::Display for Seen {
         writeln!(f, "  after every step: {kills} kills of {transactions} transactions, {failing} of them failing; all as the port says")?;
         writeln!(
             f,
-            "  puts alone: {put_kills} kills of {puts} transactions, {failing_puts} of them failing; {earlier} left the earlier files"
+            "  puts alone: {put_kills} kills of {puts} transactions, {failing_puts} of them failing, the others of as many steps as the sum says; \
+             {earlier} left the earlier files"
         )?;
         write!(f, "  standing keys put: {standing} seen, {waiting} of them Committing and without a backup; lost: {lost}")
     }
@@ -89,12 +90,13 @@ impl Recorded {
 pub fn every_step(seen: &Seen, root: &Path, seed: u64, number: u64) -> Recorded {
     let recorded = Recorded::new(root, seed, number);
     let Recorded { case, image, fails, .. } = &recorded;
-    let is_puts = case.puts().is_some();
+    let (is_puts, steps) = (case.puts().is_some(), image.commit_steps().count());
+    assert!(*fails || case.steps().is_none_or(|sum| sum == steps), "{}: {steps} steps", recorded.name);
     seen.transactions.add(true);
     seen.failing.add(*fails);
     seen.puts.add(is_puts);
     seen.failing_puts.add(*fails && is_puts);
-    for n in 0..=image.commit_steps().count() as u64 {
+    for n in 0..=steps as u64 {
         if n > 0 {
             assert_eq!(commit_killed(root, case, seed, number, n), *image);
         }

@@ -1,5 +1,6 @@
 //! What recovery leaves of a transaction that is cut behind each of its steps.
 use crate::{
+    count::Count,
     failure::Failure,
     operation::Operation,
     progress::Progress,
@@ -13,6 +14,8 @@ pub struct Cuts {
     pub cuts: Vec<Cut>,
     /// Why the commit itself is refused; its steps then end with the rollback.
     pub refusal: Option<Refusal>,
+    /// How the number of steps comes about, where a rule says it.
+    pub count: Option<Count>,
 }
 
 pub struct Cut {
@@ -102,7 +105,8 @@ pub fn cuts(transaction: &Image) -> Result<Cuts, Failure> {
         let scene = Scene { before: &before, cut: image.contents() };
         Cut { step: done.map(|stepped| stepped.step.clone()), outcome: outcome(&scene, image, &earlier, &later) }
     };
-    Ok(Cuts { cuts: (0..=steps.len()).map(&mut cut).collect(), refusal })
+    let count = Count::of(&before).filter(|_| refusal.is_none());
+    Ok(Cuts { cuts: (0..=steps.len()).map(&mut cut).collect(), refusal, count })
 }
 
 fn outcome(scene: &Scene, cut: &Image, earlier: &Paths, later: &Paths) -> Outcome {

@@ -57,6 +57,8 @@ const TOPICS: [Topic; 10] = [
 OPERATION is a command from put to apply, without DIR: cda-store cuts store put db/a new.bin. It is taken upon what
 recovery would make of DIR. Without it, the update is the one that was recorded in DIR and not committed, or that an image file holds
 (document 01, 'How a store is handed over').
+For puts alone a line gives the number of steps as a sum, where no key is put twice, the collections stand, no name ends in .bak or .tmp, and
+the commit is not refused.
   --svg FILE       Draws a picture too.",
     },
 ];

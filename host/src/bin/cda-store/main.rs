@@ -1,5 +1,6 @@
 //! `cda-store`: a store on a directory from the command line.
 mod arguments;
+mod count;
 mod cuts;
 mod failure;
 mod help;

@@ -1,5 +1,6 @@
 //! The cuts as text.
 use crate::{
+    count::Count,
     cuts::{Change, Cuts, Outcome, Remark},
     why::Why,
 };
@@ -53,13 +54,14 @@ pub fn summary(cuts: &Cuts) -> String {
     format!("{} cuts: {}.", cuts.cuts.len(), counts.join(", "))
 }
 
-/// A note for each word that needs one.
+/// The number of steps, where a rule says it, and a note for each word that needs one.
 pub fn notes(cuts: &Cuts) -> Vec<String> {
+    let count = cuts.count.map(|count| format!("{} steps = {count}: {}.", cuts.cuts.len() - 1, Count::LEGEND));
     let always = "earlier: exactly the files from before. later: exactly the files that the commit makes. A cut ends the process between two steps; \
                   what was written stays.";
     let reasons = reasons(cuts).into_iter().map(|why| format!("{}: {}", why.words(), why.sentence()));
     let refused = cuts.refusal.map(|refusal| format!("This commit is refused, and its last steps roll it back: {refusal}."));
-    std::iter::once(always.to_string()).chain(reasons).chain(refused).collect()
+    count.into_iter().chain([always.to_string()]).chain(reasons).chain(refused).collect()
 }
 
 /// The reasons that the cuts show.

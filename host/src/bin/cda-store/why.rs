@@ -56,17 +56,13 @@ impl Scene<'_> {
         match change {
             _ if [directory, file].into_iter().any(|name| has_extension(name, ".bak")) => Why::BackupName,
             Change::Lost if has_extension(file, ".tmp") => Why::StagingName,
-            Change::Lost if has(&self.cut, directory, file) && !has(&self.cut, directory, &backup) => Why::Unmarked,
+            Change::Lost if self.cut.has(directory, file) && !self.cut.has(directory, &backup) => Why::Unmarked,
             _ if self.before.staging.values().any(|staged| Some(staged) == found) => Why::Written,
             Change::Kept if !self.before.directories.contains_key(directory) => Why::Made,
-            Change::Changed if has(self.before, directory, &backup) => Why::BackupName,
+            Change::Changed if self.before.has(directory, &backup) => Why::BackupName,
             _ => Why::Unknown,
         }
     }
-}
-
-fn has(contents: &Contents, directory: &str, file: &str) -> bool {
-    contents.directories.get(directory).is_some_and(|files| files.contains_key(file))
 }
 
 fn has_extension(name: &str, extension: &str) -> bool {

@@ -46,7 +46,7 @@ static void file(int tag, int k, size_t n) {
     name(k, n);
 }
 
-// 16 directories, 128 files, 32 staging files, 6,824 log bytes, names of n bytes.
+// 16 directories, 128 files, 32 staging files, 6,952 log bytes, names of n bytes.
 static void full(size_t n) {
     len = 0;
     for (int d = 0; d < 16; d++) {
@@ -55,9 +55,9 @@ static void full(size_t n) {
         for (int f = 0; f < 8; f++) file(0x11, f, n);
     }
     for (int s = 0; s < 32; s++) file(0x12, s, n);
-    field(0x13, 6824);
-    memset(image + len, 0x5a, 6824);
-    len += 6824;
+    field(0x13, 6952);
+    memset(image + len, 0x5a, 6952);
+    len += 6952;
     field(0x14, 0);
 }
 

@@ -157,6 +157,7 @@ impl Turns<'_> {
         answers.into_iter().skip(1).filter_map(|answer| answer.step).collect()
     }
 
+    /// A call of the host's, or one that records no Write.
     fn told(&mut self, call: &Call, accepted: bool) {
         self.held(call, accepted, |image| image);
     }

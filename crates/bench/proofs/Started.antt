@@ -5,24 +5,24 @@ use native.Mathlib.Omega.{arith}
 use mathlib.Core.List.{_∷_}
 use mathlib.Core.Bool.{true}
 use lib.ListN.{length, length-append}
-use Rattle.model.specs.Name.{backupExtension, backupName}
+use Rattle.basics.specs.Name.{backupExtension, backupName}
 use Rattle.spans.specs.Spans.{nameOf, lengthOf, Sound, Names, Backup}
 use Rattle.spans.specs.declared.NameRef.{NameRef}
 use Rattle.spans.specs.declared.BackupName.{BackupName}
 use Rattle.spans.specs.declared.BackupName.the-variants.{Is}
 use Rattle.spans.proofs.Parts.{length-name}
-use Rattle.model.specs.Limits.{imageRoom}
-use Rattle.model.specs.Base.{Bytes}
+use Rattle.basics.specs.Limits.{imageRoom}
+use Rattle.basics.specs.Base.{Bytes}
 use Rattle.model.specs.Store.{dirs, fileCount}
 use Rattle.model.specs.Image.{encode}
 use Rattle.store.specs.Words.{Words}
 use Rattle.store.specs.Tables.{tableOf, mapOf}
 use Rattle.store.specs.Stores.{storeIn, storeOf}
-use Rattle.laws.specs.Tests.{leb-le}
+use Rattle.basic_laws.specs.Tests.{leb-le}
 use Rattle.laws.specs.ImageLaws.{parts, decode-only}
-use Rattle.laws.specs.ValidNames.{validNaming}
+use Rattle.basic_laws.specs.ValidNames.{validNaming}
 use Rattle.laws.specs.LengthLaws.{encode-length}
-use Rattle.laws.specs.EntryLaws.{lent-good}
+use Rattle.answer_laws.specs.EntryLaws.{lent-good}
 use Rattle.decode.specs.Decoding.{Decodes}
 use Rattle.decode.specs.declared.Decoded.{Decoded}
 use Rattle.steps.specs.Steps.{SoundStep, Fits, FileName}

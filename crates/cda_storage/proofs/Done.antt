@@ -9,23 +9,23 @@ use native.Mathlib.Omega.{arith}
 use lib.ListN.{length}
 use lib.Dec.{leb, eqb}
 use borrow.Author.Tests.{leb-true, eqb-true, eq-eqb, ne-eqb}
-use Rattle.model.specs.Limits.{imageRoom, stepRoom, keysRoom}
-use Rattle.model.specs.Order.{Name}
-use Rattle.model.specs.Base.{Bytes, if_then_else_, caseOption, isSome}
-use Rattle.model.specs.Name.{validName}
+use Rattle.basics.specs.Limits.{imageRoom, stepRoom, keysRoom}
+use Rattle.basics.specs.Order.{Name}
+use Rattle.basics.specs.Base.{Bytes, if_then_else_, caseOption, isSome}
+use Rattle.basics.specs.Name.{validName}
 use Rattle.model.specs.Operation.{Op}
 use Rattle.model.specs.Log.{journal}
 use Rattle.model.specs.Store as model
 use Rattle.model.specs.Store.{hasPendingWork}
 use Rattle.model.specs.Image.{encode, decode}
 use Rattle.model.specs.Step as step
-use Rattle.model.specs.Step.{stepField, Fault, fails, full}
+use Rattle.model.specs.Step.{stepField, Fault, fails, full, commitNumber, fieldAt}
 use Rattle.model.specs.Plan.{commitFault, commitPlan, committedAt, recoverFault, recoverPlan, recovered, recoveredAt, withoutMark}
 use Rattle.model.specs.Record.{transaction, keyList}
-use Rattle.model.specs.Answers.{Answer, refusal, answer, onImage, commitNumber, commitStore, commit, recoverStore, recover, fieldAt, stepAnswer, commitStep, recoverStep, pending, listKeys}
-use Rattle.laws.specs.EntryLaws.{on-recover}
-use Rattle.laws.specs.Bounds.{commit-bounded, recover-bounded, commit-step-bounded, recover-step-bounded, list-keys-length}
-use Rattle.laws.specs.Tests.{and-both}
+use Rattle.answers.specs.Answers.{Answer, refusal, answer, onImage, commitStore, commit, recoverStore, recover, stepAnswer, commitStep, recoverStep, pending, listKeys}
+use Rattle.answer_laws.specs.EntryLaws.{on-recover}
+use Rattle.answer_laws.specs.Bounds.{commit-bounded, recover-bounded, commit-step-bounded, recover-step-bounded, list-keys-length}
+use Rattle.basic_laws.specs.Tests.{and-both}
 use Rattle.store.specs.Words.{Words}
 use Rattle.store.specs.Tables.{mapOf}
 use Rattle.store.specs.Stores.{LentStore, storeIn, storeOf, SoundStore}

@@ -6,15 +6,15 @@ use Prim.Native.Nat.{ℕ, _+_, _≤_}
 use native.Mathlib.Omega.{arith}
 use lib.ListN.{length, take, drop, take-append-drop}
 use lib.Seq.{take-at, take-take}
-use Rattle.model.specs.Limits.{nameLimit}
-use Rattle.model.specs.Order.{Name}
-use Rattle.model.specs.Base.{Bytes}
-use Rattle.model.specs.Name.{validName, lower}
+use Rattle.basics.specs.Limits.{nameLimit}
+use Rattle.basics.specs.Order.{Name}
+use Rattle.basics.specs.Base.{Bytes}
+use Rattle.basics.specs.Name.{validName, lower}
 use Rattle.model.specs.Store as model
 use Rattle.model.specs.Record.{Outcome}
-use Rattle.laws.specs.ValidNames.{Valid}
+use Rattle.basic_laws.specs.ValidNames.{Valid}
 use Rattle.laws.specs.StoreLaws.{Good}
-use Rattle.laws.specs.Tests.{and-both}
+use Rattle.basic_laws.specs.Tests.{and-both}
 use Rattle.field.specs.Writing.{written}
 use Rattle.field.proofs.Written.{written-front, length-written}
 use Rattle.spans.specs.Spans.{Names}

@@ -4,12 +4,12 @@ use mathlib.Core.Bool.{true}
 use Prim.Native.Nat.{ℕ, _≤_}
 use lib.ListN.{length}
 use lib.Dec.{leb}
-use Rattle.model.specs.Limits.{keysRoom}
-use Rattle.model.specs.Order.{Name}
-use Rattle.model.specs.Base.{Bytes}
+use Rattle.basics.specs.Limits.{keysRoom}
+use Rattle.basics.specs.Order.{Name}
+use Rattle.basics.specs.Base.{Bytes}
 use Rattle.model.specs.Store as model
 use Rattle.model.specs.Record.{keyList}
-use Rattle.model.specs.Answers.{listKeys}
+use Rattle.answers.specs.Answers.{listKeys}
 use Rattle.field.specs.Writing as field
 use Rattle.field.proofs.Written.{written-front}
 use Rattle.spans.specs.Spans.{nameOf, Sound}

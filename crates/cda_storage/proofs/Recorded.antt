@@ -8,14 +8,14 @@ use lib.ListN.{length, take, drop, length-append, take-append-drop}
 use lib.Seq.{take-take}
 use lib.Dec.{leb}
 use borrow.Author.Tests.{leb-true}
-use Rattle.model.specs.Limits.{imageRoom}
-use Rattle.model.specs.Base.{Bytes}
-use Rattle.model.specs.Map.{Map}
+use Rattle.basics.specs.Limits.{imageRoom}
+use Rattle.basics.specs.Base.{Bytes}
+use Rattle.basics.specs.Map.{Map}
 use Rattle.model.specs.Store as model
 use Rattle.model.specs.Record.{Outcome, give}
-use Rattle.model.specs.Answers.{Answer, outcome, imageEntry}
-use Rattle.laws.specs.Tests.{All, all-in}
-use Rattle.laws.specs.Bounds.{Bounded}
+use Rattle.answers.specs.Answers.{Answer, outcome, imageEntry}
+use Rattle.basic_laws.specs.Tests.{All, all-in}
+use Rattle.answer_laws.specs.Bounds.{Bounded}
 use Rattle.store.specs.Words.{Words}
 use Rattle.store.specs.Tables.{tableOf, mapOf}
 use Rattle.store.specs.Kept.{Kept}

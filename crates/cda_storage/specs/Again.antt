@@ -5,13 +5,13 @@ use mathlib.Core.List.{List, [], _∷_}
 use mathlib.Core.Logic.{_⊎_, inl, inr}
 use Prim.Native.Nat.{ℕ}
 use native.Mathlib.Omega.{arith}
-use Rattle.model.specs.Limits.{imageRoom, stepRoom}
-use Rattle.model.specs.Map.{Map}
-use Rattle.model.specs.Base.{Bytes}
-use Rattle.model.specs.Field.{hasTag}
+use Rattle.basics.specs.Limits.{imageRoom, stepRoom}
+use Rattle.basics.specs.Map.{Map}
+use Rattle.basics.specs.Base.{Bytes}
+use Rattle.basics.specs.Field.{hasTag}
 use Rattle.model.specs.Operation.{Write}
 use Rattle.model.specs.Store.{Store}
-use Rattle.model.specs.Answers.{Answer, answer, recover, recoverStep}
+use Rattle.answers.specs.Answers.{Answer, answer, recover, recoverStep}
 use Rattle.cut_rule.specs.Demand.{TrulyMarked, Either, cutAt, cutRecoveries, InPlans, expectedFiles, settled}
 use Rattle.cut_rule.specs.Theorem.{marked-rule, failing-rule}
 use Rattle.cut_rule.specs.Again.{again-rule, either, done-not-4}

@@ -9,11 +9,11 @@ use native.Mathlib.Omega.{arith}
 use lib.ListN.{length, take, drop}
 use lib.Seq.{take-append-seam}
 use lib.Dec.{leb}
-use Rattle.model.specs.Limits.{imageRoom, stepRoom}
-use Rattle.model.specs.Base.{Bytes, caseOption}
+use Rattle.basics.specs.Limits.{imageRoom, stepRoom}
+use Rattle.basics.specs.Base.{Bytes, caseOption}
 use Rattle.model.specs.Store.{Store}
 use Rattle.model.specs.Image.{decode}
-use Rattle.model.specs.Answers.{Answer, refusal, onImage, commit, commitStep, recover, recoverStep}
+use Rattle.answers.specs.Answers.{Answer, refusal, onImage, commit, commitStep, recover, recoverStep}
 use Rattle.handover.specs.Contract.{handsBack, Gives, StepGives}
 
 -- A call that answers n, of an entry with one output: its answer by the output's length.

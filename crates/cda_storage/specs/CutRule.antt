@@ -8,16 +8,16 @@ use mathlib.Core.Logic.{_⊎_, inl, inr}
 use Prim.Native.Nat.{ℕ, _≤_}
 use native.Mathlib.Omega.{arith}
 use lib.ListN.{length}
-use Rattle.model.specs.Order.{Name}
-use Rattle.model.specs.Map.{Map, Has}
-use Rattle.model.specs.Base.{Bytes, In}
-use Rattle.model.specs.Field.{hasTag}
+use Rattle.basics.specs.Order.{Name}
+use Rattle.basics.specs.Map.{Map, Has}
+use Rattle.basics.specs.Base.{Bytes, In}
+use Rattle.basics.specs.Field.{hasTag}
 use Rattle.model.specs.Operation.{Write, write, target}
 use Rattle.model.specs.Log.{journal, opsOf}
 use Rattle.model.specs.Store.{Store}
 use Rattle.model.specs.Image.{encode, decode}
 use Rattle.model.specs.Step.{stepField}
-use Rattle.model.specs.Answers.{Answer, answer, recover}
+use Rattle.answers.specs.Answers.{Answer, answer, recover}
 use Rattle.cut_rule.specs.Demand.{NoExtension, Distinct, Meets, Renamed, NoneWaits, TrueMarks, Unmarked, TrulyMarked, backupRename, cutAt, expectedFiles, settled}
 use Rattle.cut_rule.specs.Theorem.{cut-rule, demand-3, marked-rule, failing-commit, failing-rule}
 use Rattle.handover.specs.Contract.{handsBack}

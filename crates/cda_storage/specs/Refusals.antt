@@ -7,16 +7,16 @@ use mathlib.Core.Option.{Option, none, some}
 use mathlib.Core.Logic.{inl, inr}
 use Prim.Native.Nat.{ℕ}
 use lib.Dec.{leb}
-use Rattle.model.specs.Limits.{imageRoom}
-use Rattle.model.specs.Order.{Name}
-use Rattle.model.specs.Base.{Bytes, caseOption, if_then_else_, In}
+use Rattle.basics.specs.Limits.{imageRoom}
+use Rattle.basics.specs.Order.{Name}
+use Rattle.basics.specs.Base.{Bytes, caseOption, if_then_else_, In}
 use Rattle.model.specs.Store.{Store, hasPendingWork}
 use Rattle.model.specs.Image.{decode}
-use Rattle.model.specs.Step.{Fault, fails, full}
+use Rattle.model.specs.Step.{Fault, fails, full, commitNumber}
 use Rattle.model.specs.Plan.{commitFault}
 use Rattle.model.specs.Record.{Outcome, refuse, give, beginTransaction, discard, recordWrite, recordDelete, recordDeleteAll, recordCreate, recordDeleteCollection, recordCopy}
-use Rattle.model.specs.Answers.{Answer, Pending, refusal, answer, outcome, onImage, imageEntry, commitNumber, begin, write, delete, deleteAll, createCollection, deleteCollection, copyCollection, rollback, commit, commitStep, recover, recoverStep, pending, listKeys}
-use Rattle.laws.specs.EntryLaws.{on-commit, on-recover, on-commit-step, on-recover-step, on-list-keys}
+use Rattle.answers.specs.Answers.{Answer, Pending, refusal, answer, outcome, onImage, imageEntry, begin, write, delete, deleteAll, createCollection, deleteCollection, copyCollection, rollback, commit, commitStep, recover, recoverStep, pending, listKeys}
+use Rattle.answer_laws.specs.EntryLaws.{on-commit, on-recover, on-commit-step, on-recover-step, on-list-keys}
 use Rattle.handover.specs.Contract.{handsBack, Gives, StepGives}
 use Rattle.handover.specs.Numbers.{Numbered, begin-numbers, rollback-numbers, write-numbers, delete-numbers, delete-all-numbers, create-numbers, delete-collection-numbers, copy-numbers}
 

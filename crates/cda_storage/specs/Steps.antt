@@ -4,11 +4,11 @@ use mathlib.Core.Path.{_≡_, sym, ap, _∙_}
 use mathlib.Core.List.{List}
 use Prim.Native.Nat.{ℕ}
 use lib.Dec.{leb}
-use Rattle.model.specs.Order.{Name}
-use Rattle.model.specs.Base.{Bytes, if_then_else_}
+use Rattle.basics.specs.Order.{Name}
+use Rattle.basics.specs.Base.{Bytes, if_then_else_}
 use Rattle.model.specs.Operation.{Write}
 use Rattle.model.specs.Store.{Store}
-use Rattle.model.specs.Answers.{Answer}
+use Rattle.answers.specs.Answers.{Answer}
 use Rattle.cut_rule.specs.Demand.{TrueMarks, ListedOnce, stepCount}
 use Rattle.cut_rule.specs.Count.{step-count-at}
 use Rattle.cda_storage.specs.Calls.{CommitStepCall, step-roomy}

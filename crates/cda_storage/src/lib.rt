@@ -3,9 +3,9 @@
 ghost use mathlib.Core.Path.{_≡_};
 ghost use mathlib.Core.Bool.{_&&_};
 ghost use lib.ListN.{length};
-ghost use Rattle.model.specs.Base.{if_then_else_};
-ghost use Rattle.model.specs.Answers as answers;
-ghost use Rattle.model.specs.Answers.{begin, write, delete, deleteAll, createCollection, deleteCollection, copyCollection, rollback, commit, commitStep, recover, recoverStep, listKeys};
+ghost use Rattle.basics.specs.Base.{if_then_else_};
+ghost use Rattle.answers.specs.Answers as answers;
+ghost use Rattle.answers.specs.Answers.{begin, write, delete, deleteAll, createCollection, deleteCollection, copyCollection, rollback, commit, commitStep, recover, recoverStep, listKeys};
 ghost use Rattle.handover.specs.Contract.{Gives, StepGives, PendingGives};
 
 mod recording;

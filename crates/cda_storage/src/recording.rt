@@ -3,8 +3,8 @@
 ghost use mathlib.Core.Path.{_≡_};
 ghost use lib.ListN.{length};
 ghost use lib.Dec.{leb};
-ghost use Rattle.model.specs.Limits.{imageRoom, keysRoom};
-ghost use Rattle.model.specs.Answers.{write, delete, deleteAll, createCollection, deleteCollection, copyCollection, listKeys};
+ghost use Rattle.basics.specs.Limits.{imageRoom, keysRoom};
+ghost use Rattle.answers.specs.Answers.{write, delete, deleteAll, createCollection, deleteCollection, copyCollection, listKeys};
 ghost use Rattle.handover.specs.Contract.{Gives};
 ghost use Rattle.handover.specs.Opening.{Opens};
 ghost use Rattle.cda_storage.specs.Buffers.{Roomy};

@@ -3,14 +3,13 @@ use mathlib.Core.Path.{_≡_, sym, ap, subst, _∙_}
 use mathlib.Core.List.{List}
 use mathlib.Core.Bool.{Bool, false}
 use Prim.Native.Nat.{ℕ}
-use Rattle.model.specs.Base.{Bytes}
+use Rattle.basics.specs.Base.{Bytes}
 use Rattle.model.specs.Operation.{Op}
 use Rattle.model.specs.Log.{journal, opsOf}
 use Rattle.model.specs.Store as model
-use Rattle.model.specs.Step.{apply}
+use Rattle.model.specs.Step.{apply, commitNumber}
 use Rattle.model.specs.Plan.{operationSteps, commitFault, commitPlan}
-use Rattle.model.specs.Answers.{commitNumber}
-use Rattle.laws.specs.Tests.{All}
+use Rattle.basic_laws.specs.Tests.{All}
 use Rattle.laws.specs.OperationLaws.{ValidOp, journal-valid}
 use Rattle.store.specs.Stores.{LentStore, logBytes, storeOf}
 use Rattle.plans.specs.RunLaws.{refusal-kept}

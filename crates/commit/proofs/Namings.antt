@@ -7,8 +7,8 @@ use native.Mathlib.Numerals.{add-one}
 use native.Mathlib.Omega.{arith}
 use lib.ListN.{length, take, drop, getD, length-map, List·getD-map, drop-of-length-le}
 use lib.Seq.{drop-cons, take-suc}
-use Rattle.model.specs.Order.{Name}
-use Rattle.model.specs.Base.{Bytes, isIn, sameBytes}
+use Rattle.basics.specs.Order.{Name}
+use Rattle.basics.specs.Base.{Bytes, isIn, sameBytes}
 use Rattle.model.specs.Step.{apply}
 use Rattle.model.specs.Plan.{inTurn, collectionOf, firstNamings, syncExisting}
 use Rattle.plans.specs.Machine.{seqOver, Going}

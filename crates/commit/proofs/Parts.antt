@@ -2,9 +2,9 @@
 use mathlib.Core.Path.{_≡_, refl, sym}
 use mathlib.Core.List.{List, [], _∷_}
 use mathlib.Core.Bool.{true, false}
-use Rattle.model.specs.Order.{Name}
-use Rattle.model.specs.Map.{look}
-use Rattle.model.specs.Base.{Bytes, isSome}
+use Rattle.basics.specs.Order.{Name}
+use Rattle.basics.specs.Map.{look}
+use Rattle.basics.specs.Base.{Bytes, isSome}
 use Rattle.model.specs.Store.{Store}
 use Rattle.model.specs.Step.{Step, syncDirectory}
 use Rattle.model.specs.Plan.{syncExisting}

@@ -2,10 +2,9 @@
 use mathlib.Core.Path.{_≡_}
 use mathlib.Core.Bool.{Bool, true, false}
 use Prim.Native.Nat.{ℕ}
-use Rattle.model.specs.Base.{Bytes}
-use Rattle.model.specs.Step.{apply}
+use Rattle.basics.specs.Base.{Bytes}
+use Rattle.model.specs.Step.{apply, commitNumber}
 use Rattle.model.specs.Plan.{commitFault, commitPlan}
-use Rattle.model.specs.Answers.{commitNumber}
 use Rattle.store.specs.Stores.{LentStore, storeOf}
 use Rattle.plans.specs.Budget.{Cut, Whole}
 use Rattle.steps.specs.CodeRuns.{LentRun, runOf, SoundRun}

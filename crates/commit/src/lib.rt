@@ -5,7 +5,7 @@ ghost use mathlib.Core.Path.{_≡_};
 ghost use mathlib.Core.List.{[], _∷_, map, reverse};
 ghost use Prim.Native.Nat.{_≤_};
 ghost use lib.ListN.{take};
-ghost use Rattle.model.specs.Base.{Bytes, isIn};
+ghost use Rattle.basics.specs.Base.{Bytes, isIn};
 ghost use Rattle.model.specs.Log.{journal, opsOf};
 ghost use Rattle.model.specs.Step.{removeLog, syncJournal};
 ghost use Rattle.model.specs.Plan.{inTurn, collectionOf, firstNamings, syncExisting};

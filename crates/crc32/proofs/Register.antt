@@ -6,11 +6,11 @@ use native.Mathlib.Numerals.{add-one}
 use lib.ListN.{length, drop, getD, drop-of-length-le}
 use lib.Seq.{drop-cons}
 use lib.Bits.{bitXor}
-use Rattle.model.specs.Base.{Bytes}
-use Rattle.model.specs.Crc32.{shift, shifts, feedByte, register, crc32, ieeeCrc32}
-use Rattle.laws.specs.Tests.{all-at}
-use Rattle.laws.specs.FieldLaws.{Byte}
-use Rattle.laws.specs.Crc32Laws.{crc32-ieee}
+use Rattle.basics.specs.Base.{Bytes}
+use Rattle.basics.specs.Crc32.{shift, shifts, feedByte, register, crc32, ieeeCrc32}
+use Rattle.basic_laws.specs.Tests.{all-at}
+use Rattle.basic_laws.specs.FieldLaws.{Byte}
+use Rattle.basic_laws.specs.Crc32Laws.{crc32-ieee}
 
 -- Of eight shifts n are made.
 pub record Shifting (c b n r : ℕ) : Type 0 where

@@ -1,7 +1,7 @@
 // CRC-32 of lent bytes, bit by bit. 01, How a store is handed over: "The CRC is reflected, polynomial 0xEDB88320, start and final
 // exclusive-or all ones." It is wal.rs's checksum (`compute_checksum`); that it is IEEE 802.3's is a law of crate laws.
 ghost use mathlib.Core.Path.{_≡_};
-ghost use Rattle.model.specs.Crc32.{shift, feedByte, crc32, ieeeCrc32};
+ghost use Rattle.basics.specs.Crc32.{shift, feedByte, crc32, ieeeCrc32};
 
 const POLYNOMIAL: u32 = 0xEDB8_8320;
 

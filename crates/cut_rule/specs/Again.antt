@@ -8,20 +8,20 @@ use mathlib.Core.Bool.{Bool}
 use mathlib.Core.Logic.{inr}
 use lib.ListN.{length}
 use lib.Dec.{leb}
-use Rattle.model.specs.Limits.{imageRoom, stepRoom}
-use Rattle.model.specs.Map.{Map}
-use Rattle.model.specs.Base.{Bytes, isSome}
+use Rattle.basics.specs.Limits.{imageRoom, stepRoom}
+use Rattle.basics.specs.Map.{Map}
+use Rattle.basics.specs.Base.{Bytes, isSome}
 use Rattle.model.specs.Operation.{Op, Write, write}
 use Rattle.model.specs.Log.{journal}
 use Rattle.model.specs.Store.{Store}
 use Rattle.model.specs.Image.{encode}
 use Rattle.model.specs.Step.{Fault}
 use Rattle.model.specs.Plan.{commitFault, committedAt, recoverPlan, recoveredAt, withoutMark}
-use Rattle.model.specs.Answers.{Answer, stepAnswer, recover, recoverStep}
-use Rattle.laws.specs.MapLaws.{none≢some}
+use Rattle.answers.specs.Answers.{Answer, stepAnswer, recover, recoverStep}
+use Rattle.basic_laws.specs.MapLaws.{none≢some}
 use Rattle.laws.specs.ImageLaws.{decode-encode}
 use Rattle.laws.specs.StoreLaws.{Good, well-formed}
-use Rattle.laws.specs.ValidNames.{Valid, DotBakBak}
+use Rattle.basic_laws.specs.ValidNames.{Valid, DotBakBak}
 use Rattle.laws.specs.WellFormed.{NoneNamed, recover-keeps-valid, recover-keeps-named}
 use Rattle.cut_rule.specs.Demand.{Meets, Either, cutAt, cutRecoveries, InPlans, AgainRule}
 use Rattle.cut_rule.specs.Kinds.{Marked, KindsAgain}

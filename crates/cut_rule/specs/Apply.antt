@@ -5,17 +5,17 @@ use mathlib.Core.List.{List, [], _∷_, _++_, map, reverse}
 use mathlib.Core.Option.{Option, none, some}
 use mathlib.Core.Bool.{Bool}
 use mathlib.Core.Logic.{_⊎_, inl, inr}
-use Rattle.model.specs.Order.{Name, Key}
-use Rattle.model.specs.Map.{Map, look, put, del, Has}
-use Rattle.model.specs.Base.{In, caseOption, ifPresent, ifMissing}
-use Rattle.model.specs.Name.{backupName, originalName}
+use Rattle.basics.specs.Order.{Name, Key}
+use Rattle.basics.specs.Map.{Map, look, put, del, Has}
+use Rattle.basics.specs.Base.{In, caseOption, ifPresent, ifMissing}
+use Rattle.basics.specs.Name.{backupName, originalName}
 use Rattle.model.specs.Operation.{Op, Write, write, delete, deleteAll, createCollection, deleteCollection, copyCollection, target, backup}
 use Rattle.model.specs.Log.{committing, journal, whole}
 use Rattle.model.specs.Store.{Store, files}
 use Rattle.model.specs.Step.{Step, makeDirectory, renameFile, moveStaged, renameDirectory, copyFile, apply, applyAll, Fault, fails, newFile, stepFault}
 use Rattle.model.specs.Plan.{inTurn, opSteps, firstFault}
-use Rattle.laws.specs.MapLaws.{key-dec, none≢some, some-inj, look-put-same, look-put-other, look-del-other, sorted-put, sorted-del}
-use Rattle.laws.specs.NameLaws.{original-backup, original-some, original-nil}
+use Rattle.basic_laws.specs.MapLaws.{key-dec, none≢some, some-inj, look-put-same, look-put-other, look-del-other, sorted-put, sorted-del}
+use Rattle.basic_laws.specs.NameLaws.{original-backup, original-some, original-nil}
 use Rattle.laws.specs.StoreLaws.{look-move-other, sorted-move}
 use Rattle.laws.specs.Listings.{any-map, any-reverse, files-in, files-named, files-once, Once}
 use Rattle.laws.specs.Runs.{applyAll-append, fault-head, fault-append}

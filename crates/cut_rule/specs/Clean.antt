@@ -4,15 +4,15 @@ use Prim.Native.Nat.{ℕ}
 use mathlib.Core.List.{List, [], _∷_}
 use mathlib.Core.Option.{Option, none, some}
 use mathlib.Core.Logic.{_⊎_, inl, inr}
-use Rattle.model.specs.Order.{Name, Key}
-use Rattle.model.specs.Map.{Map, look, Has}
-use Rattle.model.specs.Base.{Bytes, In, caseOption, ifPresent}
-use Rattle.model.specs.Name.{originalName}
+use Rattle.basics.specs.Order.{Name, Key}
+use Rattle.basics.specs.Map.{Map, look, Has}
+use Rattle.basics.specs.Base.{Bytes, In, caseOption, ifPresent}
+use Rattle.basics.specs.Name.{originalName}
 use Rattle.model.specs.Store.{Store, dirs, files}
 use Rattle.model.specs.Step.{removeFile, removeDirectory, removeDir, apply, applyAll}
 use Rattle.model.specs.Plan.{inTurn, removeBackupFile, removeBackupsIn, removeBackups}
-use Rattle.laws.specs.MapLaws.{Sorted, none≢some, ext, look-del-same, look-del-other, sorted-del}
-use Rattle.laws.specs.NameLaws.{original-nil}
+use Rattle.basic_laws.specs.MapLaws.{Sorted, none≢some, ext, look-del-same, look-del-other, sorted-del}
+use Rattle.basic_laws.specs.NameLaws.{original-nil}
 use Rattle.laws.specs.StoreLaws.{name-dec, look-drop-other, look-drop-same, sorted-drop}
 use Rattle.laws.specs.Listings.{dirs-has, files-has}
 use Rattle.cut_rule.specs.StoreRule.{Within, OldTree}

@@ -8,10 +8,10 @@ use mathlib.Core.Bool.{Bool, true, false}
 use mathlib.Core.Logic.{_⊎_, inl, inr}
 use lib.ListN.{length, take}
 use lib.Seq.{take-length}
-use Rattle.model.specs.Order.{Name}
-use Rattle.model.specs.Map.{Map, look}
-use Rattle.model.specs.Base.{Bytes, isSome, if_then_else_, ifPresent}
-use Rattle.model.specs.Name.{originalName}
+use Rattle.basics.specs.Order.{Name}
+use Rattle.basics.specs.Map.{Map, look}
+use Rattle.basics.specs.Base.{Bytes, isSome, if_then_else_, ifPresent}
+use Rattle.basics.specs.Name.{originalName}
 use Rattle.model.specs.Operation.{Op, write, delete, deleteAll, createCollection, deleteCollection, copyCollection}
 use Rattle.model.specs.Log.{whole, opsOf}
 use Rattle.model.specs.Store.{Store, stagingNames}

@@ -8,23 +8,23 @@ use mathlib.Core.Bool.{Bool, true, false, not, _||_, false≢true}
 use mathlib.Core.Logic.{_⊎_, inl, inr}
 use lib.ListN.{length, length-append, length-map}
 use lib.Dec.{leb}
-use Rattle.model.specs.Order.{Cmp, lt, eq, gt, Name, Key, cmpKey, caseCmp}
-use Rattle.model.specs.Map.{Map, look, put, del, Has}
-use Rattle.model.specs.Name.{backupName, originalName, isBackup}
-use Rattle.model.specs.Base.{Any, In, if_then_else_, isSome, ifPresent, ifMissing, isIn, sameBytes}
+use Rattle.basics.specs.Order.{Cmp, lt, eq, gt, Name, Key, cmpKey, caseCmp}
+use Rattle.basics.specs.Map.{Map, look, put, del, Has}
+use Rattle.basics.specs.Name.{backupName, originalName, isBackup}
+use Rattle.basics.specs.Base.{Any, In, if_then_else_, isSome, ifPresent, ifMissing, isIn, sameBytes}
 use Rattle.model.specs.Operation.{Write, target, backup, write}
 use Rattle.model.specs.Store.{Store, stagingKey, stagingNames, dirs, files}
 use Rattle.model.specs.Image.{encode}
-use Rattle.model.specs.Step.{Step, rewriteHeader, makeDirectory, renameFile, moveStaged, removeFile, removeStaging, apply, applyAll}
+use Rattle.model.specs.Step.{Step, rewriteHeader, makeDirectory, renameFile, moveStaged, removeFile, removeStaging, apply, applyAll, fieldAt}
 use Rattle.model.specs.Plan.{inTurn, run, opSteps, removeBackupFile, removeBackupsIn, removeBackups, removeStagingFiles, syncExisting, firstNamings}
 use Rattle.model.specs.Plan.{collectionOf, firstFault, commitFault, commitParts, commitPlan, committedAt}
-use Rattle.model.specs.Answers.{Answer, refusal, fieldAt}
-use Rattle.laws.specs.OrderLaws.{keyLaws, lt≢eq, gt≢eq}
-use Rattle.laws.specs.MapLaws.{Sorted, none≢some, some-inj, look-put-other, look-del-other, sorted-del, look-all}
-use Rattle.laws.specs.Tests.{same-eq, same-refl, in-of, of-in}
+use Rattle.answers.specs.Answers.{Answer, refusal}
+use Rattle.basic_laws.specs.OrderLaws.{keyLaws, lt≢eq, gt≢eq}
+use Rattle.basic_laws.specs.MapLaws.{Sorted, none≢some, some-inj, look-put-other, look-del-other, sorted-del, look-all}
+use Rattle.basic_laws.specs.Tests.{same-eq, same-refl, in-of, of-in}
 use Rattle.laws.specs.TreeLaws.{size, size-put-light, size-put-new, size-del-light, size-del-exact, size-zero}
 use Rattle.laws.specs.StoreLaws.{Bare, bare-del}
-use Rattle.laws.specs.NameLaws.{original-backup, original-nil}
+use Rattle.basic_laws.specs.NameLaws.{original-backup, original-nil}
 use Rattle.laws.specs.Listings.{any-of-map, any-to-map, dirs-in, files-in, files-once, Once, dels}
 use Rattle.laws.specs.Runs.{applyAll-append, fault-head, fault-append}
 use Rattle.cut_rule.specs.Demand.{Distinct, count, unnamed, existedIn, ListedOnce, stepCount, StepCount, StepCountAt}

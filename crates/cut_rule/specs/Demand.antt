@@ -8,19 +8,19 @@ use mathlib.Core.Bool.{Bool, false, not}
 use mathlib.Core.Logic.{_⊎_, _↔_}
 use lib.ListN.{length}
 use lib.Dec.{leb}
-use Rattle.model.specs.Limits.{imageRoom, stepRoom}
-use Rattle.model.specs.Order.{Name}
-use Rattle.model.specs.Map.{Map, look, put, Has}
-use Rattle.model.specs.Base.{Bytes, caseOption, if_then_else_, isSome, isIn, Any, In}
-use Rattle.model.specs.Name.{backupExtension, stagingExtension, backupName}
-use Rattle.model.specs.Field.{hasTag}
+use Rattle.basics.specs.Limits.{imageRoom, stepRoom}
+use Rattle.basics.specs.Order.{Name}
+use Rattle.basics.specs.Map.{Map, look, put, Has}
+use Rattle.basics.specs.Base.{Bytes, caseOption, if_then_else_, isSome, isIn, Any, In}
+use Rattle.basics.specs.Name.{backupExtension, stagingExtension, backupName}
+use Rattle.basics.specs.Field.{hasTag}
 use Rattle.model.specs.Operation.{Write, write, target}
 use Rattle.model.specs.Log.{journal, opsOf}
 use Rattle.model.specs.Store.{Store, stagingKey, stagingNames}
 use Rattle.model.specs.Image.{decode}
 use Rattle.model.specs.Step.{Step, renameFile, stepField}
 use Rattle.model.specs.Plan.{commitPlan}
-use Rattle.model.specs.Answers.{answer, commit, commitStep, recover, recoverStep}
+use Rattle.answers.specs.Answers.{answer, commit, commitStep, recover, recoverStep}
 use Rattle.laws.specs.Listings.{Once}
 
 -- A name ends in .bak, or in .tmp: as text, whatever stands before the dot.

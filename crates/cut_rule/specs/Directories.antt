@@ -4,14 +4,14 @@ use Prim.Native.Nat.{ℕ}
 use mathlib.Core.List.{List, [], _∷_}
 use mathlib.Core.Option.{Option, none, some}
 use mathlib.Core.Logic.{_⊎_, inl, inr}
-use Rattle.model.specs.Order.{Name, Key}
-use Rattle.model.specs.Map.{Map, look, put, del, Has}
-use Rattle.model.specs.Base.{Any, caseOption}
-use Rattle.model.specs.Name.{backupName, originalName}
+use Rattle.basics.specs.Order.{Name, Key}
+use Rattle.basics.specs.Map.{Map, look, put, del, Has}
+use Rattle.basics.specs.Base.{Any, caseOption}
+use Rattle.basics.specs.Name.{backupName, originalName}
 use Rattle.model.specs.Operation.{Op, write, delete, deleteAll, createCollection, deleteCollection, copyCollection, target}
 use Rattle.model.specs.Step.{removeDir, renameDir}
-use Rattle.laws.specs.MapLaws.{Sorted, key-dec, none≢some, some-inj, ext, look-put-same, look-put-other, look-del-same, look-del-other, look-del-some}
-use Rattle.laws.specs.NameLaws.{original-backup}
+use Rattle.basic_laws.specs.MapLaws.{Sorted, key-dec, none≢some, some-inj, ext, look-put-same, look-put-other, look-del-same, look-del-other, look-del-some}
+use Rattle.basic_laws.specs.NameLaws.{original-backup}
 use Rattle.laws.specs.StoreLaws.{name-dec, look-drop-other, look-drop-same, sorted-drop, look-move-other, look-move-from, look-move-to}
 use Rattle.laws.specs.Listings.{any-map}
 use Rattle.cut_rule.specs.StoreRule.{Within, OldTree, old-file, old-dir}

@@ -7,14 +7,14 @@ use mathlib.Core.Option.{Option, none, some}
 use mathlib.Core.Bool.{true, false}
 use mathlib.Core.Logic.{inl, inr}
 use lib.ListN.{length, length-append}
-use Rattle.model.specs.Order.{Name, Key, cmpKey}
-use Rattle.model.specs.Map.{Map, look, put, del, Has}
-use Rattle.model.specs.Limits.{imageRoom, stepRoom}
-use Rattle.model.specs.Base.{Bytes, isSome, In}
-use Rattle.model.specs.Name.{lastDot, extension, stripExtension, backupExtension, stagingExtension, backupName, originalName, stripTmp, isNameByte}
-use Rattle.model.specs.Name.{refusedNames, validName}
-use Rattle.model.specs.Crc32.{crc32, register, feedByte, shifts, shift, addPolynomial}
-use Rattle.model.specs.Field.{littleEndian, fromLittleEndian, encodeField, encodeFields, fieldsFrom, decodeFields, hasTag}
+use Rattle.basics.specs.Order.{Name, Key, cmpKey}
+use Rattle.basics.specs.Map.{Map, look, put, del, Has}
+use Rattle.basics.specs.Limits.{imageRoom, stepRoom}
+use Rattle.basics.specs.Base.{Bytes, isSome, In}
+use Rattle.basics.specs.Name.{lastDot, extension, stripExtension, backupExtension, stagingExtension, backupName, originalName, stripTmp, isNameByte}
+use Rattle.basics.specs.Name.{refusedNames, validName}
+use Rattle.basics.specs.Crc32.{crc32, register, feedByte, shifts, shift, addPolynomial}
+use Rattle.basics.specs.Field.{littleEndian, fromLittleEndian, encodeField, encodeFields, fieldsFrom, decodeFields, hasTag}
 use Rattle.model.specs.Operation.{Write, write, target, fieldTable, fieldTags, makers, validValue, opOfFields, decodePayload}
 use Rattle.model.specs.Log.{header, validHeader, firstPayload, walk, entries, readJournal, markCommitting, journal, opsOf}
 use Rattle.model.specs.Store.{Store, dirs, files, validNode, validNodes, validStaged, ascending, wellFormed}
@@ -23,8 +23,8 @@ use Rattle.model.specs.Step.{removeDir, renameDir, apply, zeroSeparated, tagAnd
 use Rattle.model.specs.Plan.{opSteps, undoSteps, restoreFile, restoreDirectory, removeBackupFile, removeBackupsIn, firstNamings, syncExisting, commitFault}
 use Rattle.model.specs.Plan.{commitPlan, committedAt, recoverPlan, recoveredAt, recovered}
 use Rattle.model.specs.Record.{transaction}
-use Rattle.model.specs.Answers.{answer, commitStore, commit, recoverStore, recover, commitStep, recoverStep}
-use Rattle.laws.specs.MapLaws.{key-dec, none≢some, look-tail}
+use Rattle.answers.specs.Answers.{answer, commitStore, commit, recoverStore, recover, commitStep, recoverStep}
+use Rattle.basic_laws.specs.MapLaws.{key-dec, none≢some, look-tail}
 use Rattle.cut_rule.specs.Demand.{NoExtension, Unmarked, TrulyMarked, Conditions, backupRename, Renamed, cutAt, settled, allWritesDone, cutRecoveries}
 use Rattle.cut_rule.specs.Demand.{InPlans, ListedOnce, stepCount}
 use Rattle.cut_rule.specs.Theorem.{demand-3, marked-rule}

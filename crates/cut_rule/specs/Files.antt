@@ -5,10 +5,10 @@ use Prim.Native.Nat.{ℕ}
 use mathlib.Core.List.{[]}
 use mathlib.Core.Option.{Option, none, some}
 use mathlib.Core.Logic.{_⊎_, inl, inr}
-use Rattle.model.specs.Order.{Name, Key}
-use Rattle.model.specs.Name.{backupName, originalName}
-use Rattle.laws.specs.MapLaws.{none≢some, some-inj}
-use Rattle.laws.specs.NameLaws.{original-backup}
+use Rattle.basics.specs.Order.{Name, Key}
+use Rattle.basics.specs.Name.{backupName, originalName}
+use Rattle.basic_laws.specs.MapLaws.{none≢some, some-inj}
+use Rattle.basic_laws.specs.NameLaws.{original-backup}
 use Rattle.laws.specs.StoreLaws.{name-dec}
 
 abbrev pub Contents : Type 0

@@ -3,16 +3,16 @@ use mathlib.Core.Path.{_≡_, refl, sym, _∙_, ap, subst}
 use Prim.Native.Nat.{ℕ}
 use mathlib.Core.List.{List, [], _∷_, _++_, map, reverse}
 use mathlib.Core.Option.{Option, none, some}
-use Rattle.model.specs.Order.{Name}
-use Rattle.model.specs.Map.{Map, look}
-use Rattle.model.specs.Base.{Bytes, ifPresent}
+use Rattle.basics.specs.Order.{Name}
+use Rattle.basics.specs.Map.{Map, look}
+use Rattle.basics.specs.Base.{Bytes, ifPresent}
 use Rattle.model.specs.Operation.{Op, write}
 use Rattle.model.specs.Log.{Journal, absent, recording, committing, journal, whole}
 use Rattle.model.specs.Store.{Store, stagingNames}
 use Rattle.model.specs.Step.{Step, removeLog, removeStaging, apply, applyAll}
 use Rattle.model.specs.Plan.{inTurn, run, undoSteps, restoreBackups, removeBackups, removeStandingLog, removeStagingFiles, recoverParts, recoverPlan}
 use Rattle.model.specs.Plan.{recoveredAt, recovered, recoverFault, withoutMark}
-use Rattle.laws.specs.MapLaws.{none≢some}
+use Rattle.basic_laws.specs.MapLaws.{none≢some}
 use Rattle.laws.specs.StoreLaws.{Bare}
 use Rattle.laws.specs.Listings.{any-unreverse}
 use Rattle.cut_rule.specs.Demand.{settled}

@@ -5,16 +5,16 @@ use Prim.Native.Nat.{ℕ}
 use mathlib.Core.List.{List, [], _∷_}
 use mathlib.Core.Option.{some, none}
 use mathlib.Core.Logic.{_⊎_}
-use Rattle.model.specs.Limits.{imageRoom, stepRoom}
-use Rattle.model.specs.Order.{Name, Key}
-use Rattle.model.specs.Map.{Map, look, Has}
-use Rattle.model.specs.Base.{Bytes, In, isSome, if_then_else_}
-use Rattle.model.specs.Field.{hasTag}
+use Rattle.basics.specs.Limits.{imageRoom, stepRoom}
+use Rattle.basics.specs.Order.{Name, Key}
+use Rattle.basics.specs.Map.{Map, look, Has}
+use Rattle.basics.specs.Base.{Bytes, In, isSome, if_then_else_}
+use Rattle.basics.specs.Field.{hasTag}
 use Rattle.model.specs.Operation.{Op, Write, write, delete, deleteAll, createCollection, deleteCollection, copyCollection}
 use Rattle.model.specs.Log.{journal, opsOf}
 use Rattle.model.specs.Store.{Store}
 use Rattle.model.specs.Image.{encode, decode}
-use Rattle.model.specs.Answers.{commit, commitStep, recover}
+use Rattle.answers.specs.Answers.{commit, commitStep, recover}
 use Rattle.cut_rule.specs.Demand.{NoExtension, TrueMark, settled, cutAt, cutRecoveries, InPlans}
 
 -- What an operation touches: a key of a collection, or a collection as a whole. A copy touches its destination; its source it only reads.

@@ -6,13 +6,13 @@ use mathlib.Core.List.{[]}
 use mathlib.Core.Option.{Option, none, some}
 use mathlib.Core.Bool.{Bool, true, false}
 use mathlib.Core.Logic.{_⊎_, inl, inr}
-use Rattle.model.specs.Limits.{imageRoom}
-use Rattle.model.specs.Base.{Bytes, isSome, if_then_else_}
-use Rattle.model.specs.Field.{hasTag}
+use Rattle.basics.specs.Limits.{imageRoom}
+use Rattle.basics.specs.Base.{Bytes, isSome, if_then_else_}
+use Rattle.basics.specs.Field.{hasTag}
 use Rattle.model.specs.Image.{encode}
-use Rattle.model.specs.Step.{Fault}
+use Rattle.model.specs.Step.{Fault, commitNumber}
 use Rattle.model.specs.Plan.{commitFault, committedAt}
-use Rattle.model.specs.Answers.{Answer, commitNumber, commit}
+use Rattle.answers.specs.Answers.{Answer, commit}
 use Rattle.cut_rule.specs.Demand.{settled, cutAt}
 use Rattle.cut_rule.specs.Kinds.{KindsRule, KindsFailing}
 use Rattle.cut_rule.specs.StoreRule.{Transacts, marked-safe}

@@ -8,28 +8,29 @@ use mathlib.Core.Bool.{Bool, true, false}
 use mathlib.Core.Logic.{inl, inr}
 use lib.ListN.{length}
 use lib.Dec.{leb}
-use Rattle.model.specs.Limits.{imageRoom, stepRoom}
-use Rattle.model.specs.Order.{Name}
-use Rattle.model.specs.Map.{Map, Has}
-use Rattle.model.specs.Base.{Bytes, caseOption, if_then_else_, isSome, In}
-use Rattle.model.specs.Name.{lastDot, extension, backupExtension, stagingExtension, stripExtension, originalName, stripTmp}
-use Rattle.model.specs.Field.{hasTag}
+use Rattle.basics.specs.Limits.{imageRoom, stepRoom}
+use Rattle.basics.specs.Order.{Name}
+use Rattle.basics.specs.Map.{Map, Has}
+use Rattle.basics.specs.Base.{Bytes, caseOption, if_then_else_, isSome, In}
+use Rattle.basics.specs.Name.{lastDot, extension, backupExtension, stagingExtension, stripExtension, originalName, stripTmp}
+use Rattle.basics.specs.Field.{hasTag}
 use Rattle.model.specs.Operation.{Op, Write, write, delete, deleteAll, createCollection, deleteCollection, copyCollection}
 use Rattle.model.specs.Log.{recording, whole, opsOf}
 use Rattle.model.specs.Store.{Store}
 use Rattle.model.specs.Image.{encode, decode}
 use Rattle.model.specs.Plan.{commitFault, commitPlan, committedAt}
 use Rattle.model.specs.Record.{transaction}
-use Rattle.model.specs.Answers.{Answer, answer, refusal, commitNumber, stepAnswer, commitStore, commit, commitStep, recoverStore, recover}
-use Rattle.laws.specs.MapLaws.{none≢some}
-use Rattle.laws.specs.Tests.{All, all-in, nil≢cons}
-use Rattle.laws.specs.NameLaws.{strip-some, original-backup}
+use Rattle.model.specs.Step.{commitNumber}
+use Rattle.answers.specs.Answers.{Answer, answer, refusal, stepAnswer, commitStore, commit, commitStep, recoverStore, recover}
+use Rattle.basic_laws.specs.MapLaws.{none≢some}
+use Rattle.basic_laws.specs.Tests.{All, all-in, nil≢cons}
+use Rattle.basic_laws.specs.NameLaws.{strip-some, original-backup}
 use Rattle.laws.specs.ImageLaws.{decode-encode, decode-only, log-stood}
 use Rattle.laws.specs.StoreLaws.{Good, good, well-formed, bare}
 use Rattle.laws.specs.OperationLaws.{ValidOp, Makes, journal-valid}
 use Rattle.laws.specs.LogLaws.{found-whole}
-use Rattle.laws.specs.EntryLaws.{no-fault}
-use Rattle.laws.specs.ValidNames.{Valid, valid-named, dotBak, dotsBak, DotBakBak}
+use Rattle.answer_laws.specs.EntryLaws.{no-fault}
+use Rattle.basic_laws.specs.ValidNames.{Valid, valid-named, dotBak, dotsBak, DotBakBak}
 use Rattle.laws.specs.WellFormed.{NoneMade, commit-keeps-named}
 use Rattle.cut_rule.specs.Demand.{EndsIn, NoExtension, settled, cutAt}
 use Rattle.cut_rule.specs.Kinds.{placeOf, PlainPlace, Suits, TrueOf, AllTrue}

@@ -7,28 +7,28 @@ use mathlib.Core.Bool.{Bool, true, false, not, _&&_, false≢true}
 use mathlib.Core.Logic.{_⊎_, inl, inr}
 use lib.ListN.{length}
 use lib.Dec.{leb}
-use Rattle.model.specs.Limits.{stagingLimit, imageRoom, stepRoom}
-use Rattle.model.specs.Order.{Name}
-use Rattle.model.specs.Map.{look, put}
-use Rattle.model.specs.Base.{Bytes, caseOption, if_then_else_, isSome, In}
-use Rattle.model.specs.Name.{validName, lower}
-use Rattle.model.specs.Field.{littleEndian, hasTag}
-use Rattle.model.specs.Crc32.{crc32, register, feedByte, shifts, shift, addPolynomial}
+use Rattle.basics.specs.Limits.{stagingLimit, imageRoom, stepRoom}
+use Rattle.basics.specs.Order.{Name}
+use Rattle.basics.specs.Map.{look, put}
+use Rattle.basics.specs.Base.{Bytes, caseOption, if_then_else_, isSome, In}
+use Rattle.basics.specs.Name.{validName, lower}
+use Rattle.basics.specs.Field.{littleEndian, hasTag}
+use Rattle.basics.specs.Crc32.{crc32, register, feedByte, shifts, shift, addPolynomial}
 use Rattle.model.specs.Operation as Operation
 use Rattle.model.specs.Operation.{Op, Write, target}
 use Rattle.model.specs.Log.{recording, whole, journal, opsOf, header, validHeader, walk, entries, readJournal, appendOperation}
 use Rattle.model.specs.Store.{Store, stagingKey, validNumber}
 use Rattle.model.specs.Image.{decode}
 use Rattle.model.specs.Record.{Outcome, refuse, give, beginTransaction, require, appended, recordWrite}
-use Rattle.model.specs.Answers.{Answer, begin, write, answer, commitStep, recover}
-use Rattle.laws.specs.MapLaws.{some-inj}
-use Rattle.laws.specs.Tests.{and-both}
+use Rattle.answers.specs.Answers.{Answer, begin, write, answer, commitStep, recover}
+use Rattle.basic_laws.specs.MapLaws.{some-inj}
+use Rattle.basic_laws.specs.Tests.{and-both}
 use Rattle.laws.specs.Listings.{any-append}
 use Rattle.laws.specs.OperationLaws.{ValidOp}
 use Rattle.laws.specs.LogLaws.{recorded-stands}
 use Rattle.laws.specs.AppendLaws.{appended-journal}
 use Rattle.laws.specs.RecordLaws.{Room, into, passing}
-use Rattle.laws.specs.Accepted.{begin-accepted, write-accepted}
+use Rattle.answer_laws.specs.Accepted.{begin-accepted, write-accepted}
 use Rattle.cut_rule.specs.Demand.{TrulyMarked, Conditions, Either, cutAt, cutRecoveries, InPlans, expectedFiles, settled}
 use Rattle.cut_rule.specs.Writes.{in-ops}
 use Rattle.cut_rule.specs.Theorem.{marked-rule}

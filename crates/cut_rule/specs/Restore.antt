@@ -4,15 +4,15 @@ use Prim.Native.Nat.{ℕ}
 use mathlib.Core.List.{List, [], _∷_, _++_}
 use mathlib.Core.Option.{Option, none, some}
 use mathlib.Core.Logic.{_⊎_, inl, inr}
-use Rattle.model.specs.Order.{Name, Key}
-use Rattle.model.specs.Map.{Map, look, put, del, Has}
-use Rattle.model.specs.Base.{Bytes, In, caseOption, ifPresent}
-use Rattle.model.specs.Name.{backupName, originalName, stripTmp}
+use Rattle.basics.specs.Order.{Name, Key}
+use Rattle.basics.specs.Map.{Map, look, put, del, Has}
+use Rattle.basics.specs.Base.{Bytes, In, caseOption, ifPresent}
+use Rattle.basics.specs.Name.{backupName, originalName, stripTmp}
 use Rattle.model.specs.Store.{Store, dirs, files}
 use Rattle.model.specs.Step.{Step, removeFile, renameFile, removeDirectory, renameDirectory, removeDir, renameDir, apply, applyAll}
 use Rattle.model.specs.Plan.{inTurn, restoreFile, restoreDirectory, restoreBackups}
-use Rattle.laws.specs.MapLaws.{Sorted, none≢some, some-inj, look-put-same, look-put-other, look-del-same, look-del-other, sorted-put, sorted-del}
-use Rattle.laws.specs.NameLaws.{original-some, original-nil, original-named}
+use Rattle.basic_laws.specs.MapLaws.{Sorted, none≢some, some-inj, look-put-same, look-put-other, look-del-same, look-del-other, sorted-put, sorted-del}
+use Rattle.basic_laws.specs.NameLaws.{original-some, original-nil, original-named}
 use Rattle.laws.specs.StoreLaws.{name-dec, look-drop-other, look-drop-same, sorted-drop, look-move-other, sorted-move}
 use Rattle.laws.specs.Listings.{dirs-in, dirs-has, files-has, files-in, files-named, files-once, dirs-once, Once}
 use Rattle.cut_rule.specs.StoreRule.{Within, OldTree, old-file}

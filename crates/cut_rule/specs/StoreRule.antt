@@ -4,14 +4,14 @@ use Prim.Native.Nat.{ℕ}
 use mathlib.Core.List.{List, []}
 use mathlib.Core.Option.{Option, none, some}
 use mathlib.Core.Bool.{Bool, false, false≢true}
-use Rattle.model.specs.Order.{Name}
-use Rattle.model.specs.Map.{Map, look, Has}
-use Rattle.model.specs.Base.{In, isSome, caseOption}
-use Rattle.model.specs.Name.{originalName, stripTmp}
+use Rattle.basics.specs.Order.{Name}
+use Rattle.basics.specs.Map.{Map, look, Has}
+use Rattle.basics.specs.Base.{In, isSome, caseOption}
+use Rattle.basics.specs.Name.{originalName, stripTmp}
 use Rattle.model.specs.Operation.{Op, Write, write, delete, deleteAll, createCollection, deleteCollection, copyCollection, target, backup, stood}
 use Rattle.model.specs.Log.{journal, recording, whole}
 use Rattle.model.specs.Store.{Store}
-use Rattle.laws.specs.MapLaws.{Sorted, none≢some}
+use Rattle.basic_laws.specs.MapLaws.{Sorted, none≢some}
 use Rattle.laws.specs.StoreLaws.{Bare}
 use Rattle.cut_rule.specs.Demand.{TrueMark}
 use Rattle.cut_rule.specs.Kinds.{AllApart, Marked}

@@ -4,15 +4,15 @@ use mathlib.Core.List.{List, [], map}
 use mathlib.Core.Option.{none}
 use mathlib.Core.Bool.{Bool, true, false}
 use mathlib.Core.Logic.{_⊎_, inl, inr}
-use Rattle.model.specs.Limits.{imageRoom}
-use Rattle.model.specs.Map.{Map, Has}
-use Rattle.model.specs.Base.{Bytes, In, isSome, if_then_else_}
-use Rattle.model.specs.Field.{hasTag}
+use Rattle.basics.specs.Limits.{imageRoom}
+use Rattle.basics.specs.Map.{Map, Has}
+use Rattle.basics.specs.Base.{Bytes, In, isSome, if_then_else_}
+use Rattle.basics.specs.Field.{hasTag}
 use Rattle.model.specs.Operation.{Op, Write, write, target}
 use Rattle.model.specs.Image.{encode}
 use Rattle.model.specs.Plan.{commitFault, committedAt}
-use Rattle.model.specs.Answers.{answer, commit}
-use Rattle.laws.specs.MapLaws.{none≢some}
+use Rattle.answers.specs.Answers.{answer, commit}
+use Rattle.basic_laws.specs.MapLaws.{none≢some}
 use Rattle.cut_rule.specs.Demand.{Renamed, NoneWaits, cutAt, expectedFiles, settled, CutRule, Demand3, MarkedRule, FailingCommit, FailingRule}
 use Rattle.cut_rule.specs.Kinds.{Suits, AllTrue}
 use Rattle.cut_rule.specs.StoreRule.{Transacts}

@@ -5,16 +5,16 @@ use mathlib.Core.List.{List, [], _∷_}
 use mathlib.Core.Option.{Option, none, some}
 use mathlib.Core.Bool.{Bool, true, false, false≢true}
 use mathlib.Core.Logic.{_⊎_, inl, inr}
-use Rattle.model.specs.Order.{Name, Key}
-use Rattle.model.specs.Map.{Map, look, del, Has}
-use Rattle.model.specs.Base.{Bytes, In, caseOption, if_then_else_, ifEmpty, isSome, ifPresent, ifMissing}
-use Rattle.model.specs.Name.{backupName, originalName}
+use Rattle.basics.specs.Order.{Name, Key}
+use Rattle.basics.specs.Map.{Map, look, del, Has}
+use Rattle.basics.specs.Base.{Bytes, In, caseOption, if_then_else_, ifEmpty, isSome, ifPresent, ifMissing}
+use Rattle.basics.specs.Name.{backupName, originalName}
 use Rattle.model.specs.Operation.{Op, Write, write, delete, deleteAll, createCollection, deleteCollection, copyCollection, target, backup, stood}
 use Rattle.model.specs.Store.{Store, files}
 use Rattle.model.specs.Step.{Step, removeFile, removeDirectory, removeDir, apply, applyAll}
 use Rattle.model.specs.Plan.{inTurn, undoSteps}
-use Rattle.laws.specs.MapLaws.{Sorted, none≢some, look-del-same, look-del-other, sorted-del}
-use Rattle.laws.specs.NameLaws.{original-backup, key-apart}
+use Rattle.basic_laws.specs.MapLaws.{Sorted, none≢some, look-del-same, look-del-other, sorted-del}
+use Rattle.basic_laws.specs.NameLaws.{original-backup, key-apart}
 use Rattle.laws.specs.StoreLaws.{look-drop-other}
 use Rattle.laws.specs.Listings.{any-map, files-in, files-named}
 use Rattle.laws.specs.Runs.{applyAll-append}

@@ -8,25 +8,25 @@ use mathlib.Core.Bool.{Bool, true, false, false≢true}
 use mathlib.Core.Logic.{_⊎_, inl, inr}
 use lib.ListN.{length, take, drop, getElem?}
 use lib.Dec.{leb}
-use Rattle.model.specs.Order.{Name, Key}
-use Rattle.model.specs.Map.{Map, look, put, del, Has}
-use Rattle.model.specs.Base.{Bytes, caseOption, if_then_else_, isSome, allOf, ifPresent, ifMissing, In}
-use Rattle.model.specs.Name.{isNameByte, backupName, backupExtension}
-use Rattle.model.specs.Field.{Field, littleEndian, encodeField}
+use Rattle.basics.specs.Order.{Name, Key}
+use Rattle.basics.specs.Map.{Map, look, put, del, Has}
+use Rattle.basics.specs.Base.{Bytes, caseOption, if_then_else_, isSome, allOf, ifPresent, ifMissing, In}
+use Rattle.basics.specs.Name.{isNameByte, backupName, backupExtension}
+use Rattle.basics.specs.Field.{Field, littleEndian, encodeField}
 use Rattle.model.specs.Operation.{Op, Write, write, target, backup}
 use Rattle.model.specs.Store.{Store}
 use Rattle.model.specs.Image.{encode}
-use Rattle.model.specs.Step.{Step, rewriteHeader, syncStaging, syncLog, removeLog, syncJournal, syncCollections, makeDirectory, renameFile, moveStaged}
+use Rattle.model.specs.Step.{Step, rewriteHeader, syncStaging, syncLog, removeLog, syncJournal, syncCollections, makeDirectory, renameFile, moveStaged, fieldAt}
 use Rattle.model.specs.Step.{renameDirectory, copyFile, removeFile, removeDirectory, removeStaging, syncDirectory, apply, applyAll, zeroSeparated, tagAndNames}
 use Rattle.model.specs.Step.{stepField}
 use Rattle.model.specs.Plan.{inTurn, run, opSteps, removeBackups, removeStagingFiles, collectionOf, firstNamings, syncExisting, commitFault, commitParts}
 use Rattle.model.specs.Plan.{commitPlan, committedAt}
-use Rattle.model.specs.Answers.{Answer, refusal, fieldAt, stepAnswer}
-use Rattle.laws.specs.MapLaws.{key-dec, none≢some, some-inj, look-put-same, look-put-other, look-del-other}
-use Rattle.laws.specs.Tests.{and-both, All, all-in, nil≢cons}
-use Rattle.laws.specs.NameLaws.{original-backup, key-apart}
+use Rattle.answers.specs.Answers.{Answer, refusal, stepAnswer}
+use Rattle.basic_laws.specs.MapLaws.{key-dec, none≢some, some-inj, look-put-same, look-put-other, look-del-other}
+use Rattle.basic_laws.specs.Tests.{and-both, All, all-in, nil≢cons}
+use Rattle.basic_laws.specs.NameLaws.{original-backup, key-apart}
 use Rattle.laws.specs.OperationLaws.{ValidOp, journal-valid}
-use Rattle.laws.specs.ValidNames.{valid-bytes}
+use Rattle.basic_laws.specs.ValidNames.{valid-bytes}
 use Rattle.laws.specs.Listings.{any-append}
 use Rattle.laws.specs.Runs.{Runs, runs-take, runs-end, runs-append, runs-over}
 use Rattle.cut_rule.specs.Demand.{Conditions, backupRename, NoneWaits}

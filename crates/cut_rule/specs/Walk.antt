@@ -5,9 +5,9 @@ use mathlib.Core.List.{List, [], _∷_, _++_, map}
 use mathlib.Core.Option.{Option, none, some}
 use mathlib.Core.Logic.{_⊎_, inl, inr}
 use lib.ListN.{take}
-use Rattle.model.specs.Order.{Name}
-use Rattle.model.specs.Map.{Map}
-use Rattle.model.specs.Base.{In, caseOption}
+use Rattle.basics.specs.Order.{Name}
+use Rattle.basics.specs.Map.{Map}
+use Rattle.basics.specs.Base.{In, caseOption}
 use Rattle.model.specs.Store.{Store, stagingKey, stagingNames}
 use Rattle.model.specs.Step.{Step, rewriteHeader, syncStaging, syncLog, removeLog, syncJournal, syncCollections, makeDirectory, renameFile, moveStaged}
 use Rattle.model.specs.Step.{renameDirectory, copyFile, removeFile, removeDirectory, removeStaging, syncDirectory, marked, apply, applyAll, Fault, stepFault}

@@ -4,16 +4,16 @@ use Prim.Native.Nat.{ℕ}
 use mathlib.Core.List.{List, [], _∷_, _++_, map}
 use mathlib.Core.Option.{Option, none, some}
 use mathlib.Core.Logic.{inl, inr}
-use Rattle.model.specs.Order.{Name, Key}
-use Rattle.model.specs.Map.{Map, look, put, del, Has}
-use Rattle.model.specs.Base.{Bytes, In, caseOption, ifPresent, ifMissing}
-use Rattle.model.specs.Name.{backupName, originalName}
+use Rattle.basics.specs.Order.{Name, Key}
+use Rattle.basics.specs.Map.{Map, look, put, del, Has}
+use Rattle.basics.specs.Base.{Bytes, In, caseOption, ifPresent, ifMissing}
+use Rattle.basics.specs.Name.{backupName, originalName}
 use Rattle.model.specs.Operation.{Op, Write, write, target, backup}
 use Rattle.model.specs.Store.{Store}
 use Rattle.model.specs.Step.{Step, rewriteHeader, makeDirectory, renameFile, moveStaged, apply, applyAll}
 use Rattle.model.specs.Plan.{inTurn, opSteps, firstFault, commitFault}
-use Rattle.laws.specs.MapLaws.{Sorted, key-dec, none≢some, some-inj, look-put-same, look-put-other, look-del-other, look-del-some, sorted-put}
-use Rattle.laws.specs.NameLaws.{original-backup, original-nil, key-apart}
+use Rattle.basic_laws.specs.MapLaws.{Sorted, key-dec, none≢some, some-inj, look-put-same, look-put-other, look-del-other, look-del-some, sorted-put}
+use Rattle.basic_laws.specs.NameLaws.{original-backup, original-nil, key-apart}
 use Rattle.laws.specs.Listings.{any-of-map, any-to-map, any-find, any-map}
 use Rattle.laws.specs.Runs.{applyAll-append, fault-head, fault-append}
 use Rattle.cut_rule.specs.Demand.{Distinct, Meets, TrueMarks, TrulyMarked, allWritesDone}

@@ -9,11 +9,11 @@ use native.Mathlib.Decide.{decLe}
 use lib.ListN.{length, take, drop, length-drop}
 use types.Run.{OneOf}
 use denote.Enum.Declared.{tagOf}
-use Rattle.model.specs.Base.{Bytes, caseOption}
-use Rattle.model.specs.Field.{Field, fromLittleEndian, fieldsFrom}
-use Rattle.laws.specs.ListLaws.{part-length}
-use Rattle.laws.specs.Tests.{nil≢cons}
-use Rattle.laws.specs.MapLaws.{none≢some, some-inj}
+use Rattle.basics.specs.Base.{Bytes, caseOption}
+use Rattle.basics.specs.Field.{Field, fromLittleEndian, fieldsFrom}
+use Rattle.basic_laws.specs.ListLaws.{part-length}
+use Rattle.basic_laws.specs.Tests.{nil≢cons}
+use Rattle.basic_laws.specs.MapLaws.{none≢some, some-inj}
 use Rattle.field.specs.declared.Item.{Item}
 use Rattle.field.specs.declared.Read.{Read}
 use Rattle.field.specs.declared.Read.the-variants.{Is, NoHeader, NoValue}

@@ -7,8 +7,8 @@ use lib.ListN.{length}
 use types.Run.{OneOf}
 use denote.Enum.Declared.{tagOf}
 use borrow.Author.Tests.{ne-eqb}
-use Rattle.model.specs.Limits.{imageRoom}
-use Rattle.model.specs.Base.{Bytes}
+use Rattle.basics.specs.Limits.{imageRoom}
+use Rattle.basics.specs.Base.{Bytes}
 use Rattle.laws.specs.ImageLaws.{node-parts}
 use Rattle.field.specs.declared.Item.{Item}
 use Rattle.field.specs.declared.Read.{Read}

@@ -6,11 +6,11 @@ use native.Mathlib.Numerals.{add-one}
 use native.Mathlib.Omega.{arith}
 use lib.ListN.{length, take, set, length-set}
 use lib.Seq.{take-suc-set}
-use Rattle.model.specs.Map as model
-use Rattle.model.specs.Base.{Bytes}
-use Rattle.laws.specs.MapLaws.{Sorted}
-use Rattle.laws.specs.Tests.{all-append}
-use Rattle.laws.specs.ListLaws.{take-zero}
+use Rattle.basics.specs.Map as model
+use Rattle.basics.specs.Base.{Bytes}
+use Rattle.basic_laws.specs.MapLaws.{Sorted}
+use Rattle.basic_laws.specs.Tests.{all-append}
+use Rattle.basic_laws.specs.ListLaws.{take-zero}
 use Rattle.store.specs.declared.Node.{Node}
 use Rattle.store.specs.Places.{tableRoom}
 use Rattle.store.specs.Tables.{Table, nodeOf, live, mapOf, SoundNode, Holds}

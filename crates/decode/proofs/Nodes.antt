@@ -7,15 +7,15 @@ use native.Mathlib.Omega.{arith}
 use lib.ListN.{length, take, drop, length-append, take-append-drop}
 use lib.Seq.{take-at, drop-at, length-take-le}
 use lib.Dec.{eqb}
-use Rattle.model.specs.Order.{Name}
-use Rattle.model.specs.Map.{Node}
-use Rattle.model.specs.Base.{Bytes, ifEmpty, sameBytes}
-use Rattle.model.specs.Name.{validName}
-use Rattle.model.specs.Field.{Field, littleEndian, fromLittleEndian}
+use Rattle.basics.specs.Order.{Name}
+use Rattle.basics.specs.Map.{Node}
+use Rattle.basics.specs.Base.{Bytes, ifEmpty, sameBytes}
+use Rattle.basics.specs.Name.{validName}
+use Rattle.basics.specs.Field.{Field, littleEndian, fromLittleEndian}
 use Rattle.model.specs.Store.{validNumber, validNode, validStaged}
 use Rattle.model.specs.Image.{nodeField}
-use Rattle.laws.specs.Tests.{All, eqb-eq}
-use Rattle.laws.specs.FieldLaws.{Byte, le-four}
+use Rattle.basic_laws.specs.Tests.{All, eqb-eq}
+use Rattle.basic_laws.specs.FieldLaws.{Byte, le-four}
 use Rattle.laws.specs.ImageLaws.{listed, number-le, node-parts, file-parts, staged-parts}
 use Rattle.field.specs.Writing.{field}
 use Rattle.field.proofs.Numbers.{bytes-again}

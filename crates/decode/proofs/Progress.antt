@@ -7,15 +7,15 @@ use Prim.Native.Nat.{ℕ, _+_, _≤_, _<_}
 use native.Mathlib.Omega.{arith}
 use lib.ListN.{length, drop, set}
 use lib.Seq.{append-snoc}
-use Rattle.model.specs.Limits.{fileLimit}
-use Rattle.model.specs.Order.{lt, Name, Key, cmpName, cmpKey}
-use Rattle.model.specs.Map as model
-use Rattle.model.specs.Map.{Map}
-use Rattle.model.specs.Base.{Bytes}
-use Rattle.model.specs.Name.{validName}
-use Rattle.model.specs.Field.{Field, encodeField, encodeFields, fieldsFrom}
+use Rattle.basics.specs.Limits.{fileLimit}
+use Rattle.basics.specs.Order.{lt, Name, Key, cmpName, cmpKey}
+use Rattle.basics.specs.Map as model
+use Rattle.basics.specs.Map.{Map}
+use Rattle.basics.specs.Base.{Bytes}
+use Rattle.basics.specs.Name.{validName}
+use Rattle.basics.specs.Field.{Field, encodeField, encodeFields, fieldsFrom}
 use Rattle.model.specs.Store.{ascending}
-use Rattle.laws.specs.FieldLaws.{encode-append}
+use Rattle.basic_laws.specs.FieldLaws.{encode-append}
 use Rattle.laws.specs.ImageLaws.{listed, node-parts, staged-parts}
 use Rattle.laws.specs.TreeLaws.{size, isDir, isFile, ascending-sorted}
 use Rattle.spans.specs.declared.NameRef.{NameRef}

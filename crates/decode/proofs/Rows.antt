@@ -5,14 +5,14 @@ use mathlib.Core.List.{[], _∷_, _++_}
 use Prim.Native.Nat.{ℕ, suc, _+_}
 use native.Mathlib.Omega.{arith}
 use lib.ListN.{length}
-use Rattle.model.specs.Order.{lt, Name, Key, cmpKey}
-use Rattle.model.specs.Map.{Map, Node}
-use Rattle.model.specs.Base.{allOf}
-use Rattle.model.specs.Name.{validName}
+use Rattle.basics.specs.Order.{lt, Name, Key, cmpKey}
+use Rattle.basics.specs.Map.{Map, Node}
+use Rattle.basics.specs.Base.{allOf}
+use Rattle.basics.specs.Name.{validName}
 use Rattle.model.specs.Store.{validNodes, validStaged, belowFirst, ascending}
-use Rattle.laws.specs.Tests.{nil≢cons, and-both, and-made}
+use Rattle.basic_laws.specs.Tests.{nil≢cons, and-both, and-made}
 use Rattle.laws.specs.ImageLaws.{staged-parts}
-use Rattle.laws.specs.ValidNames.{valid-named}
+use Rattle.basic_laws.specs.ValidNames.{valid-named}
 use Rattle.laws.specs.TreeLaws.{below-lt, size, isDir, isFile, dir-size, file-size}
 use Rattle.store.proofs.Tally.{dirs-files}
 use Rattle.decode.specs.Listing.{validAt, validFrom, lastKey}

@@ -11,9 +11,9 @@ use lib.ListN.{length, drop}
 use types.Run.{OneOf}
 use denote.Enum.Declared.{tagOf}
 use borrow.Author.Tests.{eq-eqb, ne-eqb}
-use Rattle.model.specs.Limits.{logLimit}
-use Rattle.model.specs.Base.{Bytes}
-use Rattle.model.specs.Field.{Field, encodeField, encodeFields}
+use Rattle.basics.specs.Limits.{logLimit}
+use Rattle.basics.specs.Base.{Bytes}
+use Rattle.basics.specs.Field.{Field, encodeField, encodeFields}
 use Rattle.model.specs.Image.{logField, markField}
 use Rattle.laws.specs.StoreLaws.{LogFits}
 use Rattle.field.specs.declared.Item.{Item}

@@ -8,16 +8,16 @@ use Prim.Native.Nat.{ℕ, _+_, _-_, _≤_, _<_}
 use native.Mathlib.Omega.{arith}
 use lib.ListN.{length, take, drop, getD}
 use lib.Seq.{take-take, drop-drop}
-use Rattle.model.specs.Limits.{dirLimit, numberLimit, imageRoom}
-use Rattle.model.specs.Order.{lt, Name, cmpName}
-use Rattle.model.specs.Map as model
-use Rattle.model.specs.Base.{Bytes}
-use Rattle.model.specs.Name.{validName}
-use Rattle.model.specs.Field.{fromLittleEndian}
-use Rattle.laws.specs.ListLaws.{part-length, drop-take}
-use Rattle.laws.specs.Tests.{all-at, all-take, all-drop}
-use Rattle.laws.specs.FieldLaws.{Byte}
-use Rattle.laws.specs.ValidNames.{valid-length}
+use Rattle.basics.specs.Limits.{dirLimit, numberLimit, imageRoom}
+use Rattle.basics.specs.Order.{lt, Name, cmpName}
+use Rattle.basics.specs.Map as model
+use Rattle.basics.specs.Base.{Bytes}
+use Rattle.basics.specs.Name.{validName}
+use Rattle.basics.specs.Field.{fromLittleEndian}
+use Rattle.basic_laws.specs.ListLaws.{part-length, drop-take}
+use Rattle.basic_laws.specs.Tests.{all-at, all-take, all-drop}
+use Rattle.basic_laws.specs.FieldLaws.{Byte}
+use Rattle.basic_laws.specs.ValidNames.{valid-length}
 use Rattle.laws.specs.TreeLaws.{below-lt, isDir, isFile}
 use Rattle.laws.specs.ImageLaws.{listed}
 use Rattle.field.specs.declared.Item.{Item}

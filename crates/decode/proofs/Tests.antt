@@ -6,16 +6,16 @@ use Prim.Native.Nat.{ℕ, _+_, _≤_, _<_}
 use native.Mathlib.Omega.{arith}
 use lib.ListN.{length, take, drop}
 use lib.Dec.{leb}
-use Rattle.model.specs.Limits.{dirLimit, numberLimit}
-use Rattle.model.specs.Order.{Cmp, lt, eq, gt, thenCmp, Name, Key, cmpName, cmpKey}
-use Rattle.model.specs.Map.{Node}
-use Rattle.model.specs.Base.{Bytes, sameBytes}
-use Rattle.model.specs.Name.{validName}
-use Rattle.model.specs.Field.{littleEndian}
+use Rattle.basics.specs.Limits.{dirLimit, numberLimit}
+use Rattle.basics.specs.Order.{Cmp, lt, eq, gt, thenCmp, Name, Key, cmpName, cmpKey}
+use Rattle.basics.specs.Map.{Node}
+use Rattle.basics.specs.Base.{Bytes, sameBytes}
+use Rattle.basics.specs.Name.{validName}
+use Rattle.basics.specs.Field.{littleEndian}
 use Rattle.model.specs.Store.{validNumber, validNode, validStaged}
-use Rattle.laws.specs.Tests.{All, and-both, and-made, leb-le, le-leb, same-refl}
-use Rattle.laws.specs.OrderLaws.{nameLaws, lt≢eq, lt≢gt}
-use Rattle.laws.specs.FieldLaws.{Byte}
+use Rattle.basic_laws.specs.Tests.{All, and-both, and-made, leb-le, le-leb, same-refl}
+use Rattle.basic_laws.specs.OrderLaws.{nameLaws, lt≢eq, lt≢gt}
+use Rattle.basic_laws.specs.FieldLaws.{Byte}
 use Rattle.laws.specs.ImageLaws.{listed, node-parts}
 use Rattle.laws.specs.TreeLaws.{isDir, isFile}
 use Rattle.field.specs.Writing.{field}

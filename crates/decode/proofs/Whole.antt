@@ -9,18 +9,18 @@ use lib.Dec.{eqb}
 use lib.ListN.{length, take, drop, length-append, length-drop, drop-of-length-le}
 use lib.Seq.{take-at}
 use borrow.Author.Tests.{eq-eqb, eqb-true}
-use Rattle.model.specs.Limits.{imageRoom}
-use Rattle.model.specs.Map.{Map}
-use Rattle.model.specs.Base.{Bytes}
-use Rattle.model.specs.Field.{encodeFields, decodeFields}
+use Rattle.basics.specs.Limits.{imageRoom}
+use Rattle.basics.specs.Map.{Map}
+use Rattle.basics.specs.Base.{Bytes}
+use Rattle.basics.specs.Field.{encodeFields, decodeFields}
 use Rattle.model.specs.Store as model
 use Rattle.model.specs.Store.{dirs, fileCount, wellFormed}
 use Rattle.model.specs.Image.{nodeField, stagedField, logField, markField, imageFields, decode}
-use Rattle.laws.specs.Tests.{and-both, and-made, le-leb}
+use Rattle.basic_laws.specs.Tests.{and-both, and-made, le-leb}
 use Rattle.laws.specs.ImageLaws.{listed, Parts, parts, of-parts, regroup, encode-parts, tail, split-encode, decode-encode, decode-only}
 use Rattle.laws.specs.TreeLaws.{size, isFile, one, dir-size, file-size, length-size}
 use Rattle.laws.specs.StoreLaws.{LogFits, fits-log, Good, good}
-use Rattle.laws.specs.ValidNames.{Valid, validNaming}
+use Rattle.basic_laws.specs.ValidNames.{Valid, validNaming}
 use Rattle.laws.specs.LengthLaws.{encode-length}
 use Rattle.store.specs.declared.Store.{Store}
 use Rattle.store.specs.Words.{Words, nodesOf}

@@ -5,7 +5,7 @@ use mathlib.Core.List.{map}
 use mathlib.Core.Option.{none, some}
 use Prim.Native.Nat.{ℕ}
 use lib.Dec.{eqb}
-use Rattle.model.specs.Base.{Bytes}
+use Rattle.basics.specs.Base.{Bytes}
 use Rattle.model.specs.Store as model
 use Rattle.model.specs.Image.{logField, markField, decode}
 use Rattle.laws.specs.StoreLaws.{LogFits}

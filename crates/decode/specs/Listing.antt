@@ -4,9 +4,9 @@ use mathlib.Core.Bool.{Bool, true, false, _&&_, _||_}
 use mathlib.Core.List.{[], _∷_}
 use Prim.Native.Nat.{ℕ, _+_, _≤_}
 use lib.Dec.{eqb}
-use Rattle.model.specs.Limits.{dirLimit, fileLimit, stagingLimit}
-use Rattle.model.specs.Order.{lt, Name, Key, cmpName, cmpKey, caseCmp}
-use Rattle.model.specs.Map.{Map, Node}
+use Rattle.basics.specs.Limits.{dirLimit, fileLimit, stagingLimit}
+use Rattle.basics.specs.Order.{lt, Name, Key, cmpName, cmpKey, caseCmp}
+use Rattle.basics.specs.Map.{Map, Node}
 use Rattle.model.specs.Store.{validNode, validStaged, ascending}
 use Rattle.laws.specs.TreeLaws.{size, isDir, isFile}
 

@@ -5,8 +5,8 @@ use mathlib.Core.List.{List, [], _∷_, _++_}
 use mathlib.Core.Option.{some}
 use Prim.Native.Nat.{ℕ, _≤_}
 use lib.ListN.{length, drop}
-use Rattle.model.specs.Base.{Bytes}
-use Rattle.model.specs.Field.{Field, encodeFields, fieldsFrom}
+use Rattle.basics.specs.Base.{Bytes}
+use Rattle.basics.specs.Field.{Field, encodeFields, fieldsFrom}
 
 -- The bytes from a place on are these fields.
 abbrev pub Ahead : Bytes → ℕ → List Field → Type 0

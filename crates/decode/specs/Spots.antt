@@ -5,12 +5,12 @@ use mathlib.Core.List.{List, [], _∷_, _++_}
 use mathlib.Core.Option.{none, some}
 use Prim.Native.Nat.{ℕ, _+_, _≤_, _<_}
 use lib.ListN.{length, drop}
-use Rattle.model.specs.Limits.{dirLimit, imageRoom}
-use Rattle.model.specs.Order.{Name}
-use Rattle.model.specs.Map.{Node}
-use Rattle.model.specs.Base.{Bytes, caseOption}
-use Rattle.model.specs.Name.{validName}
-use Rattle.model.specs.Field.{Field, encodeField, fieldsFrom}
+use Rattle.basics.specs.Limits.{dirLimit, imageRoom}
+use Rattle.basics.specs.Order.{Name}
+use Rattle.basics.specs.Map.{Node}
+use Rattle.basics.specs.Base.{Bytes, caseOption}
+use Rattle.basics.specs.Name.{validName}
+use Rattle.basics.specs.Field.{Field, encodeField, fieldsFrom}
 use Rattle.laws.specs.TreeLaws.{isDir, isFile}
 use Rattle.laws.specs.ImageLaws.{listed}
 use Rattle.field.specs.declared.Item.{Item}

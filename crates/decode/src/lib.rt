@@ -3,7 +3,7 @@ ghost use mathlib.Core.Path.{_≡_};
 ghost use mathlib.Core.Bool.{true, false, _&&_};
 ghost use Prim.Native.Nat.{_≤_};
 ghost use lib.ListN.{length};
-ghost use Rattle.model.specs.Limits.{imageRoom};
+ghost use Rattle.basics.specs.Limits.{imageRoom};
 ghost use Rattle.spans.specs.Spans.{nameOf, Sound};
 ghost use Rattle.decode.specs.Listing.{fileTag, filesOf, isBelow};
 ghost use Rattle.decode.specs.Spots.{SoundSpot, Comes, AtField, InDir};

@@ -5,10 +5,10 @@ use mathlib.Core.List.{[], _++_, map}
 use Prim.Native.Nat.{ℕ, _+_, _-_, _≤_, _<_}
 use native.Mathlib.Omega.{arith}
 use lib.ListN.{length, take, drop, getD, length-append}
-use Rattle.model.specs.Base.{Bytes}
-use Rattle.model.specs.Field.{encodeField, encodeFields}
+use Rattle.basics.specs.Base.{Bytes}
+use Rattle.basics.specs.Field.{encodeField, encodeFields}
 use Rattle.model.specs.Log.{markCommitting}
-use Rattle.laws.specs.ListLaws.{part-length}
+use Rattle.basic_laws.specs.ListLaws.{part-length}
 use Rattle.laws.specs.ImageLaws.{listed}
 use Rattle.field.specs.Writing.{field}
 use Rattle.field.proofs.Written.{encoded-length}

@@ -5,8 +5,8 @@ use mathlib.Core.List.{_++_}
 use Prim.Native.Nat.{ℕ, _+_, _≤_}
 use native.Mathlib.Omega.{arith}
 use lib.ListN.{length, drop, length-append}
-use Rattle.model.specs.Base.{Bytes}
-use Rattle.model.specs.Field.{encodeFields}
+use Rattle.basics.specs.Base.{Bytes}
+use Rattle.basics.specs.Field.{encodeFields}
 use Rattle.model.specs.Image.{markField, encode}
 use Rattle.laws.specs.ImageLaws.{encode-parts}
 use Rattle.field.proofs.Written.{length-written, written-then, written-front}

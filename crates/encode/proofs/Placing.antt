@@ -8,11 +8,11 @@ use native.Mathlib.Omega.{arith}
 use lib.ListN.{length, take, drop, getD, length-append, length-drop}
 use lib.Seq.{length-take-le, drop-drop}
 use native.Mathlib.Decide.{decLe}
-use Rattle.model.specs.Base.{Bytes}
-use Rattle.model.specs.Map.{Map}
-use Rattle.model.specs.Field.{littleEndian, encodeField, encodeFields}
+use Rattle.basics.specs.Base.{Bytes}
+use Rattle.basics.specs.Map.{Map}
+use Rattle.basics.specs.Field.{littleEndian, encodeField, encodeFields}
 use Rattle.model.specs.Log.{header, markCommitting}
-use Rattle.laws.specs.ListLaws.{take-zero, part-length, drop-take}
+use Rattle.basic_laws.specs.ListLaws.{take-zero, part-length, drop-take}
 use Rattle.laws.specs.ImageLaws.{listed}
 use Rattle.field.specs.Writing.{written, field}
 use Rattle.field.proofs.Written.{written-none, written-nil, length-written, written-written, written-then, encoded-length}

@@ -6,13 +6,13 @@ use mathlib.Core.Option.{Option, none, some}
 use Prim.Native.Nat.{ℕ, _+_, _-_}
 use native.Mathlib.Omega.{arith}
 use lib.ListN.{length, take, drop, length-append, length-drop}
-use Rattle.model.specs.Order.{Name}
-use Rattle.model.specs.Map as model
-use Rattle.model.specs.Base.{Bytes, if_then_else_, ifEmpty}
-use Rattle.model.specs.Field.{Field, littleEndian, encodeField, encodeFields}
+use Rattle.basics.specs.Order.{Name}
+use Rattle.basics.specs.Map as model
+use Rattle.basics.specs.Base.{Bytes, if_then_else_, ifEmpty}
+use Rattle.basics.specs.Field.{Field, littleEndian, encodeField, encodeFields}
 use Rattle.model.specs.Log.{header, markCommitting}
 use Rattle.model.specs.Image.{logField}
-use Rattle.laws.specs.FieldLaws.{encode-one}
+use Rattle.basic_laws.specs.FieldLaws.{encode-one}
 use Rattle.laws.specs.ImageLaws.{listed}
 use Rattle.field.specs.Writing.{field}
 use Rattle.field.proofs.Written.{encoded-length}

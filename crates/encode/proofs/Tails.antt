@@ -5,8 +5,8 @@ use mathlib.Core.List.{_++_}
 use Prim.Native.Nat.{ℕ, _+_, _%_, _≤_}
 use native.Mathlib.Omega.{arith}
 use lib.ListN.{length, take, length-append}
-use Rattle.model.specs.Base.{Bytes}
-use Rattle.model.specs.Field.{littleEndian, encodeField, encodeFields}
+use Rattle.basics.specs.Base.{Bytes}
+use Rattle.basics.specs.Field.{littleEndian, encodeField, encodeFields}
 use Rattle.model.specs.Operation.{encodePayload}
 use Rattle.model.specs.Log.{header, entry, appendOperation}
 use Rattle.field.specs.Writing.{written, Writes, field, writtenField}

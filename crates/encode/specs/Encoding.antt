@@ -2,7 +2,7 @@
 use mathlib.Core.Path.{_≡_}
 use Prim.Native.Nat.{ℕ, _+_}
 use lib.ListN.{length}
-use Rattle.model.specs.Base.{Bytes}
+use Rattle.basics.specs.Base.{Bytes}
 use Rattle.field.specs.Writing.{written}
 
 -- 01, Sixteen numbers: "An answer says how many bytes were written; the lent output keeps its bytes behind them." Some bytes written at a place,

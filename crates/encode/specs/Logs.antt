@@ -3,8 +3,8 @@ use mathlib.Core.List.{[], _∷_, _++_}
 use mathlib.Core.Option.{Option, none, some}
 use Prim.Native.Nat.{ℕ, _+_}
 use lib.ListN.{length}
-use Rattle.model.specs.Base.{Bytes, caseOption}
-use Rattle.model.specs.Field.{littleEndian, encodeFields}
+use Rattle.basics.specs.Base.{Bytes, caseOption}
+use Rattle.basics.specs.Field.{littleEndian, encodeFields}
 use Rattle.model.specs.Log.{header, appendOperation}
 use Rattle.model.specs.Image.{logField}
 use Rattle.store.specs.declared.LogRef.{LogRef}

@@ -3,8 +3,8 @@ use mathlib.Core.Path.{_≡_}
 use mathlib.Core.Bool.{Bool}
 use Prim.Native.Nat.{ℕ, _≤_}
 use lib.ListN.{length}
-use Rattle.model.specs.Base.{Bytes}
-use Rattle.model.specs.Field.{encodeField, encodeFields}
+use Rattle.basics.specs.Base.{Bytes}
+use Rattle.basics.specs.Field.{encodeField, encodeFields}
 use Rattle.model.specs.Image.{logField}
 use Rattle.laws.specs.ImageLaws.{listed}
 use Rattle.store.specs.declared.Node.{Node}

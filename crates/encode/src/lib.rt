@@ -5,7 +5,7 @@ ghost use mathlib.Core.List.{_++_, map};
 ghost use mathlib.Core.Option.{some};
 ghost use Prim.Native.Nat.{_+_, _-_, _≤_, _<_};
 ghost use lib.ListN.{length, take, drop};
-ghost use Rattle.model.specs.Field.{littleEndian, encodeField, encodeFields};
+ghost use Rattle.basics.specs.Field.{littleEndian, encodeField, encodeFields};
 ghost use Rattle.model.specs.Log.{header, markCommitting};
 ghost use Rattle.model.specs.Image.{markField, encode};
 ghost use Rattle.laws.specs.ImageLaws.{listed};

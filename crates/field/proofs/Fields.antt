@@ -11,9 +11,9 @@ use lib.Seq.{drop-cons, drop-drop, length-take-le}
 use borrow.Author.Tests.{le-leb, lt-leb}
 use types.Run.{OneOf}
 use denote.Enum.Declared.{tagOf}
-use Rattle.model.specs.Base.{Bytes}
-use Rattle.model.specs.Field.{littleEndian, fromLittleEndian, encodeField, fieldsFrom}
-use Rattle.laws.specs.FieldLaws.{Byte, split-first}
+use Rattle.basics.specs.Base.{Bytes}
+use Rattle.basics.specs.Field.{littleEndian, fromLittleEndian, encodeField, fieldsFrom}
+use Rattle.basic_laws.specs.FieldLaws.{Byte, split-first}
 use Rattle.field.specs.Reading.{u32At, fieldOf, Reads, Stands, Headless, Valueless}
 use Rattle.field.specs.declared.Item.{Item}
 use Rattle.field.specs.declared.Read.{Read}

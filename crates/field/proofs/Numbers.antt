@@ -5,10 +5,10 @@ use Prim.Native.Nat.{ℕ, _+_, _*_, _/_, _%_, _<_}
 use native.Mathlib.Omega.{arith}
 use native.Mathlib.Nat.{div-add-mod'}
 use lib.ListN.{length}
-use Rattle.model.specs.Base.{Bytes}
-use Rattle.model.specs.Field.{littleEndian, fromLittleEndian}
-use Rattle.laws.specs.Tests.{All}
-use Rattle.laws.specs.FieldLaws.{Byte}
+use Rattle.basics.specs.Base.{Bytes}
+use Rattle.basics.specs.Field.{littleEndian, fromLittleEndian}
+use Rattle.basic_laws.specs.Tests.{All}
+use Rattle.basic_laws.specs.FieldLaws.{Byte}
 
 -- The bytes of the number of some bytes are these bytes.
 pub bytes-again : (l : Bytes) → All Byte l → littleEndian (length l) (fromLittleEndian l) ≡ l

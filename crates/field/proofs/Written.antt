@@ -10,8 +10,8 @@ use lib.ListN.{length, take, drop, getD, set, length-append, length-set}
 use lib.Seq.{take-length, length-take-le, take-append-le, take-take, take-at, drop-at, drop-drop, paste, paste-zero, paste-suc, length-paste, sets, sets-eq}
 use lib.Dec.{leb}
 use borrow.Author.Tests.{le-leb, lt-leb, leb-true, leb-false}
-use Rattle.model.specs.Base.{Bytes, if_then_else_}
-use Rattle.model.specs.Field.{littleEndian, Field, encodeField}
+use Rattle.basics.specs.Base.{Bytes, if_then_else_}
+use Rattle.basics.specs.Field.{littleEndian, Field, encodeField}
 use Rattle.field.specs.Writing.{written, field, writtenField}
 
 -- With room: the bytes before, those written, the bytes behind.

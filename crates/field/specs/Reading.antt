@@ -6,8 +6,8 @@ use mathlib.Core.List.{[], _∷_, _++_}
 use mathlib.Core.Option.{none, some}
 use lib.ListN.{length, take, drop}
 use lib.Dec.{leb}
-use Rattle.model.specs.Base.{Bytes, caseOption, if_then_else_}
-use Rattle.model.specs.Field.{Field, fromLittleEndian, encodeField, fieldsFrom}
+use Rattle.basics.specs.Base.{Bytes, caseOption, if_then_else_}
+use Rattle.basics.specs.Field.{Field, fromLittleEndian, encodeField, fieldsFrom}
 use Rattle.field.specs.declared.Item.{Item}
 use Rattle.field.specs.declared.Read.{Read}
 use Rattle.field.specs.declared.Read.the-variants.{Is, NoHeader, NoValue}

@@ -4,8 +4,8 @@ use Prim.Native.Nat.{ℕ, _+_}
 use lib.ListN.{length}
 use lib.Seq.{paste}
 use lib.Dec.{leb}
-use Rattle.model.specs.Base.{Bytes, if_then_else_}
-use Rattle.model.specs.Field.{Field, encodeField}
+use Rattle.basics.specs.Base.{Bytes, if_then_else_}
+use Rattle.basics.specs.Field.{Field, encodeField}
 
 -- The lent bytes after some bytes are written at a place; where they have no room nothing changes.
 unfoldable pub written : ℕ → Bytes → Bytes → Bytes

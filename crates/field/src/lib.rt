@@ -3,7 +3,7 @@
 ghost use mathlib.Core.Path.{_≡_};
 ghost use mathlib.Core.List.{[], _∷_};
 ghost use Prim.Native.Nat.{_-_};
-ghost use Rattle.model.specs.Field.{littleEndian, fromLittleEndian};
+ghost use Rattle.basics.specs.Field.{littleEndian, fromLittleEndian};
 ghost use Rattle.field.specs.Writing.{written, field, writtenField};
 ghost use Rattle.field.specs.Reading.{u32At, Reads};
 

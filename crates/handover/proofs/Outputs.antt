@@ -6,14 +6,14 @@ use native.Mathlib.Omega.{arith}
 use lib.ListN.{length}
 use lib.Dec.{eqb}
 use borrow.Author.Tests.{ne-eqb}
-use Rattle.model.specs.Base.{Bytes}
+use Rattle.basics.specs.Base.{Bytes}
 use Rattle.model.specs.Store as model
 use Rattle.model.specs.Image.{encode, decode}
-use Rattle.model.specs.Answers.{Answer, refusal, answer, outcome}
+use Rattle.answers.specs.Answers.{Answer, refusal, answer, outcome}
 use Rattle.laws.specs.ImageLaws.{decode-only}
-use Rattle.laws.specs.ValidNames.{validNaming}
+use Rattle.basic_laws.specs.ValidNames.{validNaming}
 use Rattle.laws.specs.LengthLaws.{encode-length}
-use Rattle.laws.specs.EntryLaws.{lent-good}
+use Rattle.answer_laws.specs.EntryLaws.{lent-good}
 use Rattle.store.specs.Words.{Words}
 use Rattle.store.specs.Stores.{LentStore, storeIn, storeOf}
 use Rattle.decode.specs.Decoding.{Decodes}

@@ -4,8 +4,8 @@ use mathlib.Core.Bool.{Bool, _||_}
 use Prim.Native.Nat.{ℕ}
 use lib.ListN.{length}
 use lib.Dec.{eqb}
-use Rattle.model.specs.Base.{Bytes, if_then_else_}
-use Rattle.model.specs.Answers.{Answer, Pending, overwritten}
+use Rattle.basics.specs.Base.{Bytes, if_then_else_}
+use Rattle.answers.specs.Answers.{Answer, Pending, overwritten}
 
 -- 01, Sixteen numbers: "A refusal gives its number alone; 14 and 15 also hand back the rolled-back image".
 abbrev pub handsBack : ℕ → Bool

@@ -7,11 +7,11 @@ use mathlib.Core.Logic.{inl, inr}
 use Prim.Native.Nat.{ℕ}
 use lib.ListN.{length}
 use lib.Dec.{leb}
-use Rattle.model.specs.Limits.{stagingLimit}
-use Rattle.model.specs.Order.{Name}
-use Rattle.model.specs.Map.{look, put}
-use Rattle.model.specs.Base.{caseOption, if_then_else_, isSome, In}
-use Rattle.model.specs.Name.{validName, lower}
+use Rattle.basics.specs.Limits.{stagingLimit}
+use Rattle.basics.specs.Order.{Name}
+use Rattle.basics.specs.Map.{look, put}
+use Rattle.basics.specs.Base.{caseOption, if_then_else_, isSome, In}
+use Rattle.basics.specs.Name.{validName, lower}
 use Rattle.model.specs.Operation.{Op, write, delete, deleteAll, createCollection, deleteCollection, copyCollection}
 use Rattle.model.specs.Log.{header}
 use Rattle.model.specs.Store.{Store, stagingKey, validNumber}

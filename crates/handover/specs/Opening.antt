@@ -6,13 +6,13 @@ use mathlib.Core.Option.{none, some}
 use Prim.Native.Nat.{ℕ, _≤_}
 use lib.ListN.{length}
 use lib.Dec.{eqb}
-use Rattle.model.specs.Limits.{imageRoom}
-use Rattle.model.specs.Base.{Bytes, if_then_else_}
+use Rattle.basics.specs.Limits.{imageRoom}
+use Rattle.basics.specs.Base.{Bytes, if_then_else_}
 use Rattle.model.specs.Store as model
 use Rattle.model.specs.Image.{encode, decode}
 use Rattle.model.specs.Step.{stepField}
-use Rattle.model.specs.Answers.{Answer, refusal, onImage}
-use Rattle.laws.specs.ValidNames.{Valid}
+use Rattle.answers.specs.Answers.{Answer, refusal, onImage}
+use Rattle.basic_laws.specs.ValidNames.{Valid}
 use Rattle.laws.specs.StoreLaws.{Good}
 use Rattle.store.specs.Words.{Words}
 use Rattle.store.specs.Tables.{tableOf, mapOf}

@@ -5,8 +5,8 @@ use mathlib.Core.Option.{Option, none, some}
 use Prim.Native.Nat.{ℕ}
 use lib.ListN.{length}
 use lib.Dec.{leb}
-use Rattle.model.specs.Limits.{opLimit}
-use Rattle.model.specs.Base.{caseOption, if_then_else_}
+use Rattle.basics.specs.Limits.{opLimit}
+use Rattle.basics.specs.Base.{caseOption, if_then_else_}
 use Rattle.model.specs.Operation.{Op}
 use Rattle.model.specs.Store.{Store}
 use Rattle.model.specs.Record.{Outcome, refuse, transaction, require, recordInto}

@@ -6,11 +6,11 @@ use mathlib.Core.Option.{Option, none, some}
 use Prim.Native.Nat.{ℕ}
 use lib.ListN.{length}
 use lib.Dec.{leb}
-use Rattle.model.specs.Limits.{stagingLimit}
-use Rattle.model.specs.Order.{Name}
-use Rattle.model.specs.Map.{Map, look}
-use Rattle.model.specs.Base.{caseOption, if_then_else_, isSome}
-use Rattle.model.specs.Name.{validName, lower}
+use Rattle.basics.specs.Limits.{stagingLimit}
+use Rattle.basics.specs.Order.{Name}
+use Rattle.basics.specs.Map.{Map, look}
+use Rattle.basics.specs.Base.{caseOption, if_then_else_, isSome}
+use Rattle.basics.specs.Name.{validName, lower}
 use Rattle.model.specs.Operation.{Op}
 use Rattle.model.specs.Log.{header}
 use Rattle.model.specs.Store.{Store, stagingKey, validNumber}

@@ -4,7 +4,7 @@ ghost use mathlib.Core.Bool.{false};
 ghost use Prim.Native.Nat.{_≤_};
 ghost use lib.ListN.{length};
 ghost use Rattle.model.specs.Image.{encode};
-ghost use Rattle.model.specs.Answers.{outcome};
+ghost use Rattle.answers.specs.Answers.{outcome};
 ghost use Rattle.store.specs.Tables.{tableOf, mapOf};
 ghost use Rattle.store.specs.Kept.{Kept};
 ghost use Rattle.store.specs.Stores.{storeIn, storeOf, SoundStore};

@@ -7,17 +7,17 @@ use mathlib.Core.Option.{Option, none, some}
 use mathlib.Core.Bool.{Bool, true, false, _&&_, false≢true}
 use lib.ListN.{length}
 use lib.Dec.{leb, eqb}
-use Rattle.model.specs.Limits.{logLimit, numberLimit}
-use Rattle.model.specs.Order.{Name}
-use Rattle.model.specs.Map.{Map, Node}
-use Rattle.model.specs.Base.{Bytes, caseOption, if_then_else_, ifEmpty, isSome, sameBytes, allOf, anyOf}
-use Rattle.model.specs.Name.{validName}
-use Rattle.model.specs.Field.{littleEndian, Field, encodeFields, decodeFields, hasTag}
+use Rattle.basics.specs.Limits.{logLimit, numberLimit}
+use Rattle.basics.specs.Order.{Name}
+use Rattle.basics.specs.Map.{Map, Node}
+use Rattle.basics.specs.Base.{Bytes, caseOption, if_then_else_, ifEmpty, isSome, sameBytes, allOf, anyOf}
+use Rattle.basics.specs.Name.{validName}
+use Rattle.basics.specs.Field.{littleEndian, Field, encodeFields, decodeFields, hasTag}
 use Rattle.model.specs.Store.{Store, dirs, fileCount, validNumber, validNode, validNodes, validStaged, ascending, wellFormed}
 use Rattle.model.specs.Image.{nodeField, stagedField, logField, markField, imageFields, encode, treeOf, stagingOf, logOf, storeOf, decode}
-use Rattle.laws.specs.Tests.{and-both, and-made, leb-le, eqb-eq, same-eq, same-refl, All, all-append, all-of, all-map}
-use Rattle.laws.specs.ValidNames.{valid-length}
-use Rattle.laws.specs.FieldLaws.{le-four, Short, split-join, encode-append}
+use Rattle.basic_laws.specs.Tests.{and-both, and-made, leb-le, eqb-eq, same-eq, same-refl, All, all-append, all-of, all-map}
+use Rattle.basic_laws.specs.ValidNames.{valid-length}
+use Rattle.basic_laws.specs.FieldLaws.{le-four, Short, split-join, encode-append}
 
 pub number-le : (x : ℕ) → validNumber x ≡ true → x ≤ 4294967295
 number-le x e = leb-le x numberLimit (and-both (leb 1 x) (leb x numberLimit) e .1)

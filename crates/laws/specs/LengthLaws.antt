@@ -7,18 +7,18 @@ use mathlib.Core.Option.{Option, none, some}
 use mathlib.Core.Bool.{Bool, true, false}
 use lib.ListN.{length, take, drop, length-append, length-drop}
 use lib.Seq.{length-take-le}
-use Rattle.model.specs.Limits.{logLimit, imageRoom}
-use Rattle.model.specs.Order.{Name}
-use Rattle.model.specs.Map.{Map}
-use Rattle.laws.specs.MapLaws.{none≢some, some-inj, look-all}
-use Rattle.model.specs.Base.{Bytes, caseOption, ifEmpty, flatMap}
-use Rattle.model.specs.Field.{littleEndian, fromLittleEndian, Field, encodeField, encodeFields, fieldsFrom, decodeFields}
+use Rattle.basics.specs.Limits.{logLimit, imageRoom}
+use Rattle.basics.specs.Order.{Name}
+use Rattle.basics.specs.Map.{Map}
+use Rattle.basic_laws.specs.MapLaws.{none≢some, some-inj, look-all}
+use Rattle.basics.specs.Base.{Bytes, caseOption, ifEmpty, flatMap}
+use Rattle.basics.specs.Field.{littleEndian, fromLittleEndian, Field, encodeField, encodeFields, fieldsFrom, decodeFields}
 use Rattle.model.specs.Operation.{Op, fieldTags, kind, values, tagged, encodePayload, opOfFields, decodePayload}
 use Rattle.model.specs.Log.{whole, truncated, undecodable, tooMany, entry, walk, entries, firstPayload, stop, after, recording, readJournal, appendOperation}
 use Rattle.model.specs.Store.{Store}
 use Rattle.model.specs.Image.{nodeField, stagedField, logField, markField, imageFields, encode}
-use Rattle.laws.specs.Tests.{All, nil≢cons}
-use Rattle.laws.specs.ValidNames.{valid-length, Naming}
+use Rattle.basic_laws.specs.Tests.{All, nil≢cons}
+use Rattle.basic_laws.specs.ValidNames.{valid-length, Naming}
 use Rattle.laws.specs.ImageLaws.{regroup}
 use Rattle.laws.specs.TreeLaws.{NodeGood, size, isFile, isDir, one}
 use Rattle.laws.specs.StoreLaws.{Good, StagedGood, LogFits}

@@ -8,24 +8,24 @@ use mathlib.Core.Bool.{Bool, true, false, not, _&&_, false≢true}
 use mathlib.Core.Logic.{inl, inr}
 use lib.ListN.{length}
 use lib.Dec.{leb, nltb→le}
-use Rattle.model.specs.Order.{Name, Key}
-use Rattle.model.specs.Map.{Map, look, put}
-use Rattle.laws.specs.MapLaws.{key-dec, none≢some, some-inj, look-put-same, look-put-other, sorted-put}
-use Rattle.model.specs.Base.{Bytes, caseOption, if_then_else_, isSome, sameBytes, In}
-use Rattle.model.specs.Name.{validName, lower, originalName, stripTmp}
-use Rattle.model.specs.Field.{littleEndian}
+use Rattle.basics.specs.Order.{Name, Key}
+use Rattle.basics.specs.Map.{Map, look, put}
+use Rattle.basic_laws.specs.MapLaws.{key-dec, none≢some, some-inj, look-put-same, look-put-other, sorted-put}
+use Rattle.basics.specs.Base.{Bytes, caseOption, if_then_else_, isSome, sameBytes, In}
+use Rattle.basics.specs.Name.{validName, lower, originalName, stripTmp}
+use Rattle.basics.specs.Field.{littleEndian}
 use Rattle.model.specs.Operation.{Op, write, delete, deleteAll, createCollection, deleteCollection, copyCollection}
 use Rattle.model.specs.Log.{recording, journal, whole, header, appendOperation}
 use Rattle.model.specs.Store.{Store, files, validNumber}
 use Rattle.model.specs.Step.{renameFile, apply}
 use Rattle.model.specs.Record.{Outcome, refuse, give, transaction, beginTransaction, discard, recordInto, appended, require, hasDir, recordWrite, otherCase, caseRenamed, recordDelete, recordDeleteAll, recordCreate, recordDeleteCollection, recordCopy}
-use Rattle.laws.specs.Tests.{and-both}
+use Rattle.basic_laws.specs.Tests.{and-both}
 use Rattle.laws.specs.TreeLaws.{size, one, length-size, size-put-le}
 use Rattle.laws.specs.StoreLaws.{Staging, StagedGood, LogFits, Good}
 use Rattle.laws.specs.OperationLaws.{ValidOp}
 use Rattle.laws.specs.LengthLaws.{appended-length}
 use Rattle.laws.specs.LogLaws.{found-whole, recorded-stands}
-use Rattle.laws.specs.ValidNames.{Valid, valid-length, validNaming}
+use Rattle.basic_laws.specs.ValidNames.{Valid, valid-length, validNaming}
 use Rattle.laws.specs.Listings.{listed-file}
 use Rattle.laws.specs.StepLaws.{keep-rename}
 

@@ -6,11 +6,11 @@ use mathlib.Core.Option.{Option, none, some}
 use mathlib.Core.Logic.{inl, inr}
 use lib.ListN.{take}
 use lib.Seq.{append-snoc}
-use Rattle.model.specs.Base.{caseOption, In}
+use Rattle.basics.specs.Base.{caseOption, In}
 use Rattle.model.specs.Store.{Store}
 use Rattle.model.specs.Step.{Step, apply, applyAll, Fault, stepFault}
 use Rattle.model.specs.Plan.{inTurn, firstFault, stepsBeforeFault}
-use Rattle.laws.specs.MapLaws.{none≢some}
+use Rattle.basic_laws.specs.MapLaws.{none≢some}
 
 pub applyAll-append : (xs ys : List Step) (s : Store) → applyAll (xs ++ ys) s ≡ applyAll ys (applyAll xs s)
 applyAll-append [] ys s = refl

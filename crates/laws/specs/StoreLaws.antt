@@ -8,20 +8,20 @@ use mathlib.Core.Bool.{true}
 use mathlib.Core.Logic.{_⊎_, inl, inr}
 use lib.ListN.{length, length-drop}
 use lib.Dec.{leb}
-use Rattle.model.specs.Limits.{logLimit}
-use Rattle.model.specs.Order.{Cmp, lt, eq, gt, Name, Key, cmpName, cmpKey}
-use Rattle.laws.specs.OrderLaws.{nameLaws, keyLaws, lt≢eq, gt≢eq}
-use Rattle.model.specs.Order.{caseCmp}
-use Rattle.model.specs.Map.{Map, Node, look, put, del, Has}
-use Rattle.laws.specs.MapLaws.{Sorted, key-dec, none≢some, some-inj, look-head, look-tail, look-put-same, look-put-other, look-del-same, look-del-other, look-del-some, sorted-put, sorted-del, above-none, all-look, look-all}
-use Rattle.model.specs.Base.{Bytes, caseOption, sameBytes}
-use Rattle.model.specs.Name.{validName}
-use Rattle.model.specs.Field.{littleEndian}
+use Rattle.basics.specs.Limits.{logLimit}
+use Rattle.basics.specs.Order.{Cmp, lt, eq, gt, Name, Key, cmpName, cmpKey}
+use Rattle.basic_laws.specs.OrderLaws.{nameLaws, keyLaws, lt≢eq, gt≢eq}
+use Rattle.basics.specs.Order.{caseCmp}
+use Rattle.basics.specs.Map.{Map, Node, look, put, del, Has}
+use Rattle.basic_laws.specs.MapLaws.{Sorted, key-dec, none≢some, some-inj, look-head, look-tail, look-put-same, look-put-other, look-del-same, look-del-other, look-del-some, sorted-put, sorted-del, above-none, all-look, look-all}
+use Rattle.basics.specs.Base.{Bytes, caseOption, sameBytes}
+use Rattle.basics.specs.Name.{validName}
+use Rattle.basics.specs.Field.{littleEndian}
 use Rattle.model.specs.Log.{header, markCommitting}
 use Rattle.model.specs.Store.{Store, dirs, fileCount, validNumber, validStaged, wellFormed}
 use Rattle.model.specs.Step.{removeDir, renameDir, marked}
-use Rattle.laws.specs.Tests.{and-made, leb-le, le-leb, All, all-of, of-all, all-imp}
-use Rattle.laws.specs.ValidNames.{Valid}
+use Rattle.basic_laws.specs.Tests.{and-made, leb-le, le-leb, All, all-of, of-all, all-imp}
+use Rattle.basic_laws.specs.ValidNames.{Valid}
 use Rattle.laws.specs.ImageLaws.{parts, of-parts, staged-parts}
 use Rattle.laws.specs.TreeLaws.{NodeGood, nodes-good, good-nodes, ascending-sorted, sorted-ascending, size, isFile, isDir, one, file-size, dir-size, length-size, size-put-le, size-del-le, size-del-has}
 

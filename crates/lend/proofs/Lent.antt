@@ -6,11 +6,11 @@ use Prim.Native.Nat.{ℕ, _+_, _-_, _≤_, _<_}
 use native.Mathlib.Omega.{arith}
 use lib.ListN.{length, take, drop, length-append}
 use lib.Seq.{length-take-le, take-at, drop-at, take-append-le, take-length, drop-append-le}
-use Rattle.model.specs.Limits.{nameLimit}
-use Rattle.model.specs.Order.{Name}
-use Rattle.model.specs.Base.{Bytes}
-use Rattle.model.specs.Name.{validName, lower}
-use Rattle.laws.specs.ValidNames.{valid-length}
+use Rattle.basics.specs.Limits.{nameLimit}
+use Rattle.basics.specs.Order.{Name}
+use Rattle.basics.specs.Base.{Bytes}
+use Rattle.basics.specs.Name.{validName, lower}
+use Rattle.basic_laws.specs.ValidNames.{valid-length}
 use Rattle.spans.specs.Spans.{Names}
 use Rattle.spans.specs.declared.NameRef.{NameRef}
 use Rattle.field.specs.Writing.{written}

@@ -3,10 +3,10 @@ use mathlib.Core.Path.{_≡_}
 use mathlib.Core.Bool.{true}
 use Prim.Native.Nat.{ℕ, _+_, _≤_}
 use lib.ListN.{length, take}
-use Rattle.model.specs.Limits.{nameLimit}
-use Rattle.model.specs.Order.{Name}
-use Rattle.model.specs.Base.{Bytes}
-use Rattle.model.specs.Name.{validName}
+use Rattle.basics.specs.Limits.{nameLimit}
+use Rattle.basics.specs.Order.{Name}
+use Rattle.basics.specs.Base.{Bytes}
+use Rattle.basics.specs.Name.{validName}
 use Rattle.spans.specs.Spans.{Names}
 use Rattle.lend.specs.declared.Named.{Named}
 

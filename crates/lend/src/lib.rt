@@ -3,8 +3,8 @@ ghost use mathlib.Core.Path.{_≡_};
 ghost use mathlib.Core.Bool.{false};
 ghost use Prim.Native.Nat.{_+_, _≤_, _<_};
 ghost use lib.ListN.{length};
-ghost use Rattle.model.specs.Limits.{nameLimit};
-ghost use Rattle.model.specs.Name.{lower};
+ghost use Rattle.basics.specs.Limits.{nameLimit};
+ghost use Rattle.basics.specs.Name.{lower};
 ghost use Rattle.lend.specs.Lending.{Lends};
 use spans::NameRef;
 

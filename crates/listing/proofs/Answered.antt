@@ -7,17 +7,17 @@ use Prim.Native.Nat.{ℕ, _≤_, _<_}
 use native.Mathlib.Omega.{arith}
 use lib.ListN.{length}
 use lib.Seq.{append-snoc}
-use Rattle.model.specs.Limits.{imageRoom}
-use Rattle.model.specs.Base.{Bytes, flatMap}
+use Rattle.basics.specs.Limits.{imageRoom}
+use Rattle.basics.specs.Base.{Bytes, flatMap}
 use Rattle.model.specs.Log.{journal}
 use Rattle.model.specs.Store as model
 use Rattle.model.specs.Image.{decode}
 use Rattle.model.specs.Plan.{recoverFault, recovered}
-use Rattle.model.specs.Answers.{recoverStore, recover, decimal, listingLine, listing}
-use Rattle.laws.specs.ValidNames.{validNaming}
+use Rattle.answers.specs.Answers.{recoverStore, recover, decimal, listingLine, listing}
+use Rattle.basic_laws.specs.ValidNames.{validNaming}
 use Rattle.laws.specs.ImageLaws.{decode-only}
 use Rattle.laws.specs.LengthLaws.{encode-length}
-use Rattle.laws.specs.EntryLaws.{lent-good, on-recover}
+use Rattle.answer_laws.specs.EntryLaws.{lent-good, on-recover}
 use Rattle.store.specs.Words.{Words}
 use Rattle.store.specs.Tables.{Table, tableOf, mapOf, Holds}
 use Rattle.store.specs.Stores.{storeIn, storeOf}

@@ -4,8 +4,8 @@ use mathlib.Core.List.{[], _++_}
 use Prim.Native.Nat.{ℕ, _+_, _*_, _≤_, _<_}
 use native.Mathlib.Omega.{arith}
 use lib.ListN.{length, drop, getD, length-append}
-use Rattle.model.specs.Base.{Bytes}
-use Rattle.model.specs.Answers.{listingLine}
+use Rattle.basics.specs.Base.{Bytes}
+use Rattle.answers.specs.Answers.{listingLine}
 use Rattle.store.specs.declared.Node.{Node}
 use Rattle.store.specs.Words.{blank}
 use Rattle.store.specs.Tables.{Table, nodeOf, mapOf, Sized, SoundTable}

@@ -9,8 +9,8 @@ use lib.ListN.{length, take, drop, set, length-append, length-set}
 use lib.Seq.{length-take-le, append-snoc, set-split, take-set-le, drop-at}
 use lib.Dec.{leb}
 use borrow.Author.Tests.{le-leb, lt-leb, leb-true, leb-false}
-use Rattle.model.specs.Base.{Bytes}
-use Rattle.model.specs.Answers.{decimal}
+use Rattle.basics.specs.Base.{Bytes}
+use Rattle.answers.specs.Answers.{decimal}
 use Rattle.field.specs.Writing.{written}
 use Rattle.field.proofs.Written.{written-room, written-nil}
 use Rattle.listing.specs.Lines.{Digits}

@@ -4,8 +4,8 @@ use Prim.Native.Nat.{ℕ, _+_, _≤_, _<_}
 use native.Mathlib.Omega.{arith}
 use lib.ListN.{length, getD, length-append}
 use borrow.Author.Tests.{le-leb, lt-leb}
-use Rattle.model.specs.Base.{Bytes}
-use Rattle.model.specs.Answers.{listingLine}
+use Rattle.basics.specs.Base.{Bytes}
+use Rattle.answers.specs.Answers.{listingLine}
 use Rattle.field.specs.Writing.{written}
 use Rattle.field.proofs.Written.{written-full, written-nil, length-written, written-written, written-then}
 use Rattle.store.specs.declared.Node.{Node}

@@ -5,10 +5,10 @@ use Prim.Native.Nat.{ℕ, _+_, _≤_, _<_}
 use native.Mathlib.Omega.{arith}
 use lib.ListN.{length, length-append}
 use lib.Seq.{append-snoc}
-use Rattle.model.specs.Order.{Name}
-use Rattle.model.specs.Map as model
-use Rattle.model.specs.Base.{Bytes, ifEmpty}
-use Rattle.model.specs.Answers.{decimal, listingLine}
+use Rattle.basics.specs.Order.{Name}
+use Rattle.basics.specs.Map as model
+use Rattle.basics.specs.Base.{Bytes, ifEmpty}
+use Rattle.answers.specs.Answers.{decimal, listingLine}
 use Rattle.field.specs.Writing.{written}
 use Rattle.field.proofs.Written.{length-written, written-then}
 use Rattle.spans.specs.Spans.{nameOf, lengthOf}

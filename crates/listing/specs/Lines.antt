@@ -3,9 +3,9 @@ use mathlib.Core.Path.{_≡_}
 use mathlib.Core.List.{[], _∷_, _++_}
 use Prim.Native.Nat.{ℕ, _*_, _≤_}
 use lib.ListN.{length}
-use Rattle.model.specs.Map.{Map}
-use Rattle.model.specs.Base.{Bytes, flatMap}
-use Rattle.model.specs.Answers.{decimal, listingLine}
+use Rattle.basics.specs.Map.{Map}
+use Rattle.basics.specs.Base.{Bytes, flatMap}
+use Rattle.answers.specs.Answers.{decimal, listingLine}
 use Rattle.store.specs.declared.Node.{Node}
 use Rattle.store.specs.Places.{tableRoom}
 use Rattle.store.specs.Tables.{Table, nodeOf, mapOf, SoundNode, SoundTable}

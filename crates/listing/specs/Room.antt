@@ -8,22 +8,22 @@ use Prim.Native.Nat.{ℕ, zero, suc, _+_, _*_, _/_, _%_, _≤_}
 use native.Mathlib.Omega.{arith}
 use lib.ListN.{length, drop, length-append}
 use lib.Dec.{leb}
-use Rattle.model.specs.Limits.{imageRoom}
-use Rattle.model.specs.Order.{Name}
-use Rattle.model.specs.Map.{Map}
-use Rattle.model.specs.Base.{Bytes, caseOption, if_then_else_, ifEmpty, flatMap}
+use Rattle.basics.specs.Limits.{imageRoom}
+use Rattle.basics.specs.Order.{Name}
+use Rattle.basics.specs.Map.{Map}
+use Rattle.basics.specs.Base.{Bytes, caseOption, if_then_else_, ifEmpty, flatMap}
 use Rattle.model.specs.Log.{journal}
 use Rattle.model.specs.Store.{Store}
 use Rattle.model.specs.Image.{decode}
 use Rattle.model.specs.Plan.{recoverFault, recovered}
-use Rattle.model.specs.Answers.{recoverStore, recover, decimal, listingLine, listing}
-use Rattle.laws.specs.Tests.{nil≢cons, leb-le, All}
-use Rattle.laws.specs.MapLaws.{look-all}
-use Rattle.laws.specs.ValidNames.{Naming, restoredNaming}
+use Rattle.answers.specs.Answers.{recoverStore, recover, decimal, listingLine, listing}
+use Rattle.basic_laws.specs.Tests.{nil≢cons, leb-le, All}
+use Rattle.basic_laws.specs.MapLaws.{look-all}
+use Rattle.basic_laws.specs.ValidNames.{Naming, restoredNaming}
 use Rattle.laws.specs.TreeLaws.{NodeGood, size, isFile, isDir}
 use Rattle.laws.specs.StoreLaws.{Tree}
 use Rattle.laws.specs.WellFormed.{recover-keeps, recovered-keeps}
-use Rattle.laws.specs.EntryLaws.{lent-good}
+use Rattle.answer_laws.specs.EntryLaws.{lent-good}
 use Rattle.field.proofs.Written.{length-written}
 use Rattle.listing.specs.Writing.{writtenCount, Writes, in-room}
 

@@ -5,7 +5,7 @@ use Prim.Native.Nat.{ℕ, _≤_}
 use lib.ListN.{length, drop}
 use lib.Dec.{leb}
 use borrow.Author.Tests.{le-leb}
-use Rattle.model.specs.Base.{Bytes, if_then_else_}
+use Rattle.basics.specs.Base.{Bytes, if_then_else_}
 use Rattle.field.specs.Writing.{written}
 use Rattle.field.proofs.Written.{written-front}
 

@@ -2,7 +2,7 @@
 ghost use mathlib.Core.Path.{_≡_};
 ghost use Prim.Native.Nat.{_+_, _%_, _≤_};
 ghost use lib.ListN.{length};
-ghost use Rattle.model.specs.Answers.{decimal, listingLine, listing};
+ghost use Rattle.answers.specs.Answers.{decimal, listingLine, listing};
 ghost use Rattle.field.specs.Writing.{written};
 ghost use Rattle.store.specs.Tables.{tableOf, nodeOf, mapOf, SoundNode, Sized, SoundTable};
 ghost use Rattle.listing.specs.Writing.{Writes};

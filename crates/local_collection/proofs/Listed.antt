@@ -6,11 +6,11 @@ use mathlib.Core.Bool.{Bool, true, false, not, _&&_, _||_}
 use Prim.Native.Nat.{ℕ, _+_, _*_, _≤_, _<_}
 use native.Mathlib.Omega.{arith}
 use lib.ListN.{length, drop, getD, length-append}
-use Rattle.model.specs.Order.{Name}
-use Rattle.model.specs.Map.{Map}
-use Rattle.model.specs.Base.{Bytes, if_then_else_, sameBytes}
-use Rattle.model.specs.Name.{lower, isBackup, isTmp}
-use Rattle.model.specs.Field.{encodeField}
+use Rattle.basics.specs.Order.{Name}
+use Rattle.basics.specs.Map.{Map}
+use Rattle.basics.specs.Base.{Bytes, if_then_else_, sameBytes}
+use Rattle.basics.specs.Name.{lower, isBackup, isTmp}
+use Rattle.basics.specs.Field.{encodeField}
 use Rattle.model.specs.Store.{Store, files}
 use Rattle.model.specs.Record.{otherCase, keyList}
 use Rattle.field.specs.Writing.{written, Writes, field}

@@ -6,10 +6,10 @@ use Prim.Native.Nat.{ℕ, _+_, _-_, _≤_, _<_}
 use native.Mathlib.Omega.{arith}
 use lib.ListN.{length, getD, take}
 use lib.Seq.{take-length}
-use Rattle.model.specs.Base.{Bytes, sameBytes}
-use Rattle.model.specs.Name.{lowerByte, lower}
-use Rattle.model.specs.Field.{littleEndian, encodeField}
-use Rattle.laws.specs.Tests.{same-eq, same-refl}
+use Rattle.basics.specs.Base.{Bytes, sameBytes}
+use Rattle.basics.specs.Name.{lowerByte, lower}
+use Rattle.basics.specs.Field.{littleEndian, encodeField}
+use Rattle.basic_laws.specs.Tests.{same-eq, same-refl}
 use Rattle.field.specs.Writing.{written, field}
 use Rattle.field.proofs.Written.{written-none, encoded-length, field-short, field-written}
 use Rattle.paths.proofs.Prefix.{Agree, agree, next}

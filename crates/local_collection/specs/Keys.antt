@@ -5,11 +5,11 @@ use mathlib.Core.List.{List, []}
 use mathlib.Core.Option.{Option, none, some}
 use mathlib.Core.Bool.{Bool, not, _&&_, _||_}
 use lib.ListN.{length}
-use Rattle.model.specs.Order.{Name}
-use Rattle.model.specs.Map.{Map}
-use Rattle.model.specs.Base.{Bytes, if_then_else_, flatMap}
-use Rattle.model.specs.Name.{lower, isBackup, isTmp}
-use Rattle.model.specs.Field.{encodeField}
+use Rattle.basics.specs.Order.{Name}
+use Rattle.basics.specs.Map.{Map}
+use Rattle.basics.specs.Base.{Bytes, if_then_else_, flatMap}
+use Rattle.basics.specs.Name.{lower, isBackup, isTmp}
+use Rattle.basics.specs.Field.{encodeField}
 use Rattle.model.specs.Store.{files}
 use Rattle.model.specs.Record.{otherCase, caseRenamed}
 use Rattle.field.specs.Writing.{written, field}

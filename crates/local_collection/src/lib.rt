@@ -2,8 +2,8 @@
 ghost use mathlib.Core.Path.{_≡_};
 ghost use Prim.Native.Nat.{_≤_};
 ghost use lib.ListN.{length};
-ghost use Rattle.model.specs.Base.{sameBytes};
-ghost use Rattle.model.specs.Name.{lower};
+ghost use Rattle.basics.specs.Base.{sameBytes};
+ghost use Rattle.basics.specs.Name.{lower};
 ghost use Rattle.model.specs.Store.{files};
 ghost use Rattle.field.specs.Writing.{written, Writes};
 ghost use Rattle.spans.specs.Spans.{nameOf, Sound};

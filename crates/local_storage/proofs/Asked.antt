@@ -2,12 +2,12 @@
 use mathlib.Core.Path.{_≡_, sym, _∙_}
 use mathlib.Core.Bool.{Bool, true}
 use borrow.Author.Tests.{ne-eqb}
-use Rattle.model.specs.Order.{Name}
-use Rattle.model.specs.Base.{Bytes}
-use Rattle.model.specs.Name.{validName, lower}
+use Rattle.basics.specs.Order.{Name}
+use Rattle.basics.specs.Base.{Bytes}
+use Rattle.basics.specs.Name.{validName, lower}
 use Rattle.model.specs.Record.{Outcome, refuse}
-use Rattle.laws.specs.Tests.{and-both}
-use Rattle.laws.specs.ValidNames.{valid-named}
+use Rattle.basic_laws.specs.Tests.{and-both}
+use Rattle.basic_laws.specs.ValidNames.{valid-named}
 use Rattle.spans.specs.Spans.{Sound, Names}
 use Rattle.spans.specs.declared.NameRef.{NameRef}
 use Rattle.store.specs.Words.{Words}

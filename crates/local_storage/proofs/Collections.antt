@@ -4,9 +4,9 @@ use mathlib.Core.Bool.{Bool, true, false, not}
 use Prim.Native.Nat.{ℕ}
 use native.Mathlib.Omega.{arith}
 use borrow.Author.Tests.{not-true, not-false}
-use Rattle.model.specs.Order.{Name}
-use Rattle.model.specs.Base.{Bytes}
-use Rattle.model.specs.Name.{validName}
+use Rattle.basics.specs.Order.{Name}
+use Rattle.basics.specs.Base.{Bytes}
+use Rattle.basics.specs.Name.{validName}
 use Rattle.model.specs.Operation.{deleteAll, createCollection, deleteCollection}
 use Rattle.model.specs.Store as model
 use Rattle.model.specs.Record.{give, appended, hasDir, recordDeleteAll, recordCreate, recordDeleteCollection, recordCopy}

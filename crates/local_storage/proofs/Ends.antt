@@ -2,7 +2,7 @@
 use mathlib.Core.Path.{_≡_, refl}
 use mathlib.Core.Bool.{true, false, not}
 use native.Mathlib.Omega.{arith}
-use Rattle.model.specs.Base.{Bytes}
+use Rattle.basics.specs.Base.{Bytes}
 use Rattle.model.specs.Record.{beginTransaction, discard}
 use Rattle.store.specs.Words.{Words}
 use Rattle.store.specs.Tables.{Table, mapOf, SoundTable}

@@ -6,7 +6,7 @@ use Prim.Native.Nat.{ℕ}
 use lib.ListN.{length}
 use lib.Dec.{leb, eqb}
 use borrow.Author.Tests.{eqb-true, eqb-false}
-use Rattle.model.specs.Base.{Bytes}
+use Rattle.basics.specs.Base.{Bytes}
 use Rattle.model.specs.Log.{journal, opsOf}
 use Rattle.model.specs.Step.{apply}
 use Rattle.model.specs.Plan.{commitPlan, committedAt}

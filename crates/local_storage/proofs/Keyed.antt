@@ -6,16 +6,16 @@ use Prim.Native.Nat.{ℕ}
 use native.Mathlib.Omega.{arith}
 use lib.ListN.{length}
 use borrow.Author.Tests.{not-true, not-false}
-use Rattle.model.specs.Order.{Name}
-use Rattle.model.specs.Base.{Bytes, caseOption, isSome}
-use Rattle.model.specs.Map.{Map, look, put, del}
-use Rattle.model.specs.Name.{lower}
+use Rattle.basics.specs.Order.{Name}
+use Rattle.basics.specs.Base.{Bytes, caseOption, isSome}
+use Rattle.basics.specs.Map.{Map, look, put, del}
+use Rattle.basics.specs.Name.{lower}
 use Rattle.model.specs.Operation.{write}
 use Rattle.model.specs.Store as model
 use Rattle.model.specs.Store.{files}
 use Rattle.model.specs.Step.{renameFile, apply, withTree}
 use Rattle.model.specs.Record.{give, appended, otherCase, caseRenamed, recordWrite, recordDelete}
-use Rattle.laws.specs.MapLaws.{look-put-same}
+use Rattle.basic_laws.specs.MapLaws.{look-put-same}
 use Rattle.spans.specs.Spans.{nameOf}
 use Rattle.spans.specs.declared.NameRef.{NameRef}
 use Rattle.store.specs.Words.{Words}

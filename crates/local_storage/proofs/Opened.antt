@@ -8,10 +8,10 @@ use native.Mathlib.Omega.{arith}
 use lib.ListN.{length, take, drop, getD, length-map}
 use lib.Seq.{length-take-le}
 use borrow.Author.Tests.{not-true, not-false, le-leb, lt-leb}
-use Rattle.model.specs.Base.{Bytes, if_then_else_}
+use Rattle.basics.specs.Base.{Bytes, if_then_else_}
 use Rattle.model.specs.Operation.{Op}
 use Rattle.model.specs.Log.{Journal, absent, recording, committing, journal, readJournal, byStatus, validHeader, Entries, entries}
-use Rattle.model.specs.Map.{Map}
+use Rattle.basics.specs.Map.{Map}
 use Rattle.model.specs.Store as model
 use Rattle.model.specs.Record.{transaction, recordedOps}
 use Rattle.store.specs.Stores.{logBytes}

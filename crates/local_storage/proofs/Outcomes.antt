@@ -4,9 +4,9 @@ use mathlib.Core.List.{[]}
 use mathlib.Core.Bool.{Bool, true, false}
 use Prim.Native.Nat.{ℕ}
 use borrow.Author.Tests.{ne-eqb}
-use Rattle.model.specs.Base.{Bytes, isSome}
-use Rattle.model.specs.Map.{Map, look}
-use Rattle.model.specs.Order.{Name}
+use Rattle.basics.specs.Base.{Bytes, isSome}
+use Rattle.basics.specs.Map.{Map, look}
+use Rattle.basics.specs.Order.{Name}
 use Rattle.model.specs.Store as model
 use Rattle.model.specs.Record.{Outcome, refuse, give, require, recordInto, appended}
 use Rattle.spans.specs.Spans.{nameOf, Names}

@@ -7,12 +7,12 @@ use native.Mathlib.Omega.{arith}
 use lib.ListN.{length}
 use lib.Dec.{leb}
 use borrow.Author.Tests.{le-leb, lt-leb, leb-false, not-true}
-use Rattle.model.specs.Limits.{stagingLimit, numberLimit}
-use Rattle.model.specs.Order.{Name}
-use Rattle.model.specs.Map.{Map, look}
-use Rattle.model.specs.Base.{Bytes, isSome}
+use Rattle.basics.specs.Limits.{stagingLimit, numberLimit}
+use Rattle.basics.specs.Order.{Name}
+use Rattle.basics.specs.Map.{Map, look}
+use Rattle.basics.specs.Base.{Bytes, isSome}
 use Rattle.model.specs.Store.{stagingKey, validNumber}
-use Rattle.laws.specs.Tests.{and-both}
+use Rattle.basic_laws.specs.Tests.{and-both}
 use Rattle.spans.specs.Spans.{Sound, Names}
 use Rattle.spans.specs.declared.NameRef.{NameRef}
 use Rattle.store.specs.Places.{tableRoom, putIn}

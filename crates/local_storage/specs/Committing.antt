@@ -4,11 +4,10 @@ use mathlib.Core.Bool.{Bool, true, false}
 use Prim.Native.Nat.{ℕ, suc, _≤_}
 use lib.ListN.{length}
 use lib.Dec.{leb, eqb}
-use Rattle.model.specs.Base.{Bytes, isSome}
-use Rattle.model.specs.Step.{stepField}
+use Rattle.basics.specs.Base.{Bytes, isSome}
+use Rattle.model.specs.Step.{stepField, commitNumber, fieldAt}
 use Rattle.model.specs.Plan.{commitFault, commitPlan, committedAt}
 use Rattle.model.specs.Record.{transaction}
-use Rattle.model.specs.Answers.{commitNumber, fieldAt}
 use Rattle.store.specs.Words.{Words}
 use Rattle.store.specs.Stores.{LentStore, storeIn, storeOf, SoundStore}
 use Rattle.steps.specs.Steps.{stepOf, SoundStep}

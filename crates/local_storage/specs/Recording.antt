@@ -6,11 +6,11 @@ use mathlib.Core.Option.{Option, none, some}
 use mathlib.Core.Bool.{Bool, true, false, not, _&&_}
 use lib.ListN.{length}
 use lib.Dec.{leb, eqb}
-use Rattle.model.specs.Limits.{stagingLimit}
-use Rattle.model.specs.Order.{Name}
-use Rattle.model.specs.Map.{Map, look, put}
-use Rattle.model.specs.Base.{Bytes, if_then_else_, isSome}
-use Rattle.model.specs.Name.{validName, lower}
+use Rattle.basics.specs.Limits.{stagingLimit}
+use Rattle.basics.specs.Order.{Name}
+use Rattle.basics.specs.Map.{Map, look, put}
+use Rattle.basics.specs.Base.{Bytes, if_then_else_, isSome}
+use Rattle.basics.specs.Name.{validName, lower}
 use Rattle.model.specs.Operation.{Op}
 use Rattle.model.specs.Log.{Journal, absent, recording, committing}
 use Rattle.model.specs.Store as model

@@ -2,7 +2,7 @@
 ghost use mathlib.Core.Path.{_≡_};
 ghost use mathlib.Core.Bool.{true};
 ghost use Prim.Native.Nat.{_<_};
-ghost use Rattle.model.specs.Order.{Name};
+ghost use Rattle.basics.specs.Order.{Name};
 ghost use Rattle.model.specs.Record.{recordWrite, recordDelete, recordDeleteAll};
 ghost use Rattle.spans.specs.Spans.{nameOf, Sound};
 ghost use Rattle.store.specs.Words.{Words};

@@ -3,8 +3,8 @@
 ghost use mathlib.Core.Path.{_≡_};
 ghost use mathlib.Core.Bool.{true, false, _&&_};
 ghost use Prim.Native.Nat.{_<_};
-ghost use Rattle.model.specs.Order.{Name};
-ghost use Rattle.model.specs.Base.{Bytes};
+ghost use Rattle.basics.specs.Order.{Name};
+ghost use Rattle.basics.specs.Base.{Bytes};
 ghost use Rattle.model.specs.Log.{journal};
 ghost use Rattle.model.specs.Record.{hasDir, beginTransaction, discard, recordCreate, recordDeleteCollection, recordCopy};
 ghost use Rattle.spans.specs.Spans.{nameOf, Sound};

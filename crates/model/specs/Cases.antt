@@ -1,57 +1,27 @@
 -- The worked cases of document 01, computed: each row's name, what the definitions compute, and what 01 says. [P] as in 01. Rows that begin with
--- 02 are of document 02's requests.
-use mathlib.Core.Path.{_≡_, refl, sym, ap₂, subst}
-use Prim.Native.Nat.{ℕ, zero, suc, _+_, _*_, _-_}
-use Prim.Native.Char.{code}
-use Prim.Native.String as string
+-- 02 are of document 02's requests. What only the exported entries have stands in crate answers, Cases.
+use mathlib.Core.Path.{_≡_, refl}
+use Prim.Native.Nat.{ℕ}
 use Prim.Native.String.{String}
 use mathlib.Core.List.{List, [], _∷_, _++_, map}
 use mathlib.Core.Option.{Option, none, some}
-use mathlib.Core.Bool.{Bool, true, false, _&&_, xor, false≢true}
-use lib.ListN.{length, take, drop}
-use lib.Dec.{T, leb, eqb, eqb→eq}
-use Rattle.model.specs.Limits.{imageRoom, keysRoom, stepRoom}
-use Rattle.model.specs.Order.{Name, cmpKey}
-use Rattle.model.specs.Map.{look, put, del}
-use Rattle.model.specs.Base.{Bytes, caseOption, if_then_else_, isSome, allOf, flatMap}
-use Rattle.model.specs.Name.{lastDot, extension, stripExtension, backupExtension, stagingExtension, backupName, originalName, stripTmp, isBackup, isNameByte, refusedNames, validName, lowerByte, lower}
-use Rattle.model.specs.Crc32.{polynomial, generator, addFront, divide, remainder, bitsOf, ofBits, messageBits, complementFirst, zeros, dividend, ieeeCrc32, crc32, register, feedByte, shifts, shift, addPolynomial}
-use Rattle.model.specs.Field.{littleEndian, fromLittleEndian, encodeField, encodeFields, fieldsFrom, decodeFields, hasTag}
+use mathlib.Core.Bool.{Bool, true, false, _&&_, xor}
+use lib.ListN.{length, take}
+use Rattle.basics.specs.Order.{cmpKey}
+use Rattle.basics.specs.Map.{Map, Node, look, put, del}
+use Rattle.basics.specs.Base.{Bytes, caseOption, isSome, flatMap}
+use Rattle.basics.specs.Name.{lastDot, extension, stripExtension, backupExtension, stagingExtension, backupName, originalName, stripTmp, isBackup, isNameByte, refusedNames, validName, lowerByte, lower}
+use Rattle.basics.specs.Crc32.{polynomial, generator, addFront, divide, remainder, bitsOf, ofBits, messageBits, complementFirst, zeros, dividend, ieeeCrc32, crc32, register, feedByte, shifts, shift, addPolynomial}
+use Rattle.basics.specs.Field.{littleEndian, fromLittleEndian, encodeField, encodeFields, fieldsFrom, decodeFields, hasTag}
+use Rattle.basics.specs.Table.{text, digit, pairs, hex, bit, times, Row, row, equal, agree}
 use Rattle.model.specs.Operation as operation
 use Rattle.model.specs.Operation.{Op, fieldTable, fieldTags, kind, values, tagged, encodePayload, makers, validValue, opOfFields, decodePayload}
 use Rattle.model.specs.Log.{header, entry, validHeader, firstPayload, walk, entries, readJournal, markCommitting, appendOperation, Journal, absent, recording, committing, journal, Ending, whole, truncated, undecodable, tooMany}
-use Rattle.model.specs.Store.{dirs, files, validNode, validNodes, validStaged, ascending, wellFormed, hasBackupFiles, hasPendingWork}
+use Rattle.model.specs.Store.{Store, dirs, files, validNode, validNodes, validStaged, ascending, wellFormed, hasBackupFiles}
 use Rattle.model.specs.Image.{imageFields, encode, treeOf, stagingOf, logOf, storeOf, decode}
-use Rattle.model.specs.Step.{removeDir, renameDir, apply, zeroSeparated, tagAndNames, stepField, stepFault}
-use Rattle.model.specs.Plan.{opSteps, undoSteps, restoreFile, restoreDirectory, removeBackupFile, removeBackupsIn, firstNamings, syncExisting, commitFault, commitPlan, committedAt, isNewArtifact, recoverPlan, recoveredAt, recovered}
-use Rattle.model.specs.Record.{transaction, beginTransaction, discard, recordWrite, otherCase, caseRenamed, recordDelete, recordDeleteAll, recordCreate, recordDeleteCollection, recordCopy, keyList}
-use Rattle.model.specs.Answers.{Answer, Pending, begin, rollback, write, delete, deleteAll, createCollection, deleteCollection, copyCollection, commitStore, commit, recoverStore, recover, commitStep, recoverStep, pending, listKeys, decimal, listingLine, listing}
-
--- Bytes written as text, and as hexadecimal pairs with a space between them.
-text : String → Bytes
-text string.[] = []
-text (string._∷_ c s) = code c ∷ text s
-
-digit : ℕ → ℕ
-digit c = if leb c 0x39 then c - 0x30 else c - 0x37
-
-pairs : Bytes → Bytes
-unfolding digit
-pairs [] = []
-pairs (a ∷ []) = []
-pairs (a ∷ b ∷ []) = (16 * digit a + digit b) ∷ []
-pairs (a ∷ b ∷ space ∷ r) = (16 * digit a + digit b) ∷ pairs r
-
-hex : String → Bytes
-unfolding text pairs
-hex s = pairs (text s)
-
--- Yes and no as 1 and 0; an answer as its number and bytes.
-bit : Bool → Bytes
-bit b = if b then 1 ∷ [] else 0 ∷ []
-
-flat : Answer → Bytes
-flat a = a .number ∷ a .image ++ a .step
+use Rattle.model.specs.Step.{removeDir, renameDir, apply, zeroSeparated, tagAndNames, stepField, fieldAt, stepFault, commitNumber}
+use Rattle.model.specs.Plan.{opSteps, undoSteps, restoreFile, restoreDirectory, removeBackupFile, removeBackupsIn, firstNamings, syncExisting, commitFault, commitPlan, committedAt, isNewArtifact, recoverFault, recoverPlan, recoveredAt, recovered}
+use Rattle.model.specs.Record.{Outcome, refuse, give, transaction, beginTransaction, discard, recordWrite, otherCase, caseRenamed, recordDelete, recordDeleteAll, recordCreate, recordDeleteCollection, recordCopy, keyList}
 
 -- A log by how it is read: "absent", or status, number of operations, and 0 whole, 1 truncated, 11, 12.
 ending : Ending → ℕ
@@ -61,7 +31,7 @@ ending undecodable = 11
 ending tooMany = 12
 
 readAs : Journal → Bytes
-unfolding ending text
+unfolding ending
 readAs absent = text "absent"
 readAs (recording o e) = 0 ∷ length o ∷ ending e ∷ []
 readAs (committing o e) = 1 ∷ length o ∷ ending e ∷ []
@@ -70,223 +40,316 @@ readLog : Bytes → Bytes
 unfolding readAs
 readLog l = readAs (journal (some l))
 
-times : ℕ → Bytes → Bytes
-times zero b = []
-times (suc n) b = b ++ times n b
+-- A directory, a file of it, a staging file; a log of this status and operations.
+dir : String → Node
+dir d = ((text d, []), 0)
 
--- Entries with output enough.
-beginOn : Bytes → Bytes
-beginOn b = begin b imageRoom .image
+file : String → String → ℕ → Node
+file d f x = ((text d, text f), x)
 
-writeOn : Bytes → String → String → String → ℕ → Bytes
-unfolding text
-writeOn b c k staged x = write (text c) (text k) (text staged) x b imageRoom .image
+staged : String → ℕ → Node
+staged f x = (([], text f), x)
 
-stepOn : Bytes → ℕ → Answer
-stepOn b n = commitStep n b imageRoom stepRoom
+appendAll : List Op → Bytes → Bytes
+appendAll [] l = l
+appendAll (o ∷ r) l = appendAll r (appendOperation o l)
 
--- What the listing program writes of the image after n steps of commit.
-listAt : Bytes → ℕ → Bytes
-unfolding stepOn
-listAt b n = listing (stepOn b n .image)
+logged : ℕ → List Op → Option Bytes
+unfolding appendAll
+logged status ops = some (appendAll ops (header status))
 
--- Images: db/a=7; with a Write of 9 to a, staged as s.tmp; and others of 01's corners.
-db7 : Bytes
-unfolding hex
-db7 = hex "10 02 00 64 62 11 05 00 07 00 00 00 61"
+-- A store with nothing else; with a standing log; with a transaction open whose operations these are.
+plain : Map → Store
+plain t = record { tree = t; staging = []; log = none; openMark = false }
 
--- The ten-step case of 01 in an old log, of kind 1; the same as it is recorded now, of kind 7.
-toFile : Option Bool → String → String → Op
-unfolding text
-toFile mark key staged = operation.write (record { collection = text "db"; key = text key; staged = text staged; mark = mark })
+withLog : Map → Option Bytes → Store
+withLog t l = record { tree = t; staging = []; log = l; openMark = false }
 
-tenSteps : Bytes
-unfolding text toFile
-tenSteps = encode record {
-  tree = ((text "db", []), 0) ∷ ((text "db", text "a"), 7) ∷ [];
-  staging = (([], text "s.tmp"), 9) ∷ [];
-  log = some (appendOperation (toFile none "a" "s.tmp") (header 0));
-  openMark = true;
-}
+recorded : Map → Map → List Op → Store
+unfolding logged
+recorded t g ops = record { tree = t; staging = g; log = logged 0 ops; openMark = true }
 
-markedTen : Bytes
-unfolding beginOn writeOn db7
-markedTen = writeOn (beginOn db7) "db" "a" "s.tmp" 9
+-- A Write into collection db of kind 1 (no mark) or 7; into another collection.
+into : Option Bool → String → String → String → Op
+into mark c key f = operation.write (record { collection = text c; key = text key; staged = text f; mark = mark })
 
-twoWrites : Bytes
-unfolding beginOn writeOn db7
-twoWrites = writeOn (writeOn (beginOn db7) "db" "a" "s" 2) "db" "a" "t" 3
+toDb : Option Bool → String → String → Op
+unfolding into
+toDb mark = into mark "db"
 
-writeAndDelete : Bytes
-unfolding text tenSteps
-writeAndDelete = deleteCollection (text "db") tenSteps imageRoom .image
+-- db/a with this number.
+db : ℕ → Map
+unfolding dir file
+db x = dir "db" ∷ file "db" "a" x ∷ []
 
-copyToItself : Bytes
-unfolding text beginOn db7
-copyToItself = copyCollection (text "db") (text "db") (beginOn db7) imageRoom .image
+-- The ten-step case of 01, "db/a=7, Write of 9 to a, staged as s.tmp", in an old log, of kind 1; the same as it is recorded now, of kind 7.
+tenSteps : Store
+unfolding recorded db staged toDb
+tenSteps = recorded (db 7) (staged "s.tmp" 9 ∷ []) (toDb none "a" "s.tmp" ∷ [])
 
-deletedCopied : Bytes
-unfolding text beginOn db7
-deletedCopied = copyCollection (text "db") (text "d") (deleteCollection (text "db") (beginOn db7) imageRoom .image) imageRoom .image
+markedTen : Store
+unfolding recorded db staged toDb
+markedTen = recorded (db 7) (staged "s.tmp" 9 ∷ []) (toDb (some true) "a" "s.tmp" ∷ [])
+
+-- "db/a=1, then Writes of 2 and 3 to a"
+twoWrites : Store
+unfolding recorded db staged toDb
+twoWrites = recorded (db 1) (staged "s" 2 ∷ staged "t" 3 ∷ []) (toDb none "a" "s" ∷ toDb none "a" "t" ∷ [])
+
+-- db/a=1 and one staging file for two Writes: the second one fails. Of kind 1, or marked.
+failingWrite : Option Bool → Option Bool → Store
+unfolding recorded db staged toDb
+failingWrite a b = recorded (db 1) (staged "s" 2 ∷ []) (toDb a "a" "s" ∷ toDb b "b" "s" ∷ [])
+
+-- "Delete collection c, then copy c to another, d", or "to c instead".
+deletedCopied : String → Bool → Store
+unfolding recorded dir file
+deletedCopied d existed = recorded (dir "c" ∷ file "c" "a" 1 ∷ []) [] (operation.deleteCollection (text "c") ∷ operation.copyCollection (text "c") (text d) existed ∷ [])
+
+-- "Write to an existing key of c, then delete collection c"
+writtenDeleted : Store
+unfolding recorded dir file staged into
+writtenDeleted = recorded (dir "c" ∷ file "c" "a" 7 ∷ []) (staged "s" 9 ∷ []) (into none "c" "a" "s" ∷ operation.deleteCollection (text "c") ∷ [])
 
 -- db/a=7 and a Committing log of a Write to a, with one byte behind it.
-truncatedWrite : Option Bool → Bytes
-unfolding text hex toFile
-truncatedWrite mark = encode record {
-  tree = ((text "db", []), 0) ∷ ((text "db", text "a"), 7) ∷ [];
-  staging = [];
-  log = some (appendOperation (toFile mark "a" "s") (header 1) ++ hex "00");
-  openMark = false;
-}
+truncatedWrite : Option Bool → Store
+unfolding withLog db appendAll toDb
+truncatedWrite mark = withLog (db 7) (some (appendAll (toDb mark "a" "s" ∷ []) (header 1) ++ hex "00"))
 
--- db/a=1, staging file s=2, and Writes of s to a and of s to b: of kind 1, or marked.
-failingWrite : Option Bool → Option Bool → Bytes
-unfolding text toFile
-failingWrite a b = encode record {
-  tree = ((text "db", []), 0) ∷ ((text "db", text "a"), 1) ∷ [];
-  staging = (([], text "s"), 2) ∷ [];
-  log = some (appendOperation (toFile b "b" "s") (appendOperation (toFile a "a" "s") (header 0)));
-  openMark = true;
-}
+-- What is answered: the number, and behind 0, 14 and 15 the image.
+outcome : Outcome → Bytes
+outcome (refuse n) = n ∷ []
+outcome (give s) = 0 ∷ encode s
 
-upperK : Bytes
-unfolding hex
-upperK = hex "10 02 00 64 62 11 05 00 07 00 00 00 4B"
+done : Map → Bytes
+unfolding plain
+done t = 0 ∷ encode (plain t)
 
-kDeleted : Bytes
-unfolding text beginOn upperK
-kDeleted = delete (text "db") (text "K") (beginOn upperK) imageRoom .image
+commits : Store → Bytes
+commits s = commitNumber (commitFault s) ∷ encode (committedAt (length (commitPlan s)) s)
 
-bakBak : Bytes
-unfolding hex
-bakBak = hex "10 02 00 64 62 11 0D 00 01 00 00 00 2E 2E 62 61 6B 2E 62 61 6B 13 08 00 CA 01 00 00 AD 1D CB 07"
+recovers : Store → Bytes
+recovers s = caseOption (recoverFault (journal (s .log)) (s .tree)) (0 ∷ encode (recovered s)) (λ n. n ∷ [])
 
-dotBak : Bytes
-unfolding hex
-dotBak = hex "10 02 00 64 62 11 09 00 01 00 00 00 2E 2E 62 61 6B"
+-- Recovery after n steps of commit; after n steps and m of a recovery that is cut.
+cutAt : Store → ℕ → Bytes
+unfolding recovers
+cutAt s n = recovers (committedAt n s)
 
-record Row : Type 0 where
-  what : String
-  computed : Bytes
-  stated : Bytes
+cutAgain : Store → ℕ → ℕ → Bytes
+unfolding recovers
+cutAgain s n m = recovers (recoveredAt m (committedAt n s))
 
-row : String → Bytes → Bytes → Row
-row w c s = record { what = w; computed = c; stated = s }
+-- The field of step n of commit.
+stepAt : Store → ℕ → Bytes
+stepAt s n = fieldAt n (commitPlan s)
 
-table : List Row
-unfolding text hex row bit flat readLog times failingWrite db7 tenSteps markedTen truncatedWrite twoWrites writeAndDelete copyToItself deletedCopied upperK kDeleted bakBak dotBak
-table =
-    row "an empty name is refused [P]" (bit (validName [])) (hex "00")
-    ∷ row "a.bak is a backup [P]" (bit (isBackup (text "a.bak"))) (hex "01")
-    ∷ row ".bak has no extension [P]" (bit (isSome (extension (text ".bak")))) (hex "00")
-    ∷ row "a.BAK isn't a backup" (bit (isBackup (text "a.BAK"))) (hex "00")
-    ∷ row "..a is accepted" (bit (validName (text "..a"))) (hex "01")
-    ∷ row "..bak is refused" (bit (validName (text "..bak"))) (hex "00")
-    ∷ row "...bak is refused" (bit (validName (text "...bak"))) (hex "00")
-    ∷ row "64 bytes are accepted" (bit (validName (times 64 (text "x")))) (hex "01")
-    ∷ row "65 bytes are refused" (bit (validName (times 65 (text "x")))) (hex "00")
-    ∷ row "CRC-32 of 123456789 by the register: the published check value" (littleEndian 4 (crc32 (text "123456789"))) (hex "26 39 F4 CB")
-    ∷ row "CRC-32 of 123456789 by IEEE 802.3's division" (littleEndian 4 (ieeeCrc32 (text "123456789"))) (hex "26 39 F4 CB")
-    ∷ row "a log of 0 bytes: as if absent [P]" (readLog (take 0 (header 0))) (text "absent")
-    ∷ row "a log of 1 byte: as if absent [P]" (readLog (take 1 (header 0))) (text "absent")
-    ∷ row "a log of 2 bytes: as if absent [P]" (readLog (take 2 (header 0))) (text "absent")
-    ∷ row "a log of 3 bytes: as if absent [P]" (readLog (take 3 (header 0))) (text "absent")
-    ∷ row "a log of 4 bytes: as if absent [P]" (readLog (take 4 (header 0))) (text "absent")
-    ∷ row "a log of 5 bytes: as if absent [P]" (readLog (take 5 (header 0))) (text "absent")
-    ∷ row "a log of 6 bytes: as if absent [P]" (readLog (take 6 (header 0))) (text "absent")
-    ∷ row "a log of 7 bytes: as if absent [P]" (readLog (take 7 (header 0))) (text "absent")
-    ∷ row "status 0x02: as if absent" (readLog (header 2)) (text "absent")
-    ∷ row "a valid header alone: no operations, not truncated [P]" (readLog (header 0)) (hex "00 00 00")
-    ∷ row "payload length 0: truncated [P]" (readLog (header 0 ++ entry [])) (hex "00 00 01")
-    ∷ row "a byte after the last entry: truncated; earlier operations count" (readLog (appendOperation (operation.deleteAll (text "d")) (header 1) ++ hex "00")) (hex "01 01 01")
-    ∷ row "right checksum, payload that doesn't decode: 11, not truncated" (readLog (header 1 ++ entry (text "x"))) (hex "01 00 0B")
-    ∷ row "recovery from it: refusal 11" (flat (recover (hex "13 11 00" ++ header 1 ++ entry (text "x")) imageRoom)) (hex "0B")
-    ∷ row "32 operations and the end: accepted" (readLog (header 1 ++ times 32 (entry (encodePayload (operation.deleteAll (text "d")))))) (hex "01 20 00")
-    ∷ row "one byte more: 12" (readLog (header 1 ++ times 32 (entry (encodePayload (operation.deleteAll (text "d")))) ++ hex "00")) (hex "01 20 0C")
-    ∷ row "truncated Committing log and a backup: refusal 13" (flat (recover (hex "10 02 00 64 62 11 09 00 01 00 00 00 61 2E 62 61 6B 13 09 00" ++ header 1 ++ hex "00") imageRoom)) (hex "0D")
-    ∷ row "a truncated Committing log and nothing done: the log is discarded" (flat (recover (db7 ++ hex "13 09 00" ++ header 1 ++ hex "00") imageRoom)) (hex "00" ++ db7)
-    ∷ row "CreateCollection of db [P]" (encodePayload (operation.createCollection (text "db"))) (hex "01 01 00 04 02 02 00 64 62")
-    ∷ row "the store db/a=7, from its image and back [P]" (caseOption (decode db7) [] encode) (hex "10 02 00 64 62 11 05 00 07 00 00 00 61")
-    ∷ row "writing K records k [P]" (flat (write (text "db") (text "K") (text "s") 9 (beginOn db7) imageRoom)) (hex "00" ++ db7 ++ hex "12 05 00 09 00 00 00 73 13 25 00 CA 00 00 00 3B 2D CC 70 22 72 A9 9A 15 00 00 00 01 01 00 07 02 02 00 64 62 03 01 00 6B 04 01 00 73 07 01 00 00 14 00 00")
-    ∷ row "deleting k where only K stands renames K to k at once; a rollback leaves it so" (flat (rollback kDeleted imageRoom)) (hex "00 10 02 00 64 62 11 05 00 07 00 00 00 6B")
-    ∷ row "deleting all in a missing collection is recorded" (deleteAll (text "d") (beginOn db7) imageRoom .number ∷ []) (hex "00")
-    ∷ row "files A and a are listed as a twice" (flat (listKeys (text "db") (hex "10 02 00 64 62 11 05 00 01 00 00 00 41 11 05 00 02 00 00 00 61") keysRoom)) (hex "00 03 01 00 61 03 01 00 61")
-    ∷ row "copying a collection onto itself ends with it empty" (flat (commit copyToItself imageRoom)) (hex "00 10 02 00 64 62")
-    ∷ row "Writes of 2 and 3 to a: the second backup replaces the first, and a rollback gives a=2" (listAt twoWrites 7) (text "answer 0\ndb/\ndb/a 2\n")
-    ∷ row "delete collection db, then copy db to another: commit fails, refusal 14, and db stands again" (flat (commit deletedCopied imageRoom)) (hex "0E" ++ db7)
-    ∷ row "Write to an existing key, then delete its collection, all applied: recovery restores the directory, but not the .bak file inside it" (listAt writeAndDelete 6) (text "answer 0\ndb/\ndb/a 9\ndb/a.bak 7\n")
-    ∷ row "step 0 has no field" (stepOn tenSteps 0 .step) []
-    ∷ row "step 1: rewrite header" (stepOn tenSteps 1 .step) (hex "20 00 00")
-    ∷ row "step 2: sync staging" (stepOn tenSteps 2 .step) (hex "21 00 00")
-    ∷ row "step 3: sync log" (stepOn tenSteps 3 .step) (hex "22 00 00")
-    ∷ row "step 4: a to a.bak" (stepOn tenSteps 4 .step) (hex "24 0A 00 64 62 00 61 00 61 2E 62 61 6B")
-    ∷ row "step 5: s.tmp to a" (stepOn tenSteps 5 .step) (hex "25 0A 00 73 2E 74 6D 70 00 64 62 00 61")
-    ∷ row "step 6: sync db" (stepOn tenSteps 6 .step) (hex "2D 02 00 64 62")
-    ∷ row "step 7: sync collections" (stepOn tenSteps 7 .step) (hex "2D 00 00")
-    ∷ row "step 8: remove log" (stepOn tenSteps 8 .step) (hex "2B 00 00")
-    ∷ row "step 9: sync journal" (stepOn tenSteps 9 .step) (hex "2E 00 00")
-    ∷ row "step 10: remove a.bak" (stepOn tenSteps 10 .step) (hex "28 08 00 64 62 00 61 2E 62 61 6B")
-    ∷ row "step 11 is past the plan's end: refusal 16" (flat (stepOn tenSteps 11)) (hex "10")
-    ∷ row "recovery after 0 steps: a=7 [P]" (flat (recover (stepOn tenSteps 0 .image) imageRoom)) (hex "00" ++ db7)
-    ∷ row "recovery after 1 step: a is gone" (flat (recover (stepOn tenSteps 1 .image) imageRoom)) (hex "00 10 02 00 64 62")
-    ∷ row "recovery after 3 steps: a is gone" (flat (recover (stepOn tenSteps 3 .image) imageRoom)) (hex "00 10 02 00 64 62")
-    ∷ row "recovery after 4 steps: a=7 [P]" (flat (recover (stepOn tenSteps 4 .image) imageRoom)) (hex "00" ++ db7)
-    ∷ row "recovery after 7 steps: a=7" (flat (recover (stepOn tenSteps 7 .image) imageRoom)) (hex "00" ++ db7)
-    ∷ row "recovery after 8 steps: a=9 [P]" (flat (recover (stepOn tenSteps 8 .image) imageRoom)) (hex "00 10 02 00 64 62 11 05 00 09 00 00 00 61")
-    ∷ row "recovery after 10 steps: a=9" (flat (recover (stepOn tenSteps 10 .image) imageRoom)) (hex "00 10 02 00 64 62 11 05 00 09 00 00 00 61")
-    ∷ row "the listing of the ten-step case cut after 4" (listAt tenSteps 4) (text "answer 0\ndb/\ndb/a 7\n")
-    ∷ row "a commit that fails at its second Write (14) and is cut after 7 steps: a is gone, so demand 3 leaves failing commits out" (listAt (failingWrite none none) 7) (text "answer 0\ndb/\n")
-    ∷ row "02: the Write of the ten-step case is recorded as kind 7, mark 1" (readLog (appendOperation (toFile (some true) "a" "s.tmp") (header 0)) ++ encodePayload (toFile (some true) "a" "s")) (hex "00 01 00 01 01 00 07 02 02 00 64 62 03 01 00 61 04 01 00 73 07 01 00 01")
-    ∷ row "02: a mark of 2 doesn't decode" (bit (isSome (decodePayload (hex "01 01 00 07 02 02 00 64 62 03 01 00 61 04 01 00 73 07 01 00 02")))) (hex "00")
-    ∷ row "02: the ten-step case as it is recorded now: recovery after 0 to 7 steps gives a=7, after 8 to 10 a=9"
-    (flatMap (listAt markedTen) (0 ∷ 1 ∷ 2 ∷ 3 ∷ 4 ∷ 5 ∷ 6 ∷ 7 ∷ 8 ∷ 9 ∷ 10 ∷ [])) (times 8 (text "answer 0\ndb/\ndb/a 7\n") ++ times 3 (text "answer 0\ndb/\ndb/a 9\n"))
-    ∷ row "02: a truncated Committing log, a Write of kind 1 to an existing key, nothing done: 13" (flat (recover (truncatedWrite none) imageRoom)) (hex "0D")
-    ∷ row "02: of kind 7, mark 1: its target is not counted, and the log is discarded" (flat (recover (truncatedWrite (some true)) imageRoom)) (hex "00" ++ db7)
-    ∷ row "02: of kind 7, mark 0: 13" (flat (recover (truncatedWrite (some false)) imageRoom)) (hex "0D")
-    ∷ row "02: recovery cut after its first step at 5 (a removed, a.bak stands), then recovered: a=7" (flat (recover (recoverStep 1 (stepOn markedTen 5 .image) imageRoom stepRoom .image) imageRoom)) (hex "00" ++ db7)
-    ∷ row "02: recovery cut after its second step at 5 (a.bak put back), then recovered: a=7; of kind 1 a would be gone" (flat (recover (recoverStep 2 (stepOn markedTen 5 .image) imageRoom stepRoom .image) imageRoom)) (hex "00" ++ db7)
-    ∷ row "02: the same of kind 1: a is gone" (flat (recover (recoverStep 2 (stepOn tenSteps 5 .image) imageRoom stepRoom .image) imageRoom)) (hex "00 10 02 00 64 62")
-    ∷ row "02: the failing commit, of marked Writes, cut after 7 steps: a=1" (listAt (failingWrite (some true) (some false)) 7) (text "answer 0\ndb/\ndb/a 1\n")
-    ∷ row "a restore of ..bak.bak gives the refused name ..bak" (flat (recover bakBak imageRoom)) (hex "00" ++ dotBak)
-    ∷ row "so that image is refused with 1" (flat (recover dotBak imageRoom)) (hex "01")
+-- An open transaction without operations.
+begun : Map → Store
+unfolding recorded
+begun t = recorded t [] []
+
+names : List Row
+names =
+    row "an empty name is refused [P]"
+    (bit (validName []))
+    (hex "00")
+    ∷ row "a.bak is a backup [P]"
+    (bit (isBackup (text "a.bak")))
+    (hex "01")
+    ∷ row ".bak has no extension [P]"
+    (bit (isSome (extension (text ".bak"))))
+    (hex "00")
+    ∷ row "a.BAK isn't a backup"
+    (bit (isBackup (text "a.BAK")))
+    (hex "00")
+    ∷ row "..a is accepted"
+    (bit (validName (text "..a")))
+    (hex "01")
+    ∷ row "..bak is refused"
+    (bit (validName (text "..bak")))
+    (hex "00")
+    ∷ row "...bak is refused"
+    (bit (validName (text "...bak")))
+    (hex "00")
+    ∷ row "64 bytes are accepted"
+    (bit (validName (times 64 (text "x"))))
+    (hex "01")
+    ∷ row "65 bytes are refused"
+    (bit (validName (times 65 (text "x"))))
+    (hex "00")
     ∷ []
 
--- Two byte strings compared by a test, and what the test says.
-equal : Bytes → Bytes → Bool
-equal [] [] = true
-equal [] (y ∷ b) = false
-equal (x ∷ a) [] = false
-equal (x ∷ a) (y ∷ b) = eqb x y && equal a b
+logs : List Row
+unfolding readLog
+logs =
+    row "CRC-32 of 123456789 by the register: the published check value"
+    (littleEndian 4 (crc32 (text "123456789")))
+    (hex "26 39 F4 CB")
+    ∷ row "CRC-32 of 123456789 by IEEE 802.3's division"
+    (littleEndian 4 (ieeeCrc32 (text "123456789")))
+    (hex "26 39 F4 CB")
+    ∷ row "a log of 0 to 7 bytes, here the first ones of a valid header: as if absent [P]"
+    (flatMap (λ n. readLog (take n (header 0))) (0 ∷ 1 ∷ 2 ∷ 3 ∷ 4 ∷ 5 ∷ 6 ∷ 7 ∷ []))
+    (times 8 (text "absent"))
+    ∷ row "status 0x02: as if absent"
+    (readLog (header 2))
+    (text "absent")
+    ∷ row "a valid header alone: no operations, not truncated [P]"
+    (readLog (header 0))
+    (hex "00 00 00")
+    ∷ row "payload length 0: truncated [P]"
+    (readLog (header 0 ++ entry []))
+    (hex "00 00 01")
+    ∷ row "a byte after the last entry: truncated; earlier operations count"
+    (readLog (appendOperation (operation.deleteAll (text "d")) (header 1) ++ hex "00"))
+    (hex "01 01 01")
+    ∷ row "right checksum, payload that doesn't decode: 11, not truncated"
+    (readLog (header 1 ++ entry (text "x")))
+    (hex "01 00 0B")
+    ∷ row "32 operations and the end: accepted"
+    (readLog (header 1 ++ times 32 (entry (encodePayload (operation.deleteAll (text "d"))))))
+    (hex "01 20 00")
+    ∷ row "one byte more: 12"
+    (readLog (header 1 ++ times 32 (entry (encodePayload (operation.deleteAll (text "d")))) ++ hex "00"))
+    (hex "01 20 0C")
+    ∷ row "CreateCollection of db [P]"
+    (encodePayload (operation.createCollection (text "db")))
+    (hex "01 01 00 04 02 02 00 64 62")
+    ∷ row "02: a Write of s to a key of db that stood: kind 7, mark 1"
+    (encodePayload (operation.write (record { collection = text "db"; key = text "a"; staged = text "s"; mark = some true })))
+    (hex "01 01 00 07 02 02 00 64 62 03 01 00 61 04 01 00 73 07 01 00 01")
+    ∷ row "02: a mark of 2 doesn't decode"
+    (bit (isSome (decodePayload (hex "01 01 00 07 02 02 00 64 62 03 01 00 61 04 01 00 73 07 01 00 02"))))
+    (hex "00")
+    ∷ []
 
-both : (a b : Bool) → (a && b) ≡ true → (a ≡ true) × (b ≡ true)
-both true b e = (refl, e)
-both false b e = absurd (false≢true e)
+recordings : List Row
+unfolding begun db dir file plain outcome commits recorded logged appendAll deletedCopied twoWrites cutAt
+recordings =
+    row "the store db/a=7 [P]"
+    (encode (plain (db 7)))
+    (hex "10 02 00 64 62 11 05 00 07 00 00 00 61")
+    ∷ row "and that image read as a store again [P]"
+    (caseOption (decode (hex "10 02 00 64 62 11 05 00 07 00 00 00 61")) [] encode)
+    (encode (plain (db 7)))
+    ∷ row "writing K records k [P]: staging file s=9; the log's header and its entry; the open mark"
+    (outcome (recordWrite (text "db") (text "K") (text "s") 9 (begun (db 7))))
+    (hex "00" ++ encode (plain (db 7))
+    ++ hex "12 05 00 09 00 00 00 73"
+    ++ hex "13 25 00 CA 00 00 00 3B 2D CC 70"  -- 0x13, 37 bytes: 0xCA, Recording, two zeros, CRC-32
+    ++ hex "22 72 A9 9A 15 00 00 00"  -- CRC-32 of the payload, its 21 bytes
+    ++ hex "01 01 00 07 02 02 00 64 62 03 01 00 6B 04 01 00 73 07 01 00 00"  -- kind 7, db, k, s, k was not there
+    ++ hex "14 00 00")
+    ∷ row "deleting k where only K stands renames K to k at once; a rollback leaves it so"
+    (afterDelete (recordDelete (text "db") (text "k") (begun (dir "db" ∷ file "db" "K" 7 ∷ []))))
+    (outcome (give (plain (dir "db" ∷ file "db" "k" 7 ∷ []))))
+    ∷ row "deleting all in a missing collection is recorded"
+    (outcome (recordDeleteAll (text "d") (begun (db 7))))
+    (outcome (give (recorded (db 7) [] (operation.deleteAll (text "d") ∷ []))))
+    ∷ row "files A and a are listed as a twice"
+    (keyList (text "db") (plain (dir "db" ∷ file "db" "A" 1 ∷ file "db" "a" 2 ∷ [])))
+    (hex "03 01 00 61 03 01 00 61")
+    ∷ row "copying a collection onto itself ends with it empty"
+    (commits (recorded (db 7) [] (operation.copyCollection (text "db") (text "db") true ∷ [])))
+    (0 ∷ encode (plain (dir "db" ∷ [])))
+    ∷ row "db/a=1, Writes of 2 and 3 to a: the second backup replaces the first, and a rollback gives a=2"
+    (cutAt twoWrites 7)
+    (0 ∷ encode (plain (db 2)))
+    ∷ row "delete collection c, then copy c to d: commit fails, refusal 14, and c stands again"
+    (commits (deletedCopied "d" false))
+    (14 ∷ encode (plain (dir "c" ∷ file "c" "a" 1 ∷ [])))
+    ∷ row "copied to c instead, c ends empty"
+    (commits (deletedCopied "c" true))
+    (0 ∷ encode (plain (dir "c" ∷ [])))
+    ∷ []
+  where
+    afterDelete : Outcome → Bytes
+    afterDelete (refuse n) = n ∷ []
+    afterDelete (give s) = outcome (discard s)
 
-equal-eq : (a b : Bytes) → equal a b ≡ true → a ≡ b
-unfolding equal
-equal-eq [] [] e = refl
-equal-eq [] (y ∷ b) e = absurd (false≢true e)
-equal-eq (x ∷ a) [] e = absurd (false≢true e)
-equal-eq (x ∷ a) (y ∷ b) e =
-    let h = both (eqb x y) (equal a b) e in
-    ap₂ _∷_ (eqb→eq x y (subst (λ (c : Bool). T c) (sym (h .0)) tt)) (equal-eq a b (h .1))
+recoveries : List Row
+unfolding db dir file plain withLog done recovers cutAt cutAgain stepAt tenSteps markedTen writtenDeleted truncatedWrite failingWrite
+recoveries =
+    row "a Committing log whose payload doesn't decode: refusal 11"
+    (recovers (withLog (db 7) (some (header 1 ++ entry (text "x")))))
+    (hex "0B")
+    ∷ row "a truncated Committing log and a backup: refusal 13"
+    (recovers (withLog (dir "db" ∷ file "db" "a.bak" 1 ∷ []) (some (header 1 ++ hex "00"))))
+    (hex "0D")
+    ∷ row "a truncated Committing log and nothing done: the log is discarded"
+    (recovers (withLog (db 7) (some (header 1 ++ hex "00"))))
+    (done (db 7))
+    ∷ row "Write to an existing key of c, then delete collection c, all applied: recovery restores the directory c, but not the .bak file inside it"
+    (cutAt writtenDeleted 6)
+    (done (dir "c" ∷ file "c" "a" 9 ∷ file "c" "a.bak" 7 ∷ []))
+    ∷ row "the ten steps: step 0 has no field" (stepAt tenSteps 0) []
+    ∷ row "0x20" (stepAt tenSteps 1) (hex "20 00 00")
+    ∷ row "0x21" (stepAt tenSteps 2) (hex "21 00 00")
+    ∷ row "0x22" (stepAt tenSteps 3) (hex "22 00 00")
+    ∷ row "a to a.bak" (stepAt tenSteps 4) (hex "24 0A 00 64 62 00 61 00 61 2E 62 61 6B")
+    ∷ row "s.tmp to a" (stepAt tenSteps 5) (hex "25 0A 00 73 2E 74 6D 70 00 64 62 00 61")
+    ∷ row "sync db" (stepAt tenSteps 6) (hex "2D 02 00 64 62")
+    ∷ row "sync collections" (stepAt tenSteps 7) (hex "2D 00 00")
+    ∷ row "remove log" (stepAt tenSteps 8) (hex "2B 00 00")
+    ∷ row "sync journal" (stepAt tenSteps 9) (hex "2E 00 00")
+    ∷ row "remove a.bak" (stepAt tenSteps 10) (hex "28 08 00 64 62 00 61 2E 62 61 6B")
+    ∷ row "recovery after 0 steps: a=7 [P]" (cutAt tenSteps 0) (done (db 7))
+    ∷ row "after 1 to 3: a is gone" (flatMap (cutAt tenSteps) (1 ∷ 2 ∷ 3 ∷ [])) (times 3 (done (dir "db" ∷ [])))
+    ∷ row "after 4: a=7 [P]" (cutAt tenSteps 4) (done (db 7))
+    ∷ row "after 5 to 7: a=7" (flatMap (cutAt tenSteps) (5 ∷ 6 ∷ 7 ∷ [])) (times 3 (done (db 7)))
+    ∷ row "after 8: a=9 [P]" (cutAt tenSteps 8) (done (db 9))
+    ∷ row "after 9 and 10: a=9" (flatMap (cutAt tenSteps) (9 ∷ 10 ∷ [])) (times 2 (done (db 9)))
+    ∷ row "a commit that fails at its second Write (14) and is cut after 7 steps: a is gone, so demand 3 leaves failing commits out"
+    (cutAt (failingWrite none none) 7)
+    (done (dir "db" ∷ []))
+    ∷ row "02: the ten-step case as it is recorded now: recovery after 0 to 7 steps gives a=7, after 8 to 10 a=9"
+    (flatMap (cutAt markedTen) (0 ∷ 1 ∷ 2 ∷ 3 ∷ 4 ∷ 5 ∷ 6 ∷ 7 ∷ 8 ∷ 9 ∷ 10 ∷ []))
+    (times 8 (done (db 7)) ++ times 3 (done (db 9)))
+    ∷ row "02: a truncated Committing log, a Write of kind 1 to an existing key, nothing done: 13"
+    (recovers (truncatedWrite none))
+    (hex "0D")
+    ∷ row "02: of kind 7, mark 1: its target is not counted, and the log is discarded"
+    (recovers (truncatedWrite (some true)))
+    (done (db 7))
+    ∷ row "02: of kind 7, mark 0: 13"
+    (recovers (truncatedWrite (some false)))
+    (hex "0D")
+    ∷ row "02: recovery cut after its first step at 5 (a removed, a.bak stands), then recovered: a=7"
+    (cutAgain markedTen 5 1)
+    (done (db 7))
+    ∷ row "02: recovery cut after its second step at 5 (a.bak put back), then recovered: a=7"
+    (cutAgain markedTen 5 2)
+    (done (db 7))
+    ∷ row "02: the same of kind 1: a is gone"
+    (cutAgain tenSteps 5 2)
+    (done (dir "db" ∷ []))
+    ∷ row "02: the failing commit, of marked Writes, cut after 7 steps: a=1"
+    (cutAt (failingWrite (some true) (some false)) 7)
+    (done (db 1))
+    ∷ row "a restore of ..bak.bak gives the refused name ..bak"
+    (recovers (withLog (dir "db" ∷ file "db" "..bak.bak" 1 ∷ []) (some (header 1))))
+    (done (dir "db" ∷ file "db" "..bak" 1 ∷ []))
+    ∷ []
 
-agree : (l : List Row) → allOf (λ r. equal (r .computed) (r .stated)) l ≡ true → map (λ r. r .computed) l ≡ map (λ r. r .stated) l
-agree [] e = refl
-agree (r ∷ l) e = let h = both (equal (r .computed) (r .stated)) _ e in ap₂ _∷_ (equal-eq (r .computed) (r .stated) (h .0)) (agree l (h .1))
+table : List Row
+unfolding names logs recordings recoveries
+table = names ++ logs ++ recordings ++ recoveries
 
 -- Every row computes to what is stated.
 worked : map (λ r. r .computed) table ≡ map (λ r. r .stated) table
-unfolding table equal text hex pairs digit bit flat readLog readAs ending times beginOn writeOn stepOn listAt row toFile failingWrite db7 tenSteps markedTen truncatedWrite twoWrites writeAndDelete copyToItself deletedCopied upperK kDeleted bakBak dotBak
+unfolding table names logs recordings recoveries
+    text digit pairs hex bit times row equal
+    ending readAs readLog dir file staged appendAll logged plain withLog recorded into toDb db begun outcome done commits recovers cutAt cutAgain stepAt
+    tenSteps markedTen twoWrites failingWrite deletedCopied writtenDeleted truncatedWrite
     polynomial generator addFront divide remainder bitsOf ofBits messageBits complementFirst zeros dividend ieeeCrc32 xor crc32 register feedByte shifts shift addPolynomial
     littleEndian fromLittleEndian encodeField encodeFields fieldsFrom decodeFields hasTag
     lastDot extension stripExtension backupExtension stagingExtension backupName originalName stripTmp isNameByte refusedNames validName lowerByte lower
     fieldTable fieldTags kind values tagged encodePayload makers validValue opOfFields decodePayload
     header entry validHeader firstPayload walk entries readJournal markCommitting appendOperation
-    cmpKey look put del dirs files validNode validNodes validStaged ascending wellFormed hasBackupFiles hasPendingWork
+    cmpKey look put del dirs files validNode validNodes validStaged ascending wellFormed hasBackupFiles
     imageFields encode treeOf stagingOf logOf storeOf decode
     removeDir renameDir apply zeroSeparated tagAndNames stepField stepFault
     opSteps undoSteps restoreFile restoreDirectory removeBackupFile removeBackupsIn firstNamings syncExisting commitFault commitPlan committedAt isNewArtifact recoverPlan recoveredAt recovered
     transaction beginTransaction discard recordWrite otherCase caseRenamed recordDelete recordDeleteAll recordCreate recordDeleteCollection recordCopy keyList
-    begin rollback write delete deleteAll createCollection deleteCollection copyCollection commitStore commit recoverStore recover commitStep recoverStep pending listKeys decimal listingLine listing
 worked = agree table refl

@@ -5,10 +5,10 @@ use mathlib.Core.Option.{Option, none, some}
 use mathlib.Core.Bool.{Bool, true, false, _&&_, _||_}
 use lib.ListN.{length, getD, getElem?}
 use lib.Dec.{eqb}
-use Rattle.model.specs.Order.{Name, Key}
-use Rattle.model.specs.Base.{Bytes, caseOption, if_then_else_, sameBytes, allOf}
-use Rattle.model.specs.Name.{validName, backupName}
-use Rattle.model.specs.Field.{Field, encodeFields, decodeFields}
+use Rattle.basics.specs.Order.{Name, Key}
+use Rattle.basics.specs.Base.{Bytes, caseOption, if_then_else_, sameBytes, allOf}
+use Rattle.basics.specs.Name.{validName, backupName}
+use Rattle.basics.specs.Field.{Field, encodeFields, decodeFields}
 
 -- A Write: its collection, its key, the name of its staging file, and its mark. 02, item 4: a marked Write (kind 7) says whether "the key's file
 -- stood when it was recorded"; one of kind 1 has no mark.

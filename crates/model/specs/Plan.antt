@@ -4,10 +4,10 @@ use mathlib.Core.List.{List, [], _∷_, _++_, map, reverse}
 use mathlib.Core.Option.{Option, none, some}
 use mathlib.Core.Bool.{Bool, true, false, not, _&&_, _||_}
 use lib.ListN.{length, take}
-use Rattle.model.specs.Order.{Name, Key}
-use Rattle.model.specs.Map.{Map, look}
-use Rattle.model.specs.Base.{caseOption, if_then_else_, ifEmpty, isSome, ifPresent, ifMissing, isIn, anyOf}
-use Rattle.model.specs.Name.{backupName, originalName, stripTmp}
+use Rattle.basics.specs.Order.{Name, Key}
+use Rattle.basics.specs.Map.{Map, look}
+use Rattle.basics.specs.Base.{caseOption, if_then_else_, ifEmpty, isSome, ifPresent, ifMissing, isIn, anyOf}
+use Rattle.basics.specs.Name.{backupName, originalName, stripTmp}
 use Rattle.model.specs.Operation.{Op, Write, write, delete, deleteAll, createCollection, deleteCollection, copyCollection, target, backup, stood}
 use Rattle.model.specs.Log.{Journal, absent, recording, committing, journal, opsOf, Ending, whole, truncated, undecodable, tooMany}
 use Rattle.model.specs.Store.{Store, dirs, files, stagingNames, hasBackupFiles}

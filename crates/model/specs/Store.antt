@@ -5,11 +5,11 @@ use mathlib.Core.Option.{Option, none, some}
 use mathlib.Core.Bool.{Bool, true, false, _&&_, _||_}
 use lib.ListN.{length}
 use lib.Dec.{leb, eqb}
-use Rattle.model.specs.Limits.{dirLimit, fileLimit, stagingLimit, logLimit, numberLimit}
-use Rattle.model.specs.Order.{Name, Key, cmpName, cmpKey, caseCmp}
-use Rattle.model.specs.Map.{Map, Node, look}
-use Rattle.model.specs.Base.{Bytes, caseOption, ifEmpty, isSome, sameBytes, allOf, anyOf}
-use Rattle.model.specs.Name.{validName, isBackup}
+use Rattle.basics.specs.Limits.{dirLimit, fileLimit, stagingLimit, logLimit, numberLimit}
+use Rattle.basics.specs.Order.{Name, Key, cmpName, cmpKey, caseCmp}
+use Rattle.basics.specs.Map.{Map, Node, look}
+use Rattle.basics.specs.Base.{Bytes, caseOption, ifEmpty, isSome, sameBytes, allOf, anyOf}
+use Rattle.basics.specs.Name.{validName, isBackup}
 
 -- In the tree, directory d stands at (d, []) with number 0, and its file f at (d, f) with its content number.
 -- Among the staging files, f stands at ([], f).

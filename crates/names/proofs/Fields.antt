@@ -4,8 +4,8 @@ use mathlib.Core.List.{_∷_}
 use Prim.Native.Nat.{ℕ, _+_, _-_, _≤_, _<_}
 use native.Mathlib.Omega.{arith}
 use lib.ListN.{length}
-use Rattle.model.specs.Base.{Bytes}
-use Rattle.model.specs.Field.{littleEndian, encodeField}
+use Rattle.basics.specs.Base.{Bytes}
+use Rattle.basics.specs.Field.{littleEndian, encodeField}
 use Rattle.spans.specs.Spans.{nameOf, lengthOf, Sound}
 use Rattle.spans.specs.declared.NameRef.{NameRef}
 use Rattle.spans.proofs.Parts.{length-name}

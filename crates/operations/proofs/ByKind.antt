@@ -4,15 +4,15 @@ use mathlib.Core.List.{List, [], _∷_, _++_, append-nil}
 use mathlib.Core.Option.{Option, none, some}
 use mathlib.Core.Bool.{Bool}
 use Prim.Native.Nat.{ℕ}
-use Rattle.model.specs.Order.{Name, Key}
-use Rattle.model.specs.Map.{look}
-use Rattle.model.specs.Base.{Bytes, ifPresent, ifMissing}
-use Rattle.model.specs.Name.{backupName}
+use Rattle.basics.specs.Order.{Name, Key}
+use Rattle.basics.specs.Map.{look}
+use Rattle.basics.specs.Base.{Bytes, ifPresent, ifMissing}
+use Rattle.basics.specs.Name.{backupName}
 use Rattle.model.specs.Operation.{write, delete, deleteAll, createCollection, deleteCollection, copyCollection}
 use Rattle.model.specs.Store.{Store}
 use Rattle.model.specs.Step.{Step, makeDirectory, renameFile, moveStaged, apply}
 use Rattle.model.specs.Plan.{opSteps}
-use Rattle.laws.specs.MapLaws.{look-put-other}
+use Rattle.basic_laws.specs.MapLaws.{look-put-other}
 use Rattle.plans.specs.Machine.{applyAll, single, seq}
 use Rattle.plans.specs.ModelPlans.{careful, turn-of}
 use Rattle.steps.specs.CodeRuns.{LentRun, Follows}

@@ -6,10 +6,10 @@ use mathlib.Core.Bool.{true, false, false≢true}
 use Prim.Native.Nat.{ℕ, _<_}
 use lib.ListN.{length}
 use borrow.Author.Tests.{lt-ltb}
-use Rattle.model.specs.Limits.{nameLimit}
-use Rattle.model.specs.Order.{Name}
-use Rattle.model.specs.Map.{look}
-use Rattle.model.specs.Base.{Bytes, caseOption, isSome}
+use Rattle.basics.specs.Limits.{nameLimit}
+use Rattle.basics.specs.Order.{Name}
+use Rattle.basics.specs.Map.{look}
+use Rattle.basics.specs.Base.{Bytes, caseOption, isSome}
 use Rattle.model.specs.Store.{Store}
 use Rattle.model.specs.Step.{Step, renameFile, renameDirectory, copyFile, apply, fails, nameTooLong, newFile, stepFault}
 use Rattle.store.specs.Stores.{storeOf}

@@ -4,15 +4,15 @@ use mathlib.Core.List.{List, map}
 use Prim.Native.Nat.{ℕ, _+_, _≤_, _<_}
 use native.Mathlib.Omega.{arith}
 use lib.ListN.{drop, getD, drop-of-length-le}
-use Rattle.model.specs.Order.{Name}
-use Rattle.model.specs.Base.{Bytes}
-use Rattle.model.specs.Name.{backupName}
+use Rattle.basics.specs.Order.{Name}
+use Rattle.basics.specs.Base.{Bytes}
+use Rattle.basics.specs.Name.{backupName}
 use Rattle.model.specs.Operation.{Op}
 use Rattle.model.specs.Store.{Store, files}
 use Rattle.model.specs.Step.{Step, renameFile, apply}
 use Rattle.model.specs.Plan.{opSteps, operationSteps}
 use Rattle.laws.specs.OperationLaws.{ValidOp}
-use Rattle.laws.specs.Tests.{All}
+use Rattle.basic_laws.specs.Tests.{All}
 use Rattle.plans.specs.Machine.{single, seqOver, Going}
 use Rattle.plans.specs.MachineLaws.{begin, turn, goes-as, finish}
 use Rattle.plans.specs.ModelPlans.{careful, in-turn, in-turn-single}

@@ -4,10 +4,10 @@ use mathlib.Core.List.{List, [], _∷_, map}
 use mathlib.Core.Option.{Option, none, some}
 use mathlib.Core.Bool.{true, false, false≢true}
 use Prim.Native.Nat.{ℕ}
-use Rattle.model.specs.Order.{Name}
-use Rattle.model.specs.Map.{look}
-use Rattle.model.specs.Base.{caseOption, isSome}
-use Rattle.model.specs.Name.{backupName}
+use Rattle.basics.specs.Order.{Name}
+use Rattle.basics.specs.Map.{look}
+use Rattle.basics.specs.Base.{caseOption, isSome}
+use Rattle.basics.specs.Name.{backupName}
 use Rattle.model.specs.Store.{Store, files}
 use Rattle.model.specs.Step.{Step, makeDirectory, renameFile, renameDirectory, copyFile}
 use Rattle.recovery.proofs.Picks.{present, absent, missing, standing}

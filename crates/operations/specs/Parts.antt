@@ -1,9 +1,9 @@
 -- What the small functions do, as plans. The model's plans of the operations are made of these.
 use mathlib.Core.List.{List, [], _∷_, map}
-use Rattle.model.specs.Order.{Name}
-use Rattle.model.specs.Map.{look}
-use Rattle.model.specs.Base.{ifPresent, ifMissing}
-use Rattle.model.specs.Name.{backupName}
+use Rattle.basics.specs.Order.{Name}
+use Rattle.basics.specs.Map.{look}
+use Rattle.basics.specs.Base.{ifPresent, ifMissing}
+use Rattle.basics.specs.Name.{backupName}
 use Rattle.model.specs.Store.{Store, files}
 use Rattle.model.specs.Step.{Step, makeDirectory, renameFile, renameDirectory, copyFile}
 

@@ -2,12 +2,12 @@
 // done (`steps::attempt`).
 ghost use mathlib.Core.Option.{Option};
 ghost use mathlib.Core.Bool.{Bool};
-ghost use Rattle.model.specs.Name.{backupName};
+ghost use Rattle.basics.specs.Name.{backupName};
 ghost use Rattle.model.specs.Operation.{write, copyCollection};
 ghost use Rattle.model.specs.Step.{renameFile, renameDirectory};
 ghost use Rattle.model.specs.Plan.{opSteps, operationSteps};
 ghost use Rattle.laws.specs.OperationLaws.{ValidOp};
-ghost use Rattle.laws.specs.Tests.{All};
+ghost use Rattle.basic_laws.specs.Tests.{All};
 ghost use Rattle.spans.specs.Spans.{nameOf, Sound};
 ghost use Rattle.plans.specs.Machine.{single};
 ghost use Rattle.plans.specs.ModelPlans.{careful};

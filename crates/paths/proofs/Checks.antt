@@ -9,11 +9,11 @@ use lib.Dec.{ltb}
 use lib.ListN.{length, take, drop, getD, length-drop, drop-of-length-le, take-append-drop}
 use lib.Seq.{take-all, take-add, drop-cons, drop-drop}
 use borrow.Author.Tests.{ltb-true, ltb-false, le-leb, lt-leb, not-true, not-false}
-use Rattle.model.specs.Limits.{nameLimit}
-use Rattle.model.specs.Order.{Name}
-use Rattle.model.specs.Base.{Bytes, allOf, isIn}
-use Rattle.model.specs.Name.{isNameByte, refusedNames, validName}
-use Rattle.laws.specs.OrderLaws.{cmp-less, cmp-greater}
+use Rattle.basics.specs.Limits.{nameLimit}
+use Rattle.basics.specs.Order.{Name}
+use Rattle.basics.specs.Base.{Bytes, allOf, isIn}
+use Rattle.basics.specs.Name.{isNameByte, refusedNames, validName}
+use Rattle.basic_laws.specs.OrderLaws.{cmp-less, cmp-greater}
 use Rattle.field.proofs.Fields.{four}
 
 -- `a && b` as code comes to it: the second flag where the first is true, else the first.

@@ -6,9 +6,9 @@ use native.Mathlib.Omega.{arith}
 use lib.ListN.{length, take, drop, length-drop}
 use lib.Seq.{take-all}
 use borrow.Author.Tests.{lt-ltb, le-ltb}
-use Rattle.model.specs.Order.{Name}
-use Rattle.model.specs.Base.{sameBytes}
-use Rattle.laws.specs.NameLaws.{endsIn}
+use Rattle.basics.specs.Order.{Name}
+use Rattle.basics.specs.Base.{sameBytes}
+use Rattle.basic_laws.specs.NameLaws.{endsIn}
 
 pub ends-short : (d n : Name) → length n ≤ length d → false ≡ endsIn d n
 unfolding endsIn

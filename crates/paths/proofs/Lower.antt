@@ -2,8 +2,8 @@
 use mathlib.Core.Path.{_≡_, sym}
 use Prim.Native.Nat.{ℕ}
 use lib.ListN.{length, getD, length-map, List·getD-map}
-use Rattle.model.specs.Base.{Bytes}
-use Rattle.model.specs.Name.{lowerByte, lower}
+use Rattle.basics.specs.Base.{Bytes}
+use Rattle.basics.specs.Name.{lowerByte, lower}
 
 pub length-lower : (s : Bytes) → length (lower s) ≡ length s
 unfolding lower

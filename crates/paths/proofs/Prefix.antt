@@ -6,8 +6,8 @@ use native.Mathlib.Omega.{arith}
 use native.Mathlib.Numerals.{add-one}
 use lib.ListN.{length, take, drop, getD, drop-of-length-le}
 use lib.Seq.{take-suc, drop-cons}
-use Rattle.model.specs.Order.{Cmp, lt, eq, gt, caseCmp, Name, cmpName}
-use Rattle.laws.specs.OrderLaws.{cmp-less, cmp-greater, cmp-drop}
+use Rattle.basics.specs.Order.{Cmp, lt, eq, gt, caseCmp, Name, cmpName}
+use Rattle.basic_laws.specs.OrderLaws.{cmp-less, cmp-greater, cmp-drop}
 use Rattle.paths.specs.declared.Order.{Order}
 use Rattle.paths.specs.Compare.{orderOf, Common}
 

@@ -3,7 +3,7 @@
 use mathlib.Core.Path.{_≡_}
 use Prim.Native.Nat.{ℕ, _≤_, _<_}
 use lib.ListN.{length, take, getD}
-use Rattle.model.specs.Order.{Cmp, lt, eq, gt, Name}
+use Rattle.basics.specs.Order.{Cmp, lt, eq, gt, Name}
 use Rattle.paths.specs.declared.Order.{Order}
 use Rattle.paths.specs.declared.Order.the-variants.{Less, Equal, Greater}
 

@@ -5,7 +5,7 @@ use mathlib.Core.Bool.{Bool, true, false}
 use Prim.Native.Nat.{ℕ}
 use lib.Dec.{eqb}
 use borrow.Author.Tests.{eqb-true, eqb-false}
-use Rattle.model.specs.Base.{if_then_else_}
+use Rattle.basics.specs.Base.{if_then_else_}
 use Rattle.plans.specs.Machine.{applyAll, seq, exec, Does}
 use Rattle.plans.specs.Runs.{Run, withRefusal, plain, careful, faultIn, cut, orElse}
 use Rattle.plans.specs.MachineLaws.{exec-over, exec-then, running, ran-on, made}

@@ -3,7 +3,7 @@
 use mathlib.Core.Path.{_≡_}
 use mathlib.Core.List.{List, [], _∷_, _++_}
 use mathlib.Core.Bool.{Bool, true, false}
-use Rattle.model.specs.Base.{if_then_else_}
+use Rattle.basics.specs.Base.{if_then_else_}
 
 abbrev pub nothing : {S X : Type 0} → S → List X
 nothing s = []

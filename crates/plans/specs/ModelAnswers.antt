@@ -9,14 +9,13 @@ use lib.ListN.{length, take, drop}
 use lib.Seq.{take-length}
 use lib.Dec.{ltb}
 use borrow.Author.Tests.{ltb-true, ltb-false}
-use Rattle.model.specs.Base.{if_then_else_, caseOption}
+use Rattle.basics.specs.Base.{if_then_else_, caseOption}
 use Rattle.model.specs.Operation.{Op}
 use Rattle.model.specs.Log.{journal, opsOf}
 use Rattle.model.specs.Store.{Store}
 use Rattle.model.specs.Step as model
-use Rattle.model.specs.Step.{Step, rewriteHeader, syncStaging, syncLog, apply, stepField, Fault, fails, full}
+use Rattle.model.specs.Step.{Step, rewriteHeader, syncStaging, syncLog, apply, stepField, Fault, fails, full, commitNumber, fieldAt}
 use Rattle.model.specs.Plan.{inSequence, operationSteps, firstFault, stepsBeforeFault, commitFault, commitParts, commitPlan, withoutMark, withoutMarkAtEnd, committedAt, recoverPlan, recoveredAt, recovered}
-use Rattle.model.specs.Answers.{commitNumber, fieldAt}
 use Rattle.plans.specs.Machine.{applyAll, seq, Does}
 use Rattle.plans.specs.Runs.{Run, faultIn, upTo, cut, orElse}
 use Rattle.plans.specs.Endings.{Ends, before, decide, ends-as}

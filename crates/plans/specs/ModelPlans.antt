@@ -5,12 +5,11 @@ use mathlib.Core.Option.{Option, none, some}
 use Prim.Native.Nat.{ℕ}
 use native.Mathlib.Omega.{arith}
 use lib.Dec.{eqb}
-use Rattle.model.specs.Base.{if_then_else_, caseOption}
+use Rattle.basics.specs.Base.{if_then_else_, caseOption}
 use Rattle.model.specs.Store.{Store}
 use Rattle.model.specs.Step as model
-use Rattle.model.specs.Step.{Step, apply, Fault, fails, full, stepFault}
+use Rattle.model.specs.Step.{Step, apply, Fault, fails, full, stepFault, commitNumber}
 use Rattle.model.specs.Plan.{inTurn, inSequence, firstFault, stepsBeforeFault}
-use Rattle.model.specs.Answers.{commitNumber}
 use Rattle.plans.specs.Machine.{Machine, applyAll, single, seq, seqOver}
 use Rattle.plans.specs.Runs as runs
 use Rattle.plans.specs.Runs.{Run, faultIn, upTo}

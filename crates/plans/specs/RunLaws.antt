@@ -6,7 +6,7 @@ use mathlib.Core.Logic.{_⊎_, inl, inr}
 use Prim.Native.Nat.{ℕ, _-_}
 use lib.Dec.{eqb}
 use borrow.Author.Tests.{ne-eqb, eqb-false}
-use Rattle.model.specs.Base.{if_then_else_}
+use Rattle.basics.specs.Base.{if_then_else_}
 use Rattle.plans.specs.Machine.{Lawful, exec}
 use Rattle.plans.specs.Runs.{Run, withRefusal, halt, over, doStep, advance, plain, attempt, careful}
 use Rattle.plans.specs.MachineLaws.{clash}

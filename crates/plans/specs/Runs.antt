@@ -4,7 +4,7 @@ use Prim.Native.Nat.{ℕ, _-_}
 use mathlib.Core.List.{List, [], _∷_}
 use mathlib.Core.Bool.{Bool, true, false, _&&_, _||_, not}
 use lib.Dec.{eqb}
-use Rattle.model.specs.Base.{if_then_else_}
+use Rattle.basics.specs.Base.{if_then_else_}
 use Rattle.plans.specs.Machine.{Machine, seq}
 
 -- `left` counts where the run is limited; `stopped`: a step was due with none left. `last` is the step that was done last, `refusal` the

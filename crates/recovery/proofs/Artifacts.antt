@@ -7,10 +7,10 @@ use mathlib.Core.Logic.{inl, inr}
 use native.Mathlib.Omega.{arith}
 use types.Run.{OneOf}
 use denote.Enum.Declared.{tagOf}
-use Rattle.model.specs.Order.{Name}
-use Rattle.model.specs.Map.{Map, look}
-use Rattle.model.specs.Base.{Bytes, isSome}
-use Rattle.model.specs.Name.{backupName}
+use Rattle.basics.specs.Order.{Name}
+use Rattle.basics.specs.Map.{Map, look}
+use Rattle.basics.specs.Base.{Bytes, isSome}
+use Rattle.basics.specs.Name.{backupName}
 use Rattle.model.specs.Operation.{write, createCollection, copyCollection}
 use Rattle.model.specs.Store.{Store}
 use Rattle.model.specs.Plan.{isNewArtifact, undoSteps}

@@ -7,8 +7,8 @@ use native.Mathlib.Numerals.{add-one}
 use native.Mathlib.Omega.{arith}
 use lib.ListN.{length, take, drop, getD, length-map, List·getD-map, drop-of-length-le}
 use lib.Seq.{drop-cons, take-all, take-suc, getD-take, length-take-le}
-use Rattle.model.specs.Map.{Map}
-use Rattle.model.specs.Base.{Bytes, anyOf}
+use Rattle.basics.specs.Map.{Map}
+use Rattle.basics.specs.Base.{Bytes, anyOf}
 use Rattle.model.specs.Operation.{Op}
 use Rattle.model.specs.Store.{Store}
 use Rattle.model.specs.Step.{Step, apply}

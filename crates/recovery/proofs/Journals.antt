@@ -4,9 +4,9 @@ use mathlib.Core.Bool.{true, false}
 use Prim.Native.Nat.{ℕ, _+_, _-_, _≤_}
 use native.Mathlib.Omega.{arith}
 use lib.ListN.{length, take, drop}
-use Rattle.model.specs.Base.{Bytes}
+use Rattle.basics.specs.Base.{Bytes}
 use Rattle.model.specs.Log.{absent, entries, journal, readJournal}
-use Rattle.laws.specs.Tests.{le-leb}
+use Rattle.basic_laws.specs.Tests.{le-leb}
 use Rattle.store.specs.declared.LogRef.{LogRef}
 use Rattle.store.specs.Stores.{logBytes, SoundLog}
 use Rattle.transaction.specs.Operations.{inBounds}

@@ -5,14 +5,14 @@ use mathlib.Core.Bool.{false}
 use Prim.Native.Nat.{ℕ, _≤_, _<_}
 use native.Mathlib.Omega.{arith}
 use lib.ListN.{length}
-use Rattle.model.specs.Order.{Name, Key}
-use Rattle.model.specs.Map.{look}
-use Rattle.model.specs.Base.{Bytes, isSome}
-use Rattle.model.specs.Name.{originalName}
-use Rattle.laws.specs.Tests.{All, all-map}
-use Rattle.laws.specs.MapLaws.{all-look}
-use Rattle.laws.specs.NameLaws.{original-some, original-named}
-use Rattle.laws.specs.ValidNames as valid
+use Rattle.basics.specs.Order.{Name, Key}
+use Rattle.basics.specs.Map.{look}
+use Rattle.basics.specs.Base.{Bytes, isSome}
+use Rattle.basics.specs.Name.{originalName}
+use Rattle.basic_laws.specs.Tests.{All, all-map}
+use Rattle.basic_laws.specs.MapLaws.{all-look}
+use Rattle.basic_laws.specs.NameLaws.{original-some, original-named}
+use Rattle.basic_laws.specs.ValidNames as valid
 use Rattle.spans.specs.Spans.{nameOf, Sound}
 use Rattle.spans.specs.declared.NameRef.{NameRef}
 use Rattle.spans.proofs.Parts.{length-name}

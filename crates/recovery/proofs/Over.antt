@@ -4,8 +4,8 @@ use mathlib.Core.List.{List}
 use Prim.Native.Nat.{ℕ, _+_, _≤_, _<_}
 use native.Mathlib.Omega.{arith}
 use lib.ListN.{drop, getD}
-use Rattle.model.specs.Order.{Name}
-use Rattle.model.specs.Base.{Bytes}
+use Rattle.basics.specs.Order.{Name}
+use Rattle.basics.specs.Base.{Bytes}
 use Rattle.model.specs.Store.{Store, dirs, files, stagingNames}
 use Rattle.model.specs.Step.{Step, removeStaging}
 use Rattle.model.specs.Plan.{inTurn, removeStagingFiles}

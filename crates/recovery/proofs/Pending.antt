@@ -7,8 +7,8 @@ use native.Mathlib.Omega.{arith}
 use lib.ListN.{length}
 use lib.Dec.{ltb}
 use borrow.Author.Tests.{lt-ltb, le-ltb}
-use Rattle.model.specs.Map.{Map}
-use Rattle.model.specs.Base.{Bytes, ifEmpty}
+use Rattle.basics.specs.Map.{Map}
+use Rattle.basics.specs.Base.{Bytes, ifEmpty}
 use Rattle.model.specs.Store.{hasBackupFiles, hasPendingWork}
 use Rattle.store.specs.Tables.{mapOf, Sized}
 use Rattle.store.specs.Stores.{LentStore, storeOf}

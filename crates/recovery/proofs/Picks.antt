@@ -3,10 +3,10 @@ use mathlib.Core.Path.{_≡_, refl, sym, _∙_}
 use mathlib.Core.List.{List, [], _∷_}
 use mathlib.Core.Option.{Option, none, some}
 use mathlib.Core.Bool.{Bool, true, false, false≢true}
-use Rattle.model.specs.Order.{Name}
-use Rattle.model.specs.Map.{look}
-use Rattle.model.specs.Base.{Bytes, isSome, ifPresent, ifMissing, ifEmpty}
-use Rattle.model.specs.Name.{backupName, originalName, stripTmp, isBackup, isTmp}
+use Rattle.basics.specs.Order.{Name}
+use Rattle.basics.specs.Map.{look}
+use Rattle.basics.specs.Base.{Bytes, isSome, ifPresent, ifMissing, ifEmpty}
+use Rattle.basics.specs.Name.{backupName, originalName, stripTmp, isBackup, isTmp}
 use Rattle.model.specs.Store.{Store, files}
 use Rattle.model.specs.Step.{removeFile, removeDirectory, renameFile, renameDirectory, removeLog, apply}
 use Rattle.model.specs.Plan.{restoreFile, restoreDirectory, removeBackupFile, removeBackupsIn}

@@ -2,7 +2,7 @@
 use mathlib.Core.Path.{_≡_, sym, ap, subst, _∙_}
 use mathlib.Core.Bool.{Bool, false}
 use Prim.Native.Nat.{ℕ}
-use Rattle.model.specs.Base.{Bytes}
+use Rattle.basics.specs.Base.{Bytes}
 use Rattle.model.specs.Log.{Entries, Journal, committing, entries, journal}
 use Rattle.model.specs.Store as model
 use Rattle.model.specs.Step.{apply}

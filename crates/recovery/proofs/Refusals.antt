@@ -7,8 +7,8 @@ use mathlib.Core.Logic.{inl, inr}
 use Prim.Native.Nat.{ℕ}
 use types.Run.{OneOf}
 use denote.Enum.Declared.{tagOf}
-use Rattle.model.specs.Map.{Map}
-use Rattle.model.specs.Base.{anyOf}
+use Rattle.basics.specs.Map.{Map}
+use Rattle.basics.specs.Base.{anyOf}
 use Rattle.model.specs.Operation.{Op}
 use Rattle.model.specs.Log.{committing, truncated}
 use Rattle.model.specs.Store.{Store, hasBackupFiles}

@@ -6,11 +6,11 @@ use native.Mathlib.Omega.{arith}
 use lib.Dec.{ltb}
 use lib.ListN.{drop, getD}
 use borrow.Author.Tests.{ltb-true, ltb-false}
-use Rattle.model.specs.Map as model
-use Rattle.model.specs.Base.{Bytes, anyOf, sameBytes}
-use Rattle.model.specs.Name.{isBackup}
+use Rattle.basics.specs.Map as model
+use Rattle.basics.specs.Base.{Bytes, anyOf, sameBytes}
+use Rattle.basics.specs.Name.{isBackup}
 use Rattle.model.specs.Store.{hasBackupFiles}
-use Rattle.laws.specs.Tests.{same-eq, same-refl}
+use Rattle.basic_laws.specs.Tests.{same-eq, same-refl}
 use Rattle.plans.specs.MachineLaws.{clash}
 use Rattle.spans.specs.Spans.{nameOf, Sound}
 use Rattle.spans.specs.declared.NameRef.{NameRef}

@@ -4,7 +4,7 @@ use mathlib.Core.Option.{Option}
 use mathlib.Core.Bool.{Bool, true, false}
 use Prim.Native.Nat.{ℕ}
 use lib.ListN.{take, drop}
-use Rattle.model.specs.Base.{Bytes, caseOption}
+use Rattle.basics.specs.Base.{Bytes, caseOption}
 use Rattle.model.specs.Log.{journal}
 use Rattle.model.specs.Store as model
 use Rattle.model.specs.Step.{apply}

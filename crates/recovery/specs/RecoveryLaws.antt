@@ -5,13 +5,12 @@ use mathlib.Core.Bool.{Bool, true, false, _||_}
 use Prim.Native.Nat.{ℕ, suc, _≤_}
 use native.Mathlib.Omega.{arith}
 use lib.ListN.{length}
-use Rattle.model.specs.Map.{Map}
-use Rattle.model.specs.Base.{Bytes, if_then_else_, anyOf}
+use Rattle.basics.specs.Map.{Map}
+use Rattle.basics.specs.Base.{Bytes, if_then_else_, anyOf}
 use Rattle.model.specs.Log.{Journal, absent, recording, committing, whole, truncated, undecodable, tooMany, journal}
 use Rattle.model.specs.Store.{hasBackupFiles}
-use Rattle.model.specs.Step.{stepField}
+use Rattle.model.specs.Step.{stepField, fieldAt}
 use Rattle.model.specs.Plan.{isNewArtifact, recoverFault, recoverPlan, recovered, recoveredAt, withoutMark}
-use Rattle.model.specs.Answers.{fieldAt}
 use Rattle.store.specs.Words.{Words}
 use Rattle.store.specs.Tables.{mapOf}
 use Rattle.store.specs.Stores.{LentStore, storeIn, logBytes, storeOf}

@@ -1,10 +1,10 @@
 -- What the small functions of recovery do, as plans. The model's plans are made of these.
 use mathlib.Core.List.{List, [], _∷_, reverse}
 use mathlib.Core.Bool.{Bool, not, _&&_}
-use Rattle.model.specs.Order.{Name}
-use Rattle.model.specs.Map.{Map, look}
-use Rattle.model.specs.Base.{ifEmpty, isSome, ifPresent, ifMissing}
-use Rattle.model.specs.Name.{backupName}
+use Rattle.basics.specs.Order.{Name}
+use Rattle.basics.specs.Map.{Map, look}
+use Rattle.basics.specs.Base.{ifEmpty, isSome, ifPresent, ifMissing}
+use Rattle.basics.specs.Name.{backupName}
 use Rattle.model.specs.Operation.{Op}
 use Rattle.model.specs.Store.{Store, files}
 use Rattle.model.specs.Step.{Step, removeFile, removeDirectory, removeLog, apply}

@@ -10,12 +10,12 @@ use lib.Dec.{ltb, eqb, isEq}
 use lib.ListN.{length, getD, take, drop, drop-of-length-le}
 use lib.Seq.{drop-cons, take-take, take-append-seam}
 use borrow.Author.Tests.{ltb-true, lt-ltb, le-ltb}
-use Rattle.model.specs.Limits.{nameLimit}
-use Rattle.model.specs.Order.{caseCmp, thenCmp, ofOrdering, Name, cmpName}
-use Rattle.model.specs.Base.{Bytes, sameBytes}
-use Rattle.model.specs.Name.{backupName, backupExtension, originalName, isBackup}
-use Rattle.laws.specs.NameLaws.{endsIn, backup-test, backup-ends}
-use Rattle.laws.specs.Tests.{and-both}
+use Rattle.basics.specs.Limits.{nameLimit}
+use Rattle.basics.specs.Order.{caseCmp, thenCmp, ofOrdering, Name, cmpName}
+use Rattle.basics.specs.Base.{Bytes, sameBytes}
+use Rattle.basics.specs.Name.{backupName, backupExtension, originalName, isBackup}
+use Rattle.basic_laws.specs.NameLaws.{endsIn, backup-test, backup-ends}
+use Rattle.basic_laws.specs.Tests.{and-both}
 use Rattle.spans.specs.Spans.{backups, nameOf, lengthOf, Sound, Names, Original}
 use Rattle.spans.specs.declared.NameRef.{NameRef}
 use Rattle.spans.specs.declared.OriginalName.the-variants as original

@@ -8,12 +8,12 @@ use lib.Dec.{ltb}
 use lib.ListN.{length, take, drop, getD}
 use lib.Seq.{take-add, drop-drop}
 use borrow.Author.Tests.{ltb-true, ltb-false}
-use Rattle.model.specs.Order.{thenCmp, cmpNat, cmpName}
-use Rattle.model.specs.Base.{Bytes}
-use Rattle.model.specs.Field.{fromLittleEndian}
-use Rattle.laws.specs.OrderLaws.{natLaws, cmp-less, cmp-greater}
-use Rattle.laws.specs.Tests.{All}
-use Rattle.laws.specs.FieldLaws.{Byte}
+use Rattle.basics.specs.Order.{thenCmp, cmpNat, cmpName}
+use Rattle.basics.specs.Base.{Bytes}
+use Rattle.basics.specs.Field.{fromLittleEndian}
+use Rattle.basic_laws.specs.OrderLaws.{natLaws, cmp-less, cmp-greater}
+use Rattle.basic_laws.specs.Tests.{All}
+use Rattle.basic_laws.specs.FieldLaws.{Byte}
 use Rattle.field.proofs.Fields.{four}
 use Rattle.spans.specs.Spans.{onto, fromBigEndian}
 

@@ -8,11 +8,11 @@ use lib.ListN.{length, take, drop, getD, length-append, length-drop, List·getD-
 use lib.Dec.{ltb}
 use lib.Seq.{length-take-le, take-take, take-append-le, getD-take, getD-drop, getD-append-add, drop-drop}
 use borrow.Author.Tests.{ltb-true, ltb-false}
-use Rattle.model.specs.Order.{Name}
-use Rattle.model.specs.Base.{Bytes, sameBytes}
-use Rattle.model.specs.Name.{backupName, backupExtension}
-use Rattle.laws.specs.ListLaws.{drop-take}
-use Rattle.laws.specs.Tests.{same-refl}
+use Rattle.basics.specs.Order.{Name}
+use Rattle.basics.specs.Base.{Bytes, sameBytes}
+use Rattle.basics.specs.Name.{backupName, backupExtension}
+use Rattle.basic_laws.specs.ListLaws.{drop-take}
+use Rattle.basic_laws.specs.Tests.{same-refl}
 use Rattle.spans.specs.Spans.{backups, nameOf, lengthOf, Sound}
 use Rattle.spans.specs.declared.NameRef.{NameRef}
 

@@ -5,8 +5,8 @@ use Prim.Native.Nat.{ℕ, _+_, _≤_}
 use native.Mathlib.Omega.{arith}
 use lib.ListN.{length, take, drop, length-append, length-drop}
 use lib.Seq.{take-append-le, drop-append-le}
-use Rattle.model.specs.Base.{Bytes}
-use Rattle.laws.specs.Tests.{All}
+use Rattle.basics.specs.Base.{Bytes}
+use Rattle.basic_laws.specs.Tests.{All}
 use Rattle.spans.specs.Spans.{backups, nameOf, Sound}
 use Rattle.spans.specs.declared.NameRef.{NameRef}
 

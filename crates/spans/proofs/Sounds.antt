@@ -6,8 +6,8 @@ use native.Mathlib.Omega.{arith}
 use lib.Dec.{leb}
 use lib.ListN.{length}
 use borrow.Author.Tests.{leb-true, leb-false}
-use Rattle.model.specs.Limits.{nameLimit}
-use Rattle.model.specs.Base.{Bytes}
+use Rattle.basics.specs.Limits.{nameLimit}
+use Rattle.basics.specs.Base.{Bytes}
 use Rattle.spans.specs.Spans.{lengthOf, Sound, Decides}
 use Rattle.spans.specs.declared.NameRef.{NameRef}
 

@@ -6,11 +6,11 @@ use native.Mathlib.Numerals.{add-one}
 use native.Mathlib.Omega.{arith}
 use lib.ListN.{length, take, drop, getD, length-drop, drop-of-length-le}
 use lib.Seq.{drop-cons, drop-drop}
-use Rattle.model.specs.Order.{Cmp, lt, eq, gt, thenCmp, cmpNat, cmpName}
-use Rattle.model.specs.Base.{Bytes}
-use Rattle.laws.specs.OrderLaws.{natLaws, cmp-less, cmp-greater}
-use Rattle.laws.specs.Tests.{All, all-at, all-take, all-drop}
-use Rattle.laws.specs.FieldLaws.{Byte}
+use Rattle.basics.specs.Order.{Cmp, lt, eq, gt, thenCmp, cmpNat, cmpName}
+use Rattle.basics.specs.Base.{Bytes}
+use Rattle.basic_laws.specs.OrderLaws.{natLaws, cmp-less, cmp-greater}
+use Rattle.basic_laws.specs.Tests.{All, all-at, all-take, all-drop}
+use Rattle.basic_laws.specs.FieldLaws.{Byte}
 use Rattle.spans.specs.Spans.{nameOf, lengthOf, fromBigEndian, Sound}
 use Rattle.spans.specs.declared.NameRef.{NameRef}
 use Rattle.spans.proofs.Parts.{length-name, part-in-span}

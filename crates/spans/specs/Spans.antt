@@ -5,10 +5,10 @@ use Prim.Native.Nat.{ℕ, zero, suc, _+_, _*_, _≤_, _<_}
 use mathlib.Core.Option.{none, some}
 use mathlib.Core.Bool.{Bool, true, false}
 use lib.ListN.{length, take, drop}
-use Rattle.model.specs.Limits.{nameLimit}
-use Rattle.model.specs.Order.{Cmp, lt, eq, gt, Name}
-use Rattle.model.specs.Base.{Bytes}
-use Rattle.model.specs.Name.{backupName, originalName}
+use Rattle.basics.specs.Limits.{nameLimit}
+use Rattle.basics.specs.Order.{Cmp, lt, eq, gt, Name}
+use Rattle.basics.specs.Base.{Bytes}
+use Rattle.basics.specs.Name.{backupName, originalName}
 use Rattle.spans.specs.declared.NameRef.{NameRef}
 use Rattle.spans.specs.declared.Order.{Order}
 use Rattle.spans.specs.declared.Order.the-variants.{Less, Equal, Greater}

@@ -2,11 +2,11 @@ ghost use mathlib.Core.Path.{_≡_};
 ghost use mathlib.Core.List.{List, [], _∷_};
 ghost use Prim.Native.Nat.{ℕ, _≤_, _<_, _+_, _*_};
 ghost use lib.ListN.{length, getD, take, drop};
-ghost use Rattle.model.specs.Limits.{nameLimit};
-ghost use Rattle.model.specs.Order.{cmpName};
-ghost use Rattle.model.specs.Base.{sameBytes};
-ghost use Rattle.model.specs.Name.{isBackup, isTmp};
-ghost use Rattle.laws.specs.NameLaws.{endsIn};
+ghost use Rattle.basics.specs.Limits.{nameLimit};
+ghost use Rattle.basics.specs.Order.{cmpName};
+ghost use Rattle.basics.specs.Base.{sameBytes};
+ghost use Rattle.basics.specs.Name.{isBackup, isTmp};
+ghost use Rattle.basic_laws.specs.NameLaws.{endsIn};
 ghost use Rattle.spans.specs.Spans.{nameOf, lengthOf, orderOf, fromBigEndian, Sound, Decides, Names, Backup, Original};
 
 // A name that stands in the lent bytes, with ".bak" behind it some times: `nameOf` (specs/Spans.antt).

@@ -7,9 +7,9 @@ use Prim.Native.Nat.{ℕ}
 use lib.ListN.{take, drop}
 use types.Run.{OneOf}
 use denote.Enum.Declared.{tagOf}
-use Rattle.model.specs.Map.{Map, look, put, del}
-use Rattle.model.specs.Base.{Bytes, if_then_else_, caseOption}
-use Rattle.model.specs.Field.{littleEndian}
+use Rattle.basics.specs.Map.{Map, look, put, del}
+use Rattle.basics.specs.Base.{Bytes, if_then_else_, caseOption}
+use Rattle.basics.specs.Field.{littleEndian}
 use Rattle.model.specs.Log.{header, markCommitting}
 use Rattle.model.specs.Store as model
 use Rattle.model.specs.Step as step

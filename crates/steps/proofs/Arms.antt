@@ -7,7 +7,7 @@ use Prim.Native.Nat.{ℕ}
 use lib.Dec.{eqb}
 use borrow.Author.Tests.{eq-eqb}
 use types.Run.{OneOf}
-use Rattle.model.specs.Base.{Bytes, anyOf}
+use Rattle.basics.specs.Base.{Bytes, anyOf}
 use Rattle.steps.specs.declared.Step.{Step}
 use Rattle.steps.specs.Steps.{Names, SoundStep}
 

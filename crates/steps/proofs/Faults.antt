@@ -9,14 +9,13 @@ use lib.ListN.{length}
 use borrow.Author.Tests.{lt-ltb, le-ltb}
 use types.Run.{OneOf}
 use denote.Enum.Declared.{tagOf}
-use Rattle.model.specs.Limits.{nameLimit, dirLimit}
-use Rattle.model.specs.Order.{Name}
-use Rattle.model.specs.Map.{look}
-use Rattle.model.specs.Base.{Bytes, if_then_else_, caseOption, ifEmpty}
+use Rattle.basics.specs.Limits.{nameLimit, dirLimit}
+use Rattle.basics.specs.Order.{Name}
+use Rattle.basics.specs.Map.{look}
+use Rattle.basics.specs.Base.{Bytes, if_then_else_, caseOption, ifEmpty}
 use Rattle.model.specs.Store as model
 use Rattle.model.specs.Store.{dirs, files}
-use Rattle.model.specs.Step.{nameTooLong, newFile, stepFault, fails}
-use Rattle.model.specs.Answers.{commitNumber}
+use Rattle.model.specs.Step.{nameTooLong, newFile, stepFault, fails, commitNumber}
 use Rattle.spans.specs.Spans.{nameOf, Sound, Names}
 use Rattle.spans.specs.declared.NameRef.{NameRef}
 use Rattle.spans.proofs.Parts.{length-name}

@@ -4,12 +4,12 @@ use mathlib.Core.List.{List, [], _∷_}
 use Prim.Native.Nat.{ℕ, _≤_, _<_}
 use native.Mathlib.Omega.{arith}
 use lib.ListN.{length, getD}
-use Rattle.model.specs.Order.{Name}
-use Rattle.model.specs.Map.{Map}
-use Rattle.model.specs.Base.{Bytes}
+use Rattle.basics.specs.Order.{Name}
+use Rattle.basics.specs.Map.{Map}
+use Rattle.basics.specs.Base.{Bytes}
 use Rattle.model.specs.Store.{files}
 use Rattle.laws.specs.Listings.{files-named}
-use Rattle.laws.specs.Tests.{All, all-drop, in-all}
+use Rattle.basic_laws.specs.Tests.{All, all-drop, in-all}
 use Rattle.spans.specs.Spans.{nameOf, Sound}
 use Rattle.spans.specs.declared.NameRef.{NameRef}
 use Rattle.spans.proofs.Parts.{length-name}

@@ -5,14 +5,13 @@ use Prim.Native.Nat.{ℕ, _≤_, _<_}
 use native.Mathlib.Omega.{arith}
 use lib.ListN.{length}
 use borrow.Author.Tests.{lt-ltb, le-ltb}
-use Rattle.model.specs.Limits.{fileLimit}
-use Rattle.model.specs.Order.{Key}
-use Rattle.model.specs.Map.{Map, look, put, del}
-use Rattle.model.specs.Base.{Bytes, caseOption}
+use Rattle.basics.specs.Limits.{fileLimit}
+use Rattle.basics.specs.Order.{Key}
+use Rattle.basics.specs.Map.{Map, look, put, del}
+use Rattle.basics.specs.Base.{Bytes, caseOption}
 use Rattle.model.specs.Store.{fileCount}
-use Rattle.model.specs.Step.{newFile, Fault}
-use Rattle.model.specs.Answers.{commitNumber}
-use Rattle.laws.specs.MapLaws.{Sorted, del-absent}
+use Rattle.model.specs.Step.{newFile, Fault, commitNumber}
+use Rattle.basic_laws.specs.MapLaws.{Sorted, del-absent}
 use Rattle.laws.specs.TreeLaws.{one, length-size, size-del-le}
 use Rattle.store.specs.Places.{tableRoom, putIn}
 use Rattle.store.specs.Tables.{Table, mapOf, SoundTable, Holds, heldOf, Counted}

@@ -4,8 +4,8 @@ use mathlib.Core.List.{[], _∷_, _++_, append-assoc}
 use Prim.Native.Nat.{ℕ, _+_, _≤_, _<_}
 use native.Mathlib.Omega.{arith}
 use lib.ListN.{length, length-append}
-use Rattle.model.specs.Base.{Bytes}
-use Rattle.model.specs.Field.{littleEndian, encodeField}
+use Rattle.basics.specs.Base.{Bytes}
+use Rattle.basics.specs.Field.{littleEndian, encodeField}
 use Rattle.model.specs.Step.{zeroSeparated, stepField}
 use Rattle.spans.specs.Spans.{nameOf, lengthOf, Sound}
 use Rattle.spans.specs.declared.NameRef.{NameRef}

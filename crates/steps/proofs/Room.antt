@@ -7,15 +7,15 @@ use native.Mathlib.Omega.{arith}
 use lib.ListN.{length}
 use lib.Dec.{ltb}
 use borrow.Author.Tests.{ltb-true}
-use Rattle.model.specs.Limits.{dirLimit, fileLimit}
-use Rattle.model.specs.Order.{Name}
-use Rattle.model.specs.Map.{Map, look, put, del}
-use Rattle.model.specs.Base.{if_then_else_, caseOption}
+use Rattle.basics.specs.Limits.{dirLimit, fileLimit}
+use Rattle.basics.specs.Order.{Name}
+use Rattle.basics.specs.Map.{Map, look, put, del}
+use Rattle.basics.specs.Base.{if_then_else_, caseOption}
 use Rattle.model.specs.Store as model
 use Rattle.model.specs.Store.{dirs, fileCount, stagingKey}
 use Rattle.model.specs.Step as step
 use Rattle.model.specs.Step.{Step, apply, stepFault, newFile, fails, full}
-use Rattle.laws.specs.MapLaws.{Sorted}
+use Rattle.basic_laws.specs.MapLaws.{Sorted}
 use Rattle.laws.specs.TreeLaws.{size, isFile, isDir, file-size, dir-size, size-put-le, size-put-has, size-del-le, size-del-has}
 use Rattle.laws.specs.StoreLaws.{Good, size-drop-le, size-rename-le}
 use Rattle.laws.specs.StepLaws.{not-full, file-weight}

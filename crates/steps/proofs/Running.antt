@@ -5,9 +5,8 @@ use mathlib.Core.Bool.{true, false}
 use mathlib.Core.Logic.{_⊎_, ⊎-elim}
 use Prim.Native.Nat.{ℕ, _-_}
 use native.Mathlib.Omega.{arith}
-use Rattle.model.specs.Base.{Bytes}
-use Rattle.model.specs.Step.{apply, Fault, fails, full, stepFault}
-use Rattle.model.specs.Answers.{commitNumber}
+use Rattle.basics.specs.Base.{Bytes}
+use Rattle.model.specs.Step.{apply, Fault, fails, full, stepFault, commitNumber}
 use Rattle.store.specs.Stores.{LentStore, storeOf}
 use Rattle.plans.specs.Machine.{single}
 use Rattle.plans.specs.MachineLaws as laws

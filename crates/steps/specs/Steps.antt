@@ -3,9 +3,9 @@ use mathlib.Core.Path.{_≡_}
 use mathlib.Core.Option.{none}
 use Prim.Native.Nat.{_≤_}
 use lib.ListN.{length}
-use Rattle.model.specs.Limits.{dirLimit, fileLimit}
-use Rattle.model.specs.Base.{Bytes}
-use Rattle.model.specs.Map.{Map}
+use Rattle.basics.specs.Limits.{dirLimit, fileLimit}
+use Rattle.basics.specs.Base.{Bytes}
+use Rattle.basics.specs.Map.{Map}
 use Rattle.model.specs.Store as model
 use Rattle.model.specs.Store.{dirs, fileCount}
 use Rattle.model.specs.Step as step

@@ -6,12 +6,12 @@ use native.Mathlib.Numerals.{add-one}
 use native.Mathlib.Omega.{arith}
 use lib.ListN.{length, take, drop, getD, set, length-set}
 use lib.Seq.{take-set-lt, set-split}
-use Rattle.model.specs.Order.{Key}
-use Rattle.model.specs.Map as model
-use Rattle.model.specs.Map.{del}
-use Rattle.model.specs.Base.{Bytes}
-use Rattle.laws.specs.MapLaws.{Sorted, sorted-put, sorted-del}
-use Rattle.laws.specs.Tests.{All, all-append, all-take, all-drop}
+use Rattle.basics.specs.Order.{Key}
+use Rattle.basics.specs.Map as model
+use Rattle.basics.specs.Map.{del}
+use Rattle.basics.specs.Base.{Bytes}
+use Rattle.basic_laws.specs.MapLaws.{Sorted, sorted-put, sorted-del}
+use Rattle.basic_laws.specs.Tests.{All, all-append, all-take, all-drop}
 use Rattle.store.specs.declared.Node.{Node}
 use Rattle.store.specs.Words.{blank}
 use Rattle.store.specs.Places.{Hit, Gap, putIn, tableRoom}

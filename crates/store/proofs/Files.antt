@@ -6,13 +6,13 @@ use Prim.Native.Nat.{ℕ, zero, suc, _+_, _≤_, _<_}
 use native.Mathlib.Numerals.{add-one}
 use native.Mathlib.Omega.{arith}
 use lib.ListN.{take, drop, getD, take-append-drop}
-use Rattle.model.specs.Order.{Cmp, lt, eq, gt, Name, Key, cmpName, cmpKey, caseCmp, thenCmp}
-use Rattle.model.specs.Map.{Node, Map}
-use Rattle.model.specs.Base.{Bytes, ifEmpty, sameBytes}
+use Rattle.basics.specs.Order.{Cmp, lt, eq, gt, Name, Key, cmpName, cmpKey, caseCmp, thenCmp}
+use Rattle.basics.specs.Map.{Node, Map}
+use Rattle.basics.specs.Base.{Bytes, ifEmpty, sameBytes}
 use Rattle.model.specs.Store.{files}
-use Rattle.laws.specs.OrderLaws.{nameLaws, lt≢eq, lt≢gt, gt≢eq}
-use Rattle.laws.specs.MapLaws.{Sorted}
-use Rattle.laws.specs.Tests.{All}
+use Rattle.basic_laws.specs.OrderLaws.{nameLaws, lt≢eq, lt≢gt, gt≢eq}
+use Rattle.basic_laws.specs.MapLaws.{Sorted}
+use Rattle.basic_laws.specs.Tests.{All}
 use Rattle.spans.specs.Spans.{nameOf}
 use Rattle.store.specs.declared.Node as code
 use Rattle.store.specs.declared.Found.{Found}

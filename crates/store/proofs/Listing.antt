@@ -7,11 +7,11 @@ use native.Mathlib.Numerals.{add-one}
 use native.Mathlib.Omega.{arith}
 use lib.ListN.{length, take, drop, getD, set, length-set, length-map, List·getD-map}
 use lib.Seq.{take-suc, take-suc-set, append-snoc}
-use Rattle.model.specs.Order.{Name}
-use Rattle.model.specs.Map as model
-use Rattle.model.specs.Base.{Bytes, sameBytes}
+use Rattle.basics.specs.Order.{Name}
+use Rattle.basics.specs.Map as model
+use Rattle.basics.specs.Base.{Bytes, sameBytes}
 use Rattle.model.specs.Store.{dirs, files, stagingNames}
-use Rattle.laws.specs.Tests.{All, all-append, all-map}
+use Rattle.basic_laws.specs.Tests.{All, all-append, all-map}
 use Rattle.spans.specs.Spans.{nameOf, Sound}
 use Rattle.spans.specs.declared.NameRef.{NameRef}
 use Rattle.store.specs.declared.Node.{Node}

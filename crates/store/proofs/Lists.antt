@@ -4,7 +4,7 @@ use mathlib.Core.List.{List, [], _∷_, map}
 use Prim.Native.Nat.{ℕ, zero, suc, _<_}
 use native.Mathlib.Nat.{le-of-suc-le-suc, not-suc-le-zero}
 use lib.ListN.{length, take, drop, getD, set}
-use Rattle.laws.specs.Tests.{All}
+use Rattle.basic_laws.specs.Tests.{All}
 
 module _ {A : Type 0} {B : Type 0} (f : A → B) where
   pub map-take : (n : ℕ) (l : List A) → map f (take n l) ≡ take n (map f l)

@@ -6,8 +6,8 @@ use native.Mathlib.Numerals.{add-one}
 use native.Mathlib.Omega.{arith}
 use lib.ListN.{length, drop, getD, length-map, List·getD-map, drop-of-length-le}
 use lib.Seq.{drop-cons, length-take-le, getD-take}
-use Rattle.model.specs.Map as model
-use Rattle.model.specs.Base.{Bytes}
+use Rattle.basics.specs.Map as model
+use Rattle.basics.specs.Base.{Bytes}
 use Rattle.store.specs.declared.Node.{Node}
 use Rattle.store.specs.Tables.{Table, nodeOf, live, mapOf, SoundNode, Sized, SoundTable}
 use Rattle.store.proofs.Lists.{all-getD}

@@ -7,9 +7,9 @@ use native.Mathlib.Omega.{arith}
 use lib.Dec.{eqb}
 use lib.ListN.{length}
 use borrow.Author.Tests.{eq-eqb, ne-eqb}
-use Rattle.model.specs.Order.{Name}
-use Rattle.model.specs.Map.{Node, Map}
-use Rattle.model.specs.Base.{Bytes, ifEmpty}
+use Rattle.basics.specs.Order.{Name}
+use Rattle.basics.specs.Map.{Node, Map}
+use Rattle.basics.specs.Base.{Bytes, ifEmpty}
 use Rattle.model.specs.Store.{dirs}
 use Rattle.spans.specs.Spans.{nameOf, lengthOf, Sound}
 use Rattle.spans.proofs.Parts.{length-name}

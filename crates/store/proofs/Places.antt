@@ -6,11 +6,11 @@ use Prim.Native.Nat.{ℕ, zero, suc, _+_, _<_}
 use native.Mathlib.Nat.{le-of-suc-le-suc, not-suc-le-zero}
 use lib.ListN.{length, take, drop, getD, take-append-drop}
 use lib.Seq.{drop-cons}
-use Rattle.model.specs.Order.{lt, eq, gt, Key, cmpKey}
-use Rattle.model.specs.Map.{Node, Map, look, put, del}
-use Rattle.laws.specs.OrderLaws.{flip, keyLaws}
-use Rattle.laws.specs.MapLaws.{Above, Sorted, look-head}
-use Rattle.laws.specs.Tests.{All}
+use Rattle.basics.specs.Order.{lt, eq, gt, Key, cmpKey}
+use Rattle.basics.specs.Map.{Node, Map, look, put, del}
+use Rattle.basic_laws.specs.OrderLaws.{flip, keyLaws}
+use Rattle.basic_laws.specs.MapLaws.{Above, Sorted, look-head}
+use Rattle.basic_laws.specs.Tests.{All}
 use Rattle.store.specs.Places.{Under, Over, Hit, Gap}
 use Rattle.store.proofs.Lists.{all-getD, drop-zero, all-zero}
 

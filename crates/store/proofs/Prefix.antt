@@ -3,9 +3,9 @@ use mathlib.Core.Path.{_≡_, sym, subst}
 use mathlib.Core.List.{_++_}
 use native.Mathlib.Omega.{arith}
 use lib.ListN.{length-append}
-use Rattle.model.specs.Base.{Bytes}
-use Rattle.laws.specs.MapLaws.{Sorted}
-use Rattle.laws.specs.Tests.{all-imp}
+use Rattle.basics.specs.Base.{Bytes}
+use Rattle.basic_laws.specs.MapLaws.{Sorted}
+use Rattle.basic_laws.specs.Tests.{all-imp}
 use Rattle.spans.proofs.Prefix.{prefix-part, prefix-sound, prefix-name, map-same}
 use Rattle.store.specs.declared.Node.{Node}
 use Rattle.store.specs.declared.LogRef.{LogRef}

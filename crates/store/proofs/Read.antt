@@ -3,7 +3,7 @@ use mathlib.Core.Path.{_≡_, sym, ap, subst, _∙_}
 use mathlib.Core.List.{_∷_}
 use Prim.Native.Nat.{ℕ, _+_, _<_}
 use lib.ListN.{drop, getD}
-use Rattle.model.specs.Base.{Bytes}
+use Rattle.basics.specs.Base.{Bytes}
 use Rattle.store.specs.declared.Node.{Node}
 use Rattle.store.specs.Words.{blank}
 use Rattle.store.specs.Tables.{Table, nodeOf, mapOf, SoundNode, SoundTable}

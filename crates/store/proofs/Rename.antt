@@ -6,15 +6,15 @@ use Prim.Native.Nat.{ℕ, suc, _+_, _≤_, _<_}
 use native.Mathlib.Omega.{arith}
 use lib.ListN.{length, take, drop, getD}
 use lib.Seq.{getD-take}
-use Rattle.model.specs.Order.{Cmp, lt, eq, gt, Name, Key, cmpName, caseCmp}
-use Rattle.model.specs.Map as model
-use Rattle.model.specs.Map.{Map, put, del, look}
-use Rattle.model.specs.Base.{Bytes, if_then_else_, sameBytes}
+use Rattle.basics.specs.Order.{Cmp, lt, eq, gt, Name, Key, cmpName, caseCmp}
+use Rattle.basics.specs.Map as model
+use Rattle.basics.specs.Map.{Map, put, del, look}
+use Rattle.basics.specs.Base.{Bytes, if_then_else_, sameBytes}
 use Rattle.model.specs.Step.{removeDir, renameDir}
-use Rattle.laws.specs.OrderLaws.{nameLaws, keyLaws, lt≢eq}
-use Rattle.laws.specs.MapLaws.{Sorted, key-dec, ext, look-put-same, look-put-other, look-del-same, look-del-other, sorted-put, sorted-del}
+use Rattle.basic_laws.specs.OrderLaws.{nameLaws, keyLaws, lt≢eq}
+use Rattle.basic_laws.specs.MapLaws.{Sorted, key-dec, ext, look-put-same, look-put-other, look-del-same, look-del-other, sorted-put, sorted-del}
 use Rattle.laws.specs.TreeLaws.{one, length-size, size-put-le}
-use Rattle.laws.specs.Tests.{All}
+use Rattle.basic_laws.specs.Tests.{All}
 use Rattle.spans.specs.Spans.{nameOf, Sound}
 use Rattle.spans.specs.declared.NameRef.{NameRef}
 use Rattle.store.specs.declared.Node.{Node}

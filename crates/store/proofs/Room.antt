@@ -3,8 +3,8 @@ use mathlib.Core.Path.{_≡_}
 use Prim.Native.Nat.{ℕ, _≤_, _<_}
 use lib.ListN.{length}
 use borrow.Author.Tests.{lt-ltb, le-ltb}
-use Rattle.model.specs.Order.{Key}
-use Rattle.model.specs.Map.{Map, put}
+use Rattle.basics.specs.Order.{Key}
+use Rattle.basics.specs.Map.{Map, put}
 use Rattle.store.specs.Places.{tableRoom, putIn}
 
 module _ (k : Key) (v : ℕ) (m : Map) where

@@ -6,11 +6,11 @@ use Prim.Native.Nat.{ℕ, suc, _+_, _≤_, _<_}
 use native.Mathlib.Numerals.{add-one}
 use native.Mathlib.Omega.{arith}
 use lib.ListN.{length, take, drop, getD}
-use Rattle.model.specs.Order.{Key, cmpKey}
-use Rattle.model.specs.Map as model
-use Rattle.model.specs.Map.{look}
-use Rattle.model.specs.Base.{Bytes}
-use Rattle.laws.specs.Tests.{All}
+use Rattle.basics.specs.Order.{Key, cmpKey}
+use Rattle.basics.specs.Map as model
+use Rattle.basics.specs.Map.{look}
+use Rattle.basics.specs.Base.{Bytes}
+use Rattle.basic_laws.specs.Tests.{All}
 use Rattle.spans.specs.Spans.{Sound, orderOf}
 use Rattle.spans.specs.declared.NameRef.{NameRef}
 use Rattle.spans.specs.declared.Order.{Order}

@@ -7,12 +7,12 @@ use native.Mathlib.Numerals.{add-one}
 use native.Mathlib.Omega.{arith}
 use lib.ListN.{length, take, getD, set, length-set}
 use lib.Seq.{take-suc, take-suc-set, getD-set-other}
-use Rattle.model.specs.Order.{Cmp, lt, eq, gt, caseCmp, Name, cmpName}
-use Rattle.model.specs.Map as model
-use Rattle.model.specs.Base.{Bytes, if_then_else_, sameBytes}
+use Rattle.basics.specs.Order.{Cmp, lt, eq, gt, caseCmp, Name, cmpName}
+use Rattle.basics.specs.Map as model
+use Rattle.basics.specs.Base.{Bytes, if_then_else_, sameBytes}
 use Rattle.model.specs.Step.{removeDir}
 use Rattle.laws.specs.StoreLaws.{sorted-drop}
-use Rattle.laws.specs.Tests.{All, all-append}
+use Rattle.basic_laws.specs.Tests.{All, all-append}
 use Rattle.spans.specs.Spans.{nameOf, Sound}
 use Rattle.spans.specs.declared.NameRef.{NameRef}
 use Rattle.store.specs.declared.Node.{Node}

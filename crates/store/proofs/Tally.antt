@@ -4,9 +4,9 @@ use mathlib.Core.List.{[], _∷_}
 use Prim.Native.Nat.{ℕ, suc, _+_, _-_, _≤_, _<_}
 use native.Mathlib.Omega.{arith}
 use lib.ListN.{length, drop, getD}
-use Rattle.model.specs.Order.{Name}
-use Rattle.model.specs.Map as model
-use Rattle.model.specs.Base.{Bytes, ifEmpty}
+use Rattle.basics.specs.Order.{Name}
+use Rattle.basics.specs.Map as model
+use Rattle.basics.specs.Base.{Bytes, ifEmpty}
 use Rattle.model.specs.Store.{dirs, fileCount}
 use Rattle.spans.specs.Spans.{nameOf, lengthOf}
 use Rattle.spans.proofs.Parts.{length-name}

@@ -5,9 +5,9 @@ use mathlib.Core.List.{map}
 use Prim.Native.Nat.{ℕ, _≤_}
 use native.Mathlib.Omega.{arith}
 use lib.ListN.{length, take}
-use Rattle.model.specs.Base.{Bytes}
-use Rattle.model.specs.Map.{Map}
-use Rattle.model.specs.Field.{encodeFields}
+use Rattle.basics.specs.Base.{Bytes}
+use Rattle.basics.specs.Map.{Map}
+use Rattle.basics.specs.Field.{encodeFields}
 use Rattle.laws.specs.ImageLaws.{listed}
 
 -- The first `kept` bytes are the fields of the directories with their files, "0x10 (name), followed by its files"; 0 says nothing of them.

@@ -1,7 +1,7 @@
 -- What a listing asks of a node.
 use mathlib.Core.Bool.{Bool, true, false}
-use Rattle.model.specs.Map.{Node}
-use Rattle.model.specs.Base.{ifEmpty}
+use Rattle.basics.specs.Map.{Node}
+use Rattle.basics.specs.Base.{ifEmpty}
 
 -- A node is a directory's own.
 unfoldable pub isDir : Node → Bool

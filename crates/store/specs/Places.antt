@@ -4,10 +4,10 @@ use Prim.Native.Nat.{ℕ, suc, _≤_, _<_}
 use mathlib.Core.List.{_∷_}
 use lib.ListN.{length, take, drop}
 use lib.Dec.{ltb}
-use Rattle.model.specs.Order.{lt, gt, Key, cmpKey}
-use Rattle.model.specs.Map.{Node, Map, put}
-use Rattle.model.specs.Base.{if_then_else_}
-use Rattle.laws.specs.Tests.{All}
+use Rattle.basics.specs.Order.{lt, gt, Key, cmpKey}
+use Rattle.basics.specs.Map.{Node, Map, put}
+use Rattle.basics.specs.Base.{if_then_else_}
+use Rattle.basic_laws.specs.Tests.{All}
 
 -- A node below a key, and one above it.
 abbrev pub Under : Key → Node → Type 0

@@ -3,7 +3,7 @@ use Prim.Native.Nat.{_+_, _≤_}
 use mathlib.Core.Bool.{Bool}
 use mathlib.Core.Option.{Option, none, some}
 use lib.ListN.{length, take, drop}
-use Rattle.model.specs.Base.{Bytes, if_then_else_}
+use Rattle.basics.specs.Base.{Bytes, if_then_else_}
 use Rattle.model.specs.Log.{markCommitting}
 use Rattle.model.specs.Store as model
 use Rattle.store.specs.Words.{Words}

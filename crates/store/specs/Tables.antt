@@ -5,12 +5,12 @@ use Prim.Native.Nat.{ℕ, _≤_}
 use mathlib.Core.List.{List, [], map}
 use mathlib.Core.Option.{Option, none, some}
 use lib.ListN.{length, take, drop}
-use Rattle.model.specs.Order.{Key, Name}
-use Rattle.model.specs.Map as model
-use Rattle.model.specs.Base.{Bytes}
+use Rattle.basics.specs.Order.{Key, Name}
+use Rattle.basics.specs.Map as model
+use Rattle.basics.specs.Base.{Bytes}
 use Rattle.model.specs.Store.{dirs, files, fileCount}
-use Rattle.laws.specs.MapLaws.{Sorted}
-use Rattle.laws.specs.Tests.{All}
+use Rattle.basic_laws.specs.MapLaws.{Sorted}
+use Rattle.basic_laws.specs.Tests.{All}
 use Rattle.spans.specs.Spans.{nameOf, Sound}
 use Rattle.spans.specs.declared.NameRef.{NameRef}
 use Rattle.store.specs.Places.{Over, Hit, Gap, tableRoom}

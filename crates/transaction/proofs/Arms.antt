@@ -5,9 +5,9 @@ use mathlib.Core.Bool.{Bool}
 use Prim.Native.Nat.{ℕ, zero, suc}
 use native.Mathlib.Omega.{arith}
 use lib.ListN.{length, take, getD}
-use Rattle.model.specs.Base.{Bytes, if_then_else_, sameBytes}
+use Rattle.basics.specs.Base.{Bytes, if_then_else_, sameBytes}
 use Rattle.model.specs.Operation.{fieldTable, fieldTags, kind, values, makers}
-use Rattle.laws.specs.Tests.{All}
+use Rattle.basic_laws.specs.Tests.{All}
 use Rattle.spans.specs.Spans.{nameOf, Sound}
 use Rattle.spans.specs.declared.NameRef.{NameRef}
 use Rattle.transaction.specs.Rows.{SoundParts, made, Makes, Columns}

@@ -7,11 +7,11 @@ use native.Mathlib.Omega.{arith}
 use lib.Dec.{eqb}
 use lib.ListN.{length}
 use borrow.Author.Tests.{ne-eqb, eqb-true}
-use Rattle.model.specs.Base.{Bytes, if_then_else_, sameBytes}
-use Rattle.model.specs.Name.{validName}
+use Rattle.basics.specs.Base.{Bytes, if_then_else_, sameBytes}
+use Rattle.basics.specs.Name.{validName}
 use Rattle.model.specs.Operation.{isMark, validValue}
-use Rattle.laws.specs.Tests.{same-eq}
-use Rattle.laws.specs.ValidNames.{valid-length}
+use Rattle.basic_laws.specs.Tests.{same-eq}
+use Rattle.basic_laws.specs.ValidNames.{valid-length}
 use Rattle.field.specs.Writing.{field}
 
 -- The tests of `is_mark`.

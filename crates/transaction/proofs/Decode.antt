@@ -12,10 +12,10 @@ use lib.Seq.{drop-cons, length-take-le, getD-take, take-suc-set}
 use borrow.Author.Tests.{leb-true, leb-false, eqb-true, eqb-false}
 use types.Run.{OneOf}
 use denote.Enum.Declared.{tagOf}
-use Rattle.model.specs.Base.{Bytes, caseOption, if_then_else_, sameBytes, allOf}
-use Rattle.model.specs.Field.{Field, fromLittleEndian, fieldsFrom, decodeFields}
+use Rattle.basics.specs.Base.{Bytes, caseOption, if_then_else_, sameBytes, allOf}
+use Rattle.basics.specs.Field.{Field, fromLittleEndian, fieldsFrom, decodeFields}
 use Rattle.model.specs.Operation.{validValue}
-use Rattle.laws.specs.OrderLaws.{natLaws}
+use Rattle.basic_laws.specs.OrderLaws.{natLaws}
 use Rattle.spans.specs.Spans.{nameOf, Sound, Names}
 use Rattle.spans.specs.declared.NameRef.{NameRef}
 use Rattle.field.specs.Reading.{fieldOf, Reads, Stands}

@@ -8,10 +8,10 @@ use native.Mathlib.Omega.{arith}
 use native.Mathlib.Numerals.{add-one}
 use lib.ListN.{length, take, drop, getD, length-append, length-map}
 use lib.Seq.{take-suc, take-all, length-take-le, getD-take, take-append-seam}
-use Rattle.model.specs.Base.{Bytes}
-use Rattle.model.specs.Field.{Field, encodeField, encodeFields}
+use Rattle.basics.specs.Base.{Bytes}
+use Rattle.basics.specs.Field.{Field, encodeField, encodeFields}
 use Rattle.model.specs.Operation.{Op, write, delete, deleteAll, createCollection, deleteCollection, copyCollection, fieldTable, fieldTags, kind, values, tagged, encodePayload}
-use Rattle.laws.specs.FieldLaws.{encode-append, encode-one}
+use Rattle.basic_laws.specs.FieldLaws.{encode-append, encode-one}
 use Rattle.spans.specs.Spans.{nameOf, lengthOf, Sound, Decides}
 use Rattle.spans.specs.declared.NameRef.{NameRef}
 use Rattle.spans.proofs.Parts.{length-name}

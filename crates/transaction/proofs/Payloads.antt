@@ -10,10 +10,10 @@ use lib.ListN.{length, take, drop, getD, getElem?, take-append-drop, drop-of-len
 use borrow.Author.Tests.{leb-true, leb-false, le-leb, lt-leb}
 use types.Run.{OneOf}
 use denote.Enum.Declared.{tagOf}
-use Rattle.model.specs.Base.{Bytes, caseOption, if_then_else_, sameBytes, allOf}
-use Rattle.model.specs.Field.{Field, fieldsFrom, decodeFields}
+use Rattle.basics.specs.Base.{Bytes, caseOption, if_then_else_, sameBytes, allOf}
+use Rattle.basics.specs.Field.{Field, fieldsFrom, decodeFields}
 use Rattle.model.specs.Operation.{fieldTags, makers, validValue, opOfFields, decodePayload}
-use Rattle.laws.specs.Tests.{and-both, All, all-imp}
+use Rattle.basic_laws.specs.Tests.{and-both, All, all-imp}
 use Rattle.spans.specs.Spans.{nameOf, Sound}
 use Rattle.spans.specs.declared.NameRef.{NameRef}
 use Rattle.spans.proofs.Prefix.{prefix-sound, prefix-name, map-same}

@@ -7,8 +7,8 @@ use native.Mathlib.Omega.{arith}
 use lib.Dec.{eqb}
 use lib.ListN.{length, getD}
 use borrow.Author.Tests.{eqb-true, eq-eqb}
-use Rattle.model.specs.Base.{Bytes, sameBytes}
-use Rattle.laws.specs.Tests.{same-eq, same-refl}
+use Rattle.basics.specs.Base.{Bytes, sameBytes}
+use Rattle.basic_laws.specs.Tests.{same-eq, same-refl}
 
 pub and-right : (a : Bool) → (a && false) ≡ false
 and-right true = refl

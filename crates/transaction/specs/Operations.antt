@@ -6,7 +6,7 @@ use mathlib.Core.Option.{Option, none, some}
 use mathlib.Core.Bool.{Bool, _&&_}
 use lib.ListN.{length, take, drop}
 use lib.Dec.{leb}
-use Rattle.model.specs.Base.{Bytes, if_then_else_}
+use Rattle.basics.specs.Base.{Bytes, if_then_else_}
 use Rattle.model.specs.Operation.{Op, write, delete, deleteAll, createCollection, deleteCollection, copyCollection, encodePayload, decodePayload}
 use Rattle.field.specs.Writing.{Writes}
 use Rattle.spans.specs.Spans.{nameOf, Sound}

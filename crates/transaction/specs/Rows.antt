@@ -5,10 +5,10 @@ use mathlib.Core.List.{List, [], _∷_, map}
 use mathlib.Core.Option.{Option, none, some}
 use mathlib.Core.Bool.{_&&_}
 use lib.ListN.{length, take, drop, getElem?}
-use Rattle.model.specs.Base.{Bytes, caseOption, if_then_else_, sameBytes, allOf}
-use Rattle.model.specs.Field.{encodeField, decodeFields}
+use Rattle.basics.specs.Base.{Bytes, caseOption, if_then_else_, sameBytes, allOf}
+use Rattle.basics.specs.Field.{encodeField, decodeFields}
 use Rattle.model.specs.Operation.{Op, fieldTags, kind, values, makers, validValue}
-use Rattle.laws.specs.Tests.{All}
+use Rattle.basic_laws.specs.Tests.{All}
 use Rattle.field.specs.Writing.{written, field}
 use Rattle.spans.specs.Spans.{nameOf, Sound}
 use Rattle.spans.specs.declared.NameRef.{NameRef}

@@ -3,7 +3,7 @@ ghost use mathlib.Core.Path.{_≡_};
 ghost use mathlib.Core.List.{List, [], _∷_};
 ghost use Prim.Native.Nat.{ℕ, _≤_};
 ghost use lib.ListN.{length, getD, take};
-ghost use Rattle.model.specs.Base.{if_then_else_, sameBytes};
+ghost use Rattle.basics.specs.Base.{if_then_else_, sameBytes};
 ghost use Rattle.model.specs.Operation.{fieldTags, kind, isMark, validValue, encodePayload};
 ghost use Rattle.field.specs.Writing.{field};
 ghost use Rattle.spans.specs.Spans.{nameOf, Sound, Decides};

@@ -4,9 +4,9 @@ use mathlib.Core.List.{[], _∷_, _++_}
 use Prim.Native.Nat.{ℕ, _+_, _-_, _≤_, _<_}
 use native.Mathlib.Omega.{arith}
 use lib.ListN.{length}
-use Rattle.model.specs.Base.{Bytes}
-use Rattle.model.specs.Crc32.{crc32}
-use Rattle.model.specs.Field.{littleEndian}
+use Rattle.basics.specs.Base.{Bytes}
+use Rattle.basics.specs.Crc32.{crc32}
+use Rattle.basics.specs.Field.{littleEndian}
 use Rattle.model.specs.Log.{header, entry}
 use Rattle.model.specs.Operation.{encodePayload}
 use Rattle.laws.specs.AppendLaws.{entry-length}

@@ -8,10 +8,10 @@ use lib.Dec.{eqb}
 use lib.ListN.{length, take, drop, getD, length-drop}
 use lib.Seq.{length-take-le}
 use borrow.Author.Tests.{eqb-true, eq-eqb}
-use Rattle.model.specs.Base.{Bytes, sameBytes, atLeast}
-use Rattle.model.specs.Field.{littleEndian, fromLittleEndian}
-use Rattle.laws.specs.Tests.{All}
-use Rattle.laws.specs.FieldLaws.{Byte, le-four}
+use Rattle.basics.specs.Base.{Bytes, sameBytes, atLeast}
+use Rattle.basics.specs.Field.{littleEndian, fromLittleEndian}
+use Rattle.basic_laws.specs.Tests.{All}
+use Rattle.basic_laws.specs.FieldLaws.{Byte, le-four}
 use Rattle.field.specs.Reading.{u32At}
 use Rattle.field.proofs.Fields.{number-there}
 use Rattle.field.proofs.Numbers.{bytes-again}

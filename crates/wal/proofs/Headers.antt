@@ -6,10 +6,10 @@ use native.Mathlib.Omega.{arith}
 use lib.Dec.{leb, eqb}
 use lib.ListN.{length, take, getD}
 use borrow.Author.Tests.{eq-eqb, ne-eqb, lt-leb}
-use Rattle.model.specs.Base.{Bytes}
-use Rattle.model.specs.Crc32.{crc32}
+use Rattle.basics.specs.Base.{Bytes}
+use Rattle.basics.specs.Crc32.{crc32}
 use Rattle.model.specs.Log.{validHeader, entries, absent, recording, committing, readJournal}
-use Rattle.laws.specs.FieldLaws.{Byte}
+use Rattle.basic_laws.specs.FieldLaws.{Byte}
 use Rattle.field.specs.Reading.{u32At}
 use Rattle.wal.proofs.Checksums.{same-number, enough, too-few}
 

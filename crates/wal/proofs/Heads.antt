@@ -9,11 +9,11 @@ use lib.Dec.{leb, eqb}
 use lib.ListN.{length, take, drop, getD, length-drop}
 use lib.Seq.{drop-drop}
 use borrow.Author.Tests.{eq-eqb, ne-eqb, le-leb, lt-leb}
-use Rattle.model.specs.Base.{Bytes, if_then_else_, sameBytes, atLeast}
-use Rattle.model.specs.Crc32.{crc32}
-use Rattle.model.specs.Field.{littleEndian, fromLittleEndian}
+use Rattle.basics.specs.Base.{Bytes, if_then_else_, sameBytes, atLeast}
+use Rattle.basics.specs.Crc32.{crc32}
+use Rattle.basics.specs.Field.{littleEndian, fromLittleEndian}
 use Rattle.model.specs.Log.{firstPayload}
-use Rattle.laws.specs.FieldLaws.{Byte}
+use Rattle.basic_laws.specs.FieldLaws.{Byte}
 use Rattle.field.specs.Reading.{u32At}
 use Rattle.field.proofs.Fields.{number-there}
 use Rattle.transaction.specs.Operations.{part}

@@ -9,11 +9,11 @@ use native.Mathlib.Omega.{arith}
 use native.Mathlib.Numerals.{add-one}
 use lib.ListN.{length, replicate, take, drop, set, length-drop, length-set, drop-of-length-le}
 use lib.Seq.{drop-cons, drop-drop, take-take, length-take-le, take-suc-set}
-use Rattle.model.specs.Base.{Bytes, caseOption}
+use Rattle.basics.specs.Base.{Bytes, caseOption}
 use Rattle.model.specs.Operation.{Op, decodePayload}
 use Rattle.model.specs.Log.{Entries, stop, after, firstPayload, walk, entries, readJournal}
 use Rattle.model.specs.Log as model
-use Rattle.laws.specs.Tests.{All}
+use Rattle.basic_laws.specs.Tests.{All}
 use Rattle.transaction.specs.Operations.{opOf, SoundOp, decodedOf, Bounds, inBounds, part, Decodes}
 use Rattle.transaction.specs.declared.Operation.{Operation}
 use Rattle.transaction.specs.declared.Operation.the-variants.{DeleteAll}

@@ -6,11 +6,11 @@ use mathlib.Core.Option.{Option, none, some}
 use mathlib.Core.Bool.{_&&_}
 use lib.ListN.{length, take, drop}
 use lib.Dec.{leb}
-use Rattle.model.specs.Base.{Bytes, if_then_else_}
+use Rattle.basics.specs.Base.{Bytes, if_then_else_}
 use Rattle.model.specs.Operation.{Op}
 use Rattle.model.specs.Log.{Entries, Journal, absent, recording, committing, stop, firstPayload, entries}
 use Rattle.model.specs.Log as model
-use Rattle.laws.specs.Tests.{All}
+use Rattle.basic_laws.specs.Tests.{All}
 use Rattle.transaction.specs.Operations.{opOf, SoundOp, inBounds, part}
 use Rattle.wal.specs.declared.Status.{Status}
 use Rattle.wal.specs.declared.Status.the-variants.{Absent, Recording, Committing}

@@ -1,6 +1,6 @@
 -- A store as the image is to have it: with the log that a `Tail` leaves.
 use mathlib.Core.Option.{some}
-use Rattle.model.specs.Base.{Bytes}
+use Rattle.basics.specs.Base.{Bytes}
 use Rattle.model.specs.Log.{header}
 use Rattle.model.specs.Store as model
 use Rattle.model.specs.Record.{appended}

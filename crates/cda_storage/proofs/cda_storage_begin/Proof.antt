@@ -4,9 +4,9 @@ use mathlib.Core.List.{[], _∷_}
 use borrow.Author.Needs.{needs}
 use lib.ListN.{length}
 use lib.Seq.{take-length}
-use Rattle.model.specs.Answers.{begin}
+use Rattle.answers.specs.Answers.{begin}
 use Rattle.model.specs.Record.{beginTransaction}
-use Rattle.laws.specs.Bounds.{begin-bounded}
+use Rattle.answer_laws.specs.Bounds.{begin-bounded}
 use Rattle.handover.specs.Numbers.{begin-numbers}
 use Rattle.handover.specs.Trees.{begin-leaves}
 use Rattle.cda_storage.proofs.Recorded.{not-opened, hands-on, stands, handed}

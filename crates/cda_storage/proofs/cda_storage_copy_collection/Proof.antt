@@ -1,7 +1,7 @@
 -- `cda_storage::cda_storage_copy_collection` meets its contract.
 use native.Mathlib.Omega.{arith}
 use lib.ListN.{length}
-use Rattle.model.specs.Answers.{copyCollection}
+use Rattle.answers.specs.Answers.{copyCollection}
 use Rattle.model.specs.Record.{recordCopy}
 use Rattle.cda_storage.proofs.Lent.{has-room}
 use Rattle.cda_storage.proofs.Recorded.{not-opened}

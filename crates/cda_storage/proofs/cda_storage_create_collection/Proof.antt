@@ -1,7 +1,7 @@
 -- `cda_storage::cda_storage_create_collection` meets its contract.
 use native.Mathlib.Omega.{arith}
 use lib.ListN.{length}
-use Rattle.model.specs.Answers.{createCollection}
+use Rattle.answers.specs.Answers.{createCollection}
 use Rattle.model.specs.Record.{recordCreate}
 use Rattle.cda_storage.proofs.Lent.{has-room}
 use Rattle.cda_storage.proofs.Recorded.{not-opened}

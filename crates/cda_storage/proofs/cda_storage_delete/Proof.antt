@@ -1,7 +1,7 @@
 -- `cda_storage::cda_storage_delete` meets its contract.
 use native.Mathlib.Omega.{arith}
 use lib.ListN.{length}
-use Rattle.model.specs.Answers.{delete}
+use Rattle.answers.specs.Answers.{delete}
 use Rattle.model.specs.Record.{recordDelete}
 use Rattle.cda_storage.proofs.Lent.{has-room}
 use Rattle.cda_storage.proofs.Recorded.{not-opened}

@@ -1,7 +1,7 @@
 -- `cda_storage::cda_storage_delete_all` meets its contract.
 use native.Mathlib.Omega.{arith}
 use lib.ListN.{length}
-use Rattle.model.specs.Answers.{deleteAll}
+use Rattle.answers.specs.Answers.{deleteAll}
 use Rattle.model.specs.Record.{recordDeleteAll}
 use Rattle.cda_storage.proofs.Lent.{has-room}
 use Rattle.cda_storage.proofs.Recorded.{not-opened}

@@ -1,7 +1,7 @@
 -- `cda_storage::cda_storage_delete_collection` meets its contract.
 use native.Mathlib.Omega.{arith}
 use lib.ListN.{length}
-use Rattle.model.specs.Answers.{deleteCollection}
+use Rattle.answers.specs.Answers.{deleteCollection}
 use Rattle.model.specs.Record.{recordDeleteCollection}
 use Rattle.cda_storage.proofs.Lent.{has-room}
 use Rattle.cda_storage.proofs.Recorded.{not-opened}

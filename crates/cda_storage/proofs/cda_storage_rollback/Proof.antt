@@ -3,9 +3,9 @@ use mathlib.Core.Path.{refl}
 use mathlib.Core.List.{[], _∷_}
 use lib.ListN.{length}
 use lib.Seq.{take-length}
-use Rattle.model.specs.Answers.{rollback}
+use Rattle.answers.specs.Answers.{rollback}
 use Rattle.model.specs.Record.{discard}
-use Rattle.laws.specs.Bounds.{rollback-bounded}
+use Rattle.answer_laws.specs.Bounds.{rollback-bounded}
 use Rattle.handover.specs.Numbers.{rollback-numbers}
 use Rattle.handover.specs.Trees.{rollback-leaves}
 use Rattle.cda_storage.proofs.Recorded.{not-opened, hands-on, stands, handed}

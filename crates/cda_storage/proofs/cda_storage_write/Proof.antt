@@ -1,7 +1,7 @@
 -- `cda_storage::cda_storage_write` meets its contract.
 use native.Mathlib.Omega.{arith}
 use lib.ListN.{length}
-use Rattle.model.specs.Answers.{write}
+use Rattle.answers.specs.Answers.{write}
 use Rattle.model.specs.Record.{recordWrite}
 use Rattle.cda_storage.proofs.Lent.{has-room}
 use Rattle.cda_storage.proofs.Recorded.{not-opened}

@@ -2,7 +2,7 @@
 use mathlib.Core.Path.{_≡_}
 use Prim.Native.Nat.{_%_}
 use native.Mathlib.Omega.{arith}
-use Rattle.model.specs.Crc32.{shift, addPolynomial}
+use Rattle.basics.specs.Crc32.{shift, addPolynomial}
 use Rattle.crc32.proofs.shift_once.Statement.{statement}
 use Rattle.crc32.proofs.shift_once.Tie as tie
 

@@ -2,7 +2,7 @@
 use mathlib.Core.Path.{sym}
 use native.Mathlib.Omega.{arith}
 use borrow.Author.Needs.{needs}
-use Rattle.model.specs.Field.{littleEndian, encodeField, encodeFields}
+use Rattle.basics.specs.Field.{littleEndian, encodeField, encodeFields}
 use Rattle.field.proofs.Written.{written-nil}
 use Rattle.encode.proofs.put_mark.Statement.{statement}
 use Rattle.encode.proofs.put_mark.Tie as tie

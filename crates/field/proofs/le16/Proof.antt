@@ -1,7 +1,7 @@
 -- `field::le16` meets its contract: the sum is the definition's.
 use native.Mathlib.Omega.{arith}
 use borrow.Author.Needs.{needs}
-use Rattle.model.specs.Field.{fromLittleEndian}
+use Rattle.basics.specs.Field.{fromLittleEndian}
 use Rattle.field.proofs.le16.Statement.{statement}
 use Rattle.field.proofs.le16.Tie as tie
 

@@ -1,7 +1,7 @@
 -- `field::le32` meets its contract: two numbers of two bytes are one of four.
 use native.Mathlib.Omega.{arith}
 use borrow.Author.Needs.{needs}
-use Rattle.model.specs.Field.{fromLittleEndian}
+use Rattle.basics.specs.Field.{fromLittleEndian}
 use Rattle.field.proofs.le32.Statement.{statement}
 use Rattle.field.proofs.le32.Tie as tie
 

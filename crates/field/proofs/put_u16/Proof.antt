@@ -3,7 +3,7 @@ use native.Mathlib.Numerals.{add-one}
 use native.Mathlib.Omega.{arith}
 use lib.ListN.{length-set}
 use borrow.Author.Needs.{needs}
-use Rattle.model.specs.Field.{littleEndian}
+use Rattle.basics.specs.Field.{littleEndian}
 use Rattle.field.proofs.Numbers.{two-bytes}
 use Rattle.field.proofs.Written.{stored, written-none}
 use Rattle.field.proofs.put_u16.Statement.{statement}

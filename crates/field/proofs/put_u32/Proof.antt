@@ -2,7 +2,7 @@
 use mathlib.Core.Path.{refl}
 use native.Mathlib.Omega.{arith}
 use borrow.Author.Needs.{needs}
-use Rattle.model.specs.Field.{littleEndian}
+use Rattle.basics.specs.Field.{littleEndian}
 use Rattle.field.proofs.Numbers.{four-bytes}
 use Rattle.field.proofs.Written.{written-then, written-none}
 use Rattle.field.proofs.put_u32.Statement.{statement}

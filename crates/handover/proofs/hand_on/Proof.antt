@@ -3,7 +3,7 @@ use borrow.Author.Needs.{needs}
 use mathlib.Core.Path.{refl, sym, ap, subst}
 use Prim.Native.Nat.{_≤_}
 use lib.ListN.{length}
-use Rattle.model.specs.Answers.{Answer}
+use Rattle.answers.specs.Answers.{Answer}
 use Rattle.handover.proofs.Outputs.{left-alone, turned-down, recorded, gives}
 use Rattle.handover.proofs.hand_on.Statement.{statement}
 use Rattle.handover.proofs.hand_on.Tie as tie

@@ -5,7 +5,7 @@ use native.Mathlib.Omega.{arith}
 use borrow.Author.Needs.{needs}
 use lib.ListN.{length, take}
 use lib.Seq.{length-take-le}
-use Rattle.model.specs.Name.{validName, lower}
+use Rattle.basics.specs.Name.{validName, lower}
 use Rattle.paths.proofs.Lower.{length-lower}
 use Rattle.lend.proofs.Lent.{not-lent, lent, long-key, same-size, kept, written-part}
 use Rattle.lend.proofs.lend_key.Statement.{statement}

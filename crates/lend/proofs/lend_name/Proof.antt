@@ -5,7 +5,7 @@ use native.Mathlib.Omega.{arith}
 use borrow.Author.Needs.{needs}
 use lib.ListN.{length, take}
 use lib.Seq.{length-take-le}
-use Rattle.laws.specs.ValidNames.{valid-length}
+use Rattle.basic_laws.specs.ValidNames.{valid-length}
 use Rattle.field.proofs.Written.{length-written}
 use Rattle.lend.proofs.Lent.{not-lent, lent, same-size}
 use Rattle.lend.proofs.lend_name.Statement.{statement}

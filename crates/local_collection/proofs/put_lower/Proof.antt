@@ -1,7 +1,7 @@
 -- `put_lower` meets its contract: byte by byte, by crate field's record of a loop that writes.
 use mathlib.Core.Path.{_∙_, ap}
 use Prim.Native.Nat.{_-_}
-use Rattle.model.specs.Name.{lower, lowerByte}
+use Rattle.basics.specs.Name.{lower, lowerByte}
 use Rattle.field.proofs.Written.{Pasting, pasting, pasted, all-pasted, written-none}
 use Rattle.paths.proofs.Lower.{lower-at}
 use Rattle.spans.specs.Spans.{nameOf}

@@ -1,7 +1,7 @@
 -- `apply_operation`: by the operation's kind.
 use mathlib.Core.Option.{none, some}
 use borrow.Author.Needs.{needs}
-use Rattle.laws.specs.ValidNames.{valid-named}
+use Rattle.basic_laws.specs.ValidNames.{valid-named}
 use Rattle.steps.proofs.FileNames.{file-name}
 use Rattle.recovery.proofs.Follow.{follows-as}
 use Rattle.operations.proofs.Careful.{lawful, stopped}

@@ -2,7 +2,7 @@
 use borrow.Author.Needs.{needs}
 use denote.Ref.{now}
 use mathlib.Core.Path.{sym, _∙_}
-use Rattle.laws.specs.ValidNames.{backup-named}
+use Rattle.basic_laws.specs.ValidNames.{backup-named}
 use Rattle.steps.specs.Steps.{stepOf}
 use Rattle.steps.proofs.FileNames.{file-name}
 use Rattle.operations.proofs.Careful.{refused, long-file}

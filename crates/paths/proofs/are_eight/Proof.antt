@@ -1,7 +1,7 @@
 -- `are_eight` tests four bytes twice.
 use mathlib.Core.Path.{refl}
 use borrow.Author.Needs.{needs}
-use Rattle.model.specs.Name.{isNameByte}
+use Rattle.basics.specs.Name.{isNameByte}
 use Rattle.paths.proofs.Checks.{and-second, and-first, all-eight}
 use Rattle.paths.proofs.are_eight.Statement.{statement}
 use Rattle.paths.proofs.are_eight.Tie as tie

@@ -5,7 +5,7 @@ use native.Mathlib.Omega.{arith}
 use lib.ListN.{length}
 use borrow.Author.Needs.{needs}
 use borrow.Author.Tests.{not-true, not-false}
-use Rattle.model.specs.Name.{isNameByte}
+use Rattle.basics.specs.Name.{isNameByte}
 use Rattle.paths.proofs.Checks.{Passed, passed, wrong, right, all}
 use Rattle.paths.proofs.are_few.Statement.{statement}
 use Rattle.paths.proofs.are_few.Tie as tie

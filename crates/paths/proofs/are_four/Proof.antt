@@ -2,7 +2,7 @@
 use mathlib.Core.Path.{refl}
 use mathlib.Core.Logic.{⊎-elim}
 use borrow.Author.Needs.{needs}
-use Rattle.model.specs.Name.{isNameByte}
+use Rattle.basics.specs.Name.{isNameByte}
 use Rattle.paths.proofs.Checks.{and-second, and-first, all-four}
 use Rattle.paths.proofs.are_four.Statement.{statement}
 use Rattle.paths.proofs.are_four.Tie as tie

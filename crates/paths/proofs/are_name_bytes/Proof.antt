@@ -5,7 +5,7 @@ use native.Mathlib.Omega.{arith}
 use lib.ListN.{length}
 use borrow.Author.Needs.{needs}
 use borrow.Author.Tests.{not-true, not-false}
-use Rattle.model.specs.Name.{isNameByte}
+use Rattle.basics.specs.Name.{isNameByte}
 use Rattle.paths.proofs.Checks.{Passed, passed, part-wrong, part-right, last-part}
 use Rattle.paths.proofs.are_name_bytes.Statement.{statement}
 use Rattle.paths.proofs.are_name_bytes.Tie as tie

@@ -1,7 +1,7 @@
 -- `paths::is_backup` meets its contract by the law of the last four bytes.
 use mathlib.Core.Path.{sym, _∙_}
 use borrow.Author.Needs.{needs}
-use Rattle.laws.specs.NameLaws.{backup-ends}
+use Rattle.basic_laws.specs.NameLaws.{backup-ends}
 use Rattle.paths.proofs.is_backup.Statement.{statement}
 use Rattle.paths.proofs.is_backup.Tie as tie
 

@@ -1,6 +1,6 @@
 -- `paths::is_name_byte` meets its contract, test by test.
 use borrow.Author.Tests.{le-leb, lt-leb, eq-eqb, ne-eqb}
-use Rattle.model.specs.Name.{isNameByte}
+use Rattle.basics.specs.Name.{isNameByte}
 use Rattle.paths.proofs.is_name_byte.Statement.{statement}
 use Rattle.paths.proofs.is_name_byte.Tie as tie
 

@@ -1,7 +1,7 @@
 -- `paths::is_refused` meets its contract: no name that does not begin with a dot is refused, and of the others it goes name by name.
 use mathlib.Core.Path.{sym, _∙_}
 use borrow.Author.Needs.{needs}
-use Rattle.model.specs.Name.{refusedNames, backupExtension}
+use Rattle.basics.specs.Name.{refusedNames, backupExtension}
 use Rattle.paths.proofs.Checks.{or-false, empty-allowed, no-dot-allowed}
 use Rattle.paths.proofs.is_refused.Statement.{statement}
 use Rattle.paths.proofs.is_refused.Tie as tie

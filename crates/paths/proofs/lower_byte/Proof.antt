@@ -1,7 +1,7 @@
 -- `paths::lower_byte` meets its contract, test by test.
 use borrow.Author.Needs.{needs}
 use borrow.Author.Tests.{le-leb, lt-leb}
-use Rattle.model.specs.Name.{lowerByte}
+use Rattle.basics.specs.Name.{lowerByte}
 use Rattle.paths.proofs.lower_byte.Statement.{statement}
 use Rattle.paths.proofs.lower_byte.Tie as tie
 

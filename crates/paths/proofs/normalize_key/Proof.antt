@@ -4,7 +4,7 @@ use Prim.Native.Nat.{_-_}
 use native.Mathlib.Omega.{arith}
 use lib.ListN.{length}
 use borrow.Author.Needs.{needs}
-use Rattle.model.specs.Name.{lower}
+use Rattle.basics.specs.Name.{lower}
 use Rattle.field.proofs.Written.{Pasting, pasting, pasted, all-pasted, written-none}
 use Rattle.paths.proofs.Lower.{length-lower, lower-at}
 use Rattle.paths.proofs.normalize_key.Statement.{statement}

@@ -3,7 +3,7 @@ use borrow.Author.Needs.{needs}
 use native.Mathlib.Omega.{arith}
 use mathlib.Core.Path.{refl, _∙_}
 use Prim.Native.Nat.{_-_, _≤_}
-use Rattle.model.specs.Order.{cmpName}
+use Rattle.basics.specs.Order.{cmpName}
 use Rattle.spans.specs.Spans.{nameOf}
 use Rattle.spans.proofs.Walk.{Walk, begun, number-less, number-greater, number-same}
 use Rattle.spans.proofs.compare.Statement.{statement}

@@ -4,7 +4,7 @@ use native.Mathlib.Omega.{arith}
 use mathlib.Core.Path.{refl}
 use lib.ListN.{drop}
 use Prim.Native.Nat.{_-_}
-use Rattle.model.specs.Order.{cmpName}
+use Rattle.basics.specs.Order.{cmpName}
 use Rattle.spans.specs.Spans.{nameOf}
 use Rattle.spans.proofs.Walk.{Walk, begun, less, greater, next, short, long, both}
 use Rattle.spans.proofs.compare_from.Statement.{statement}

@@ -5,7 +5,7 @@ use mathlib.Core.Path.{refl, _∙_}
 use mathlib.Core.Logic.{⊎-elim}
 use Prim.Native.Nat.{_-_}
 use lib.ListN.{drop}
-use Rattle.model.specs.Order.{cmpName}
+use Rattle.basics.specs.Order.{cmpName}
 use Rattle.spans.specs.Spans.{nameOf}
 use Rattle.spans.proofs.Parts.{in-span}
 use Rattle.spans.proofs.Walk.{Walk, begun, less, greater, next, number-less, number-greater, number-same}

@@ -1,7 +1,7 @@
 -- `is_backup`: the extension is told by the last four bytes.
 use borrow.Author.Needs.{needs}
 use mathlib.Core.Path.{sym, _∙_}
-use Rattle.laws.specs.NameLaws.{backup-ends}
+use Rattle.basic_laws.specs.NameLaws.{backup-ends}
 use Rattle.spans.proofs.is_backup.Statement.{statement}
 use Rattle.spans.proofs.is_backup.Tie as tie
 

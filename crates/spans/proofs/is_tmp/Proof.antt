@@ -1,7 +1,7 @@
 -- `is_tmp`: the extension is told by the last four bytes.
 use borrow.Author.Needs.{needs}
 use mathlib.Core.Path.{sym, _∙_}
-use Rattle.laws.specs.NameLaws.{tmp-ends}
+use Rattle.basic_laws.specs.NameLaws.{tmp-ends}
 use Rattle.spans.proofs.is_tmp.Statement.{statement}
 use Rattle.spans.proofs.is_tmp.Tie as tie
 

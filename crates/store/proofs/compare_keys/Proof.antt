@@ -1,7 +1,7 @@
 -- `compare_keys`: the first difference decides.
 use borrow.Author.Needs.{needs}
 use mathlib.Core.Path.{_∙_}
-use Rattle.model.specs.Order.{cmpKey}
+use Rattle.basics.specs.Order.{cmpKey}
 use Rattle.store.proofs.compare_keys.Statement.{statement}
 use Rattle.store.proofs.compare_keys.Tie as tie
 

@@ -1,7 +1,7 @@
 -- `exists` asks `look`.
 use borrow.Author.Needs.{needs}
 use mathlib.Core.Path.{sym, ap, _∙_}
-use Rattle.model.specs.Base.{isSome}
+use Rattle.basics.specs.Base.{isSome}
 use Rattle.store.specs.Tables.{heldOf}
 use Rattle.store.proofs.exists.Statement.{statement}
 use Rattle.store.proofs.exists.Tie as tie

@@ -4,7 +4,7 @@ use Prim.Native.Nat.{_+_}
 use mathlib.Core.Path.{sym, refl, ap, _∙_}
 use native.Mathlib.Omega.{arith}
 use borrow.Author.Needs.{needs}
-use Rattle.model.specs.Crc32.{crc32}
+use Rattle.basics.specs.Crc32.{crc32}
 use Rattle.wal.proofs.Heads.{no-head, no-payload, cut-off, wrong-crc, is-entry, Framed}
 use Rattle.wal.proofs.entry_at.Statement.{statement}
 use Rattle.wal.proofs.entry_at.Tie as tie

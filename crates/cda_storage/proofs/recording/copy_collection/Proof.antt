@@ -3,10 +3,10 @@ use mathlib.Core.Path.{refl, ap, _∙_}
 use mathlib.Core.List.{[], _∷_}
 use native.Mathlib.Omega.{arith}
 use lib.ListN.{length}
-use Rattle.model.specs.Answers.{copyCollection}
+use Rattle.answers.specs.Answers.{copyCollection}
 use Rattle.field.proofs.Written.{length-written}
 use Rattle.model.specs.Record.{recordCopy}
-use Rattle.laws.specs.Bounds.{copy-collection-bounded}
+use Rattle.answer_laws.specs.Bounds.{copy-collection-bounded}
 use Rattle.local_storage.proofs.Asked.{given-asks}
 use Rattle.handover.specs.Numbers.{copy-numbers}
 use Rattle.handover.specs.Trees.{copy-leaves}

@@ -3,9 +3,9 @@ use mathlib.Core.Path.{refl}
 use mathlib.Core.List.{[], _∷_}
 use native.Mathlib.Omega.{arith}
 use lib.ListN.{length}
-use Rattle.model.specs.Answers.{createCollection}
+use Rattle.answers.specs.Answers.{createCollection}
 use Rattle.model.specs.Record.{recordCreate}
-use Rattle.laws.specs.Bounds.{create-collection-bounded}
+use Rattle.answer_laws.specs.Bounds.{create-collection-bounded}
 use Rattle.local_storage.proofs.Asked.{given-asks}
 use Rattle.handover.specs.Numbers.{create-numbers}
 use Rattle.handover.specs.Trees.{create-leaves}

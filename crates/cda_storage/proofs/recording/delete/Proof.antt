@@ -3,10 +3,10 @@ use mathlib.Core.Path.{refl, ap, _∙_}
 use mathlib.Core.List.{[], _∷_}
 use native.Mathlib.Omega.{arith}
 use lib.ListN.{length}
-use Rattle.model.specs.Answers.{delete}
+use Rattle.answers.specs.Answers.{delete}
 use Rattle.field.proofs.Written.{length-written}
 use Rattle.model.specs.Record.{recordDelete}
-use Rattle.laws.specs.Bounds.{delete-bounded}
+use Rattle.answer_laws.specs.Bounds.{delete-bounded}
 use Rattle.local_storage.proofs.Asked.{delete-asks}
 use Rattle.store.specs.Kept.{none-kept}
 use Rattle.handover.specs.Numbers.{delete-numbers}

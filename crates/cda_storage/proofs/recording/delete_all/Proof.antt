@@ -3,9 +3,9 @@ use mathlib.Core.Path.{refl}
 use mathlib.Core.List.{[], _∷_}
 use native.Mathlib.Omega.{arith}
 use lib.ListN.{length}
-use Rattle.model.specs.Answers.{deleteAll}
+use Rattle.answers.specs.Answers.{deleteAll}
 use Rattle.model.specs.Record.{recordDeleteAll}
-use Rattle.laws.specs.Bounds.{delete-all-bounded}
+use Rattle.answer_laws.specs.Bounds.{delete-all-bounded}
 use Rattle.local_storage.proofs.Asked.{given-asks}
 use Rattle.handover.specs.Numbers.{delete-all-numbers}
 use Rattle.handover.specs.Trees.{delete-all-leaves}

@@ -3,9 +3,9 @@ use mathlib.Core.Path.{refl}
 use mathlib.Core.List.{[], _∷_}
 use native.Mathlib.Omega.{arith}
 use lib.ListN.{length}
-use Rattle.model.specs.Answers.{deleteCollection}
+use Rattle.answers.specs.Answers.{deleteCollection}
 use Rattle.model.specs.Record.{recordDeleteCollection}
-use Rattle.laws.specs.Bounds.{delete-collection-bounded}
+use Rattle.answer_laws.specs.Bounds.{delete-collection-bounded}
 use Rattle.local_storage.proofs.Asked.{given-asks}
 use Rattle.handover.specs.Numbers.{delete-collection-numbers}
 use Rattle.handover.specs.Trees.{delete-collection-leaves}

@@ -3,10 +3,10 @@ use mathlib.Core.Path.{refl, ap, _∙_}
 use mathlib.Core.List.{[], _∷_}
 use native.Mathlib.Omega.{arith}
 use lib.ListN.{length}
-use Rattle.model.specs.Answers.{write}
+use Rattle.answers.specs.Answers.{write}
 use Rattle.field.proofs.Written.{length-written}
 use Rattle.model.specs.Record.{recordWrite}
-use Rattle.laws.specs.Bounds.{write-bounded}
+use Rattle.answer_laws.specs.Bounds.{write-bounded}
 use Rattle.local_storage.proofs.Asked.{write-asks}
 use Rattle.handover.specs.Numbers.{write-numbers}
 use Rattle.handover.specs.Trees.{write-leaves}

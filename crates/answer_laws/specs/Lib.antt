@@ -1,0 +1,4 @@
+pub mod EntryLaws
+pub mod Bounds
+pub mod Accepted
+pub mod Exceptions

@@ -1,0 +1,137 @@
+-- What each exported entry answers, from the lent bytes and the lengths of the lent outputs. The contracts of the entries cite these.
+use Prim.Native.Nat.{ℕ, zero, suc, _+_, _/_, _%_}
+use mathlib.Core.List.{List, [], _∷_, _++_}
+use mathlib.Core.Bool.{Bool, false, _&&_}
+use lib.ListN.{length, drop}
+use lib.Dec.{leb}
+use Rattle.basics.specs.Limits.{imageRoom, keysRoom, stepRoom}
+use Rattle.basics.specs.Order.{Name}
+use Rattle.basics.specs.Map.{Node}
+use Rattle.basics.specs.Base.{Bytes, caseOption, if_then_else_, ifEmpty, flatMap}
+use Rattle.basics.specs.Name.{validName}
+use Rattle.model.specs.Log.{journal}
+use Rattle.model.specs.Store.{Store, hasPendingWork}
+use Rattle.model.specs.Image.{encode, decode}
+use Rattle.model.specs.Step.{Step, fieldAt, commitNumber}
+use Rattle.model.specs.Plan.{commitFault, commitPlan, committedAt, recoverFault, recoverPlan, recoveredAt, recovered, withoutMark}
+use Rattle.model.specs.Record.{Outcome, refuse, give, transaction, beginTransaction, discard, recordWrite, recordDelete, recordDeleteAll, recordCreate, recordDeleteCollection, recordCopy, keyList}
+
+-- The number (0 is done), the bytes written to the output, and those written to the step output.
+pub record Answer : Type 0 where
+  pub number : ℕ
+  pub image : Bytes
+  pub step : Bytes
+
+-- 01, Sixteen numbers: "A refusal gives its number alone".
+abbrev pub refusal : ℕ → Answer
+refusal n = record { number = n; image = []; step = [] }
+
+-- A number with an image.
+abbrev pub answer : ℕ → Store → Answer
+answer n s = record { number = n; image = encode s; step = [] }
+
+abbrev pub outcome : Outcome → Answer
+outcome (refuse n) = refusal n
+outcome (give s) = answer 0 s
+
+-- 01, Sixteen numbers: "An answer says how many bytes were written; the lent output keeps its bytes behind them." The output after it.
+abbrev pub overwritten : Bytes → Bytes → Bytes
+overwritten written out = written ++ drop (length written) out
+
+-- 01, Sixteen numbers: "1. The image breaks its layout or a limit. 2. The lent output has under" 19,390 bytes (02, item 4); then what follows.
+abbrev pub onImage : Bytes → Bool → (Store → Answer) → Answer
+onImage b room next = caseOption (decode b) (refusal 1) λ s. if room then next s else refusal 2
+
+-- An entry from image to image.
+abbrev pub imageEntry : (Store → Outcome) → Bytes → ℕ → Answer
+imageEntry f b out = onImage b (leb imageRoom out) (λ s. outcome (f s))
+
+-- `cda_storage_begin`: 1, 2, 3.
+unfoldable pub begin : Bytes → ℕ → Answer
+begin = imageEntry beginTransaction
+
+-- `cda_storage_write`, with the caller's staging name and number: 1, 2, 4, 5, 6, 10.
+unfoldable pub write : Name → Name → Name → ℕ → Bytes → ℕ → Answer
+write c k staged x = imageEntry (recordWrite c k staged x)
+
+-- `cda_storage_delete`: 1, 2, 4, 5, 6, 8.
+unfoldable pub delete : Name → Name → Bytes → ℕ → Answer
+delete c k = imageEntry (recordDelete c k)
+
+-- `cda_storage_delete_all`: 1, 2, 4, 5, 6.
+unfoldable pub deleteAll : Name → Bytes → ℕ → Answer
+deleteAll c = imageEntry (recordDeleteAll c)
+
+-- `cda_storage_create_collection`: 1, 2, 4, 5, 6, 9.
+unfoldable pub createCollection : Name → Bytes → ℕ → Answer
+createCollection c = imageEntry (recordCreate c)
+
+-- `cda_storage_delete_collection`: 1, 2, 4, 5, 6, 7.
+unfoldable pub deleteCollection : Name → Bytes → ℕ → Answer
+deleteCollection c = imageEntry (recordDeleteCollection c)
+
+-- `cda_storage_copy_collection`: 1, 2, 4, 5, 6, 7, and 6 for the destination.
+unfoldable pub copyCollection : Name → Name → Bytes → ℕ → Answer
+copyCollection a b = imageEntry (recordCopy a b)
+
+-- `cda_storage_rollback`: 1, 2, 4.
+unfoldable pub rollback : Bytes → ℕ → Answer
+rollback = imageEntry discard
+
+unfoldable pub commitStore : Store → Answer
+commitStore s = caseOption (transaction s) (refusal 4) λ ops. answer (commitNumber (commitFault s)) (committedAt (length (commitPlan s)) s)
+
+-- `cda_storage_commit`: 1, 2, 4, and 14 or 15 with the rolled-back image.
+unfoldable pub commit : Bytes → ℕ → Answer
+commit b out = onImage b (leb imageRoom out) commitStore
+
+unfoldable pub recoverStore : Store → Answer
+recoverStore s = caseOption (recoverFault (journal (s .log)) (s .tree)) (answer 0 (recovered s)) refusal
+
+-- `cda_storage_recover`: 1, 2, 11, 12, 13.
+unfoldable pub recover : Bytes → ℕ → Answer
+recover b out = onImage b (leb imageRoom out) recoverStore
+
+-- 01, Sixteen numbers: "16. The step number is past the plan's end."
+abbrev pub stepAnswer : ℕ → List Step → Store → Answer
+stepAnswer n plan s = if leb n (length plan) then record { number = 0; image = encode s; step = fieldAt n plan } else refusal 16
+
+-- `cda_storage_commit_step`: 1, 2, 4, 16; 01, Sixteen numbers: "step entries never give" 14 and 15.
+unfoldable pub commitStep : ℕ → Bytes → ℕ → ℕ → Answer
+commitStep n b out stepOut =
+    onImage b (leb imageRoom out && leb stepRoom stepOut) λ s.
+    caseOption (transaction s) (refusal 4) λ ops. stepAnswer n (commitPlan s) (committedAt n s)
+
+-- `cda_storage_recover_step`: 1, 2, 11, 12, 13, 16.
+unfoldable pub recoverStep : ℕ → Bytes → ℕ → ℕ → Answer
+recoverStep n b out stepOut =
+    onImage b (leb imageRoom out && leb stepRoom stepOut) λ s.
+    caseOption (recoverFault (journal (s .log)) (s .tree)) (stepAnswer n (recoverPlan (withoutMark s)) (recoveredAt n s)) refusal
+
+-- `cda_storage_has_pending_work`: 1; else yes or no.
+pub record Pending : Type 0 where
+  pub number : ℕ
+  pub yes? : Bool
+
+unfoldable pub pending : Bytes → Pending
+pending b = caseOption (decode b) (record { number = 1; yes? = false }) λ s. record { number = 0; yes? = hasPendingWork s }
+
+-- `cda_storage_list_keys`: 1, 2, 6. A missing collection reads as empty (01, Modules in port order).
+unfoldable pub listKeys : Name → Bytes → ℕ → Answer
+listKeys c b out = onImage b (leb keysRoom out) λ s. if validName c then record { number = 0; image = keyList c s; step = [] } else refusal 6
+
+-- A number of at most so many digits, in decimal.
+unfoldable pub decimal : ℕ → ℕ → Bytes
+decimal zero n = []
+decimal (suc k) n = if leb n 9 then (0x30 + n) ∷ [] else decimal k (n / 10) ++ (0x30 + n % 10) ∷ []
+
+-- 01, Listings and file steps: ""name/" for each directory and "name/file number" in decimal for each file, in image order, a line feed after
+-- each line".
+unfoldable pub listingLine : Node → Bytes
+listingLine n = n .0 .0 ++ 0x2F ∷ ifEmpty (n .0 .1) [] (n .0 .1 ++ 0x20 ∷ decimal 10 (n .1)) ++ 0x0A ∷ []
+
+-- The listing program: "recovers it and writes "answer " and the number (0 is done); after 0 follow" the lines.
+unfoldable pub listing : Bytes → Bytes
+listing b =
+    0x61 ∷ 0x6E ∷ 0x73 ∷ 0x77 ∷ 0x65 ∷ 0x72 ∷ 0x20 ∷ decimal 2 (recover b imageRoom .number) ++ 0x0A ∷
+    caseOption (decode b) [] (λ s. caseOption (recoverFault (journal (s .log)) (s .tree)) (flatMap listingLine (recovered s .tree)) (λ n. []))

@@ -1,0 +1,111 @@
+-- Worked cases of the exported entries, computed: what only they have. The corners of document 01 stand in crate model, Cases.
+use mathlib.Core.Path.{_≡_, refl}
+use Prim.Native.Nat.{ℕ}
+use Prim.Native.String.{String}
+use mathlib.Core.List.{List, [], _∷_, _++_, map}
+use mathlib.Core.Bool.{Bool, true, false, _&&_}
+use lib.ListN.{length, drop, take}
+use Rattle.basics.specs.Limits.{imageRoom, keysRoom, stepRoom}
+use Rattle.basics.specs.Order.{cmpKey}
+use Rattle.basics.specs.Map.{look, put, del}
+use Rattle.basics.specs.Base.{Bytes, flatMap}
+use Rattle.basics.specs.Name.{lastDot, extension, stripExtension, backupExtension, stagingExtension, backupName, originalName, stripTmp, isNameByte, refusedNames, validName, lowerByte, lower}
+use Rattle.basics.specs.Crc32.{crc32, register, feedByte, shifts, shift, addPolynomial, polynomial}
+use Rattle.basics.specs.Field.{littleEndian, fromLittleEndian, encodeField, encodeFields, fieldsFrom, decodeFields, hasTag}
+use Rattle.basics.specs.Table.{text, digit, pairs, hex, bit, Row, row, equal, agree}
+use Rattle.model.specs.Operation.{fieldTable, fieldTags, kind, values, tagged, encodePayload, makers, validValue, opOfFields, decodePayload}
+use Rattle.model.specs.Log.{header, entry, validHeader, firstPayload, walk, entries, readJournal, markCommitting, appendOperation}
+use Rattle.model.specs.Store.{dirs, files, validNode, validNodes, validStaged, ascending, wellFormed, hasBackupFiles, hasPendingWork}
+use Rattle.model.specs.Image.{imageFields, encode, treeOf, stagingOf, logOf, storeOf, decode}
+use Rattle.model.specs.Step.{removeDir, renameDir, apply, zeroSeparated, tagAndNames, stepField, stepFault}
+use Rattle.model.specs.Plan.{opSteps, undoSteps, restoreFile, restoreDirectory, removeBackupFile, removeBackupsIn, firstNamings, syncExisting, commitFault, commitPlan, committedAt, isNewArtifact, recoverPlan, recoveredAt, recovered}
+use Rattle.model.specs.Record.{transaction, beginTransaction, discard, recordWrite, keyList}
+use Rattle.answers.specs.Answers.{Answer, Pending, begin, rollback, write, commitStore, commit, recoverStore, recover, commitStep, recoverStep, pending, listKeys, decimal, listingLine, listing}
+
+-- An answer as its number, its image and its step field; the pending question's as its number and 1 for yes.
+flat : Answer → Bytes
+flat a = a .number ∷ a .image ++ a .step
+
+asked : Pending → Bytes
+asked a = a .number ∷ bit (a .yes?)
+
+-- The image of db/a with this number. 01: "The store db/a=7 is 10 02 00 64 62 11 05 00 07 00 00 00 61".
+db : ℕ → Bytes
+db x = hex "10 02 00 64 62 11 05 00" ++ x ∷ hex "00 00 00 61"
+
+-- 01's ten-step case, recorded by the entries: begin, then a Write of 9 to a, staged as s.tmp.
+tenSteps : Bytes
+unfolding db
+tenSteps = write (text "db") (text "a") (text "s.tmp") 9 (begin (db 7) imageRoom .image) imageRoom .image
+
+stepOn : Bytes → ℕ → Answer
+stepOn b n = commitStep n b imageRoom stepRoom
+
+-- What the listing program writes of the image after n steps of commit.
+listAt : ℕ → Bytes
+unfolding stepOn tenSteps
+listAt n = listing (stepOn tenSteps n .image)
+
+table : List Row
+unfolding db flat asked tenSteps stepOn listAt
+table =
+    row "begin, a Write, commit: a=9"
+    (flat (commit tenSteps imageRoom))
+    (0 ∷ db 9)
+    ∷ row "begin, a Write, rollback: a=7"
+    (flat (rollback tenSteps imageRoom))
+    (0 ∷ db 7)
+    ∷ row "cut after 4 steps and recovered: a=7"
+    (flat (recover (stepOn tenSteps 4 .image) imageRoom))
+    (0 ∷ db 7)
+    ∷ row "the field of step 4: a to a.bak"
+    (stepOn tenSteps 4 .step)
+    (hex "24 0A 00 64 62 00 61 00 61 2E 62 61 6B")
+    ∷ row "step 11 is past the plan's end: refusal 16"
+    (flat (stepOn tenSteps 11))
+    (hex "10")
+    ∷ row "recovery of db/a=7 has no step: 16 for n = 1"
+    (flat (recoverStep 1 (db 7) imageRoom stepRoom))
+    (hex "10")
+    ∷ row "begin while a transaction is open: 3"
+    (flat (begin tenSteps imageRoom))
+    (hex "03")
+    ∷ row "commit and rollback without one: 4"
+    (flat (commit (db 7) imageRoom) ++ flat (rollback (db 7) imageRoom))
+    (hex "04 04")
+    ∷ row "an output one byte too short: 2"
+    (flat (recover (db 7) 19_389) ++ flat (commitStep 0 tenSteps imageRoom 196) ++ flat (listKeys (text "db") (db 7) 8_575))
+    (hex "02 02 02")
+    ∷ row "a byte behind the image: 1, before 2"
+    (flat (recover (db 7 ++ hex "00") 0))
+    (hex "01")
+    ∷ row "the refused name ..bak, which a restore can make: 1"
+    (flat (recover (hex "10 05 00 2E 2E 62 61 6B") imageRoom))
+    (hex "01")
+    ∷ row "work is pending while a log stands, not in db/a=7; an image that is refused: 1"
+    (asked (pending tenSteps) ++ asked (pending (db 7)) ++ asked (pending (hex "10")))
+    (hex "00 01 00 00 01 00")
+    ∷ row "the listing of the ten-step case cut after 4"
+    (listAt 4)
+    (text "answer 0\ndb/\ndb/a 7\n")
+    ∷ row "the listing of an image that is refused"
+    (listing (hex "10"))
+    (text "answer 1\n")
+    ∷ []
+
+-- Every row computes to what is stated.
+worked : map (λ r. r .computed) table ≡ map (λ r. r .stated) table
+unfolding table flat asked db tenSteps stepOn listAt
+    text digit pairs hex bit row equal
+    crc32 register feedByte shifts shift addPolynomial polynomial
+    littleEndian fromLittleEndian encodeField encodeFields fieldsFrom decodeFields hasTag
+    lastDot extension stripExtension backupExtension stagingExtension backupName originalName stripTmp isNameByte refusedNames validName lowerByte lower
+    fieldTable fieldTags kind values tagged encodePayload makers validValue opOfFields decodePayload
+    header entry validHeader firstPayload walk entries readJournal markCommitting appendOperation
+    cmpKey look put del dirs files validNode validNodes validStaged ascending wellFormed hasBackupFiles hasPendingWork
+    imageFields encode treeOf stagingOf logOf storeOf decode
+    removeDir renameDir apply zeroSeparated tagAndNames stepField stepFault
+    opSteps undoSteps restoreFile restoreDirectory removeBackupFile removeBackupsIn firstNamings syncExisting commitFault commitPlan committedAt isNewArtifact recoverPlan recoveredAt recovered
+    transaction beginTransaction discard recordWrite keyList
+    begin rollback write commitStore commit recoverStore recover commitStep recoverStep pending listKeys decimal listingLine listing
+worked = agree table refl

@@ -166,6 +166,23 @@ del-absent k m s h = ext (del k m) m (sorted-del k m s) s λ j. go j (key-dec j 
     go j (yes p) = rw p (look-del-same k m ∙ sym h)
     go j (no p) = look-del-other k j m p
 
+-- What was removed is put back.
+pub put-back : (k : Key) (x : ℕ) (t : Map) → Sorted t → look k t ≡ some x → put k x (del k t) ≡ t
+put-back k x t s e = ext _ t (sorted-put k x _ (sorted-del k t s)) s (λ j. at j (key-dec j k))
+  where
+    at : (j : Key) → Dec (j ≡ k) → look j (put k x (del k t)) ≡ look j t
+    at j (yes q) = rw q (look-put-same k x (del k t) ∙ sym e)
+    at j (no q) = look-put-other k j x (del k t) q ∙ look-del-other k j t q
+
+-- A removal and a put at different places, in either order.
+pub commute : (k j : Key) (v : ℕ) (t : Map) → Sorted t → (j ≡ k → ⊥) → del j (put k v t) ≡ put k v (del j t)
+commute k j v t s h = ext _ _ (sorted-del j (put k v t) (sorted-put k v t s)) (sorted-put k v (del j t) (sorted-del j t s)) λ i. go i (key-dec i k) (key-dec i j)
+  where
+    go : (i : Key) → Dec (i ≡ k) → Dec (i ≡ j) → look i (del j (put k v t)) ≡ look i (put k v (del j t))
+    go i (yes p) q = rw p (look-del-other j k (put k v t) (λ e. h (sym e)) ∙ look-put-same k v t ∙ sym (look-put-same k v (del j t)))
+    go i (no p) (yes q) = rw q (look-del-same j (put k v t) ∙ sym (look-put-other k j v (del j t) h ∙ look-del-same j t))
+    go i (no p) (no q) = look-del-other j i (put k v t) q ∙ look-put-other k i v t p ∙ sym (look-put-other k i v (del j t) p ∙ look-del-other j i t q)
+
 -- What holds of every look, and of every node of a list.
 pub all-look : (P : Key → ℕ → Type 0) (m : Map) → All (λ n. P (n .0) (n .1)) m → (k : Key) (x : ℕ) → look k m ≡ some x → P k x
 all-look P [] h k x e = unfold look in (none≢some e)

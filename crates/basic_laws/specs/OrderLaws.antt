@@ -28,7 +28,7 @@ lt≢eq p = let z : _≡_ {A = ℕ} 0 1 = cc in absurd (omega arith)
 pub gt≢eq : {A : Type 0} → gt ≡ eq → A
 gt≢eq p = let z : _≡_ {A = ℕ} 0 1 = cc in absurd (omega arith)
 
-nat-same : (a : ℕ) → cmpNat a a ≡ eq
+pub nat-same : (a : ℕ) → cmpNat a a ≡ eq
 nat-same zero = refl
 nat-same (suc a) = rw compare·suc-suc (nat-same a)
 

@@ -114,7 +114,7 @@ write-keeps c key st x s g =
     few true p e = absurd (false≢true e)
     few false p e = let k = nltb→le 31 (length (s .staging)) (rw p tt) in let h = length-size (s .staging) in omega arith
 
-other-in : (k : Name) (l : List Name) (f : Name) → otherCase k l ≡ some f → In f l
+pub other-in : (k : Name) (l : List Name) (f : Name) → otherCase k l ≡ some f → In f l
 unfolding otherCase
 other-in k [] f e = none≢some e
 other-in k (a ∷ l) f e = go (not (isSome (originalName a)) && not (isSome (stripTmp a)) && sameBytes (lower a) k) (λ z. other-in k l f z) e

@@ -8,11 +8,11 @@ use lib.ListN.{length, take, drop, getD}
 use lib.Seq.{getD-take}
 use Rattle.basics.specs.Order.{Cmp, lt, eq, gt, Name, Key, cmpName, caseCmp}
 use Rattle.basics.specs.Map as model
-use Rattle.basics.specs.Map.{Map, put, del, look}
+use Rattle.basics.specs.Map.{Map, put, del}
 use Rattle.basics.specs.Base.{Bytes, if_then_else_, sameBytes}
 use Rattle.model.specs.Step.{removeDir, renameDir}
 use Rattle.basic_laws.specs.OrderLaws.{nameLaws, keyLaws, lt≢eq}
-use Rattle.basic_laws.specs.MapLaws.{Sorted, key-dec, ext, look-put-same, look-put-other, look-del-same, look-del-other, sorted-put, sorted-del}
+use Rattle.basic_laws.specs.MapLaws.{Sorted, sorted-put, sorted-del, commute}
 use Rattle.laws.specs.TreeLaws.{one, length-size, size-put-le}
 use Rattle.basic_laws.specs.Tests.{All}
 use Rattle.spans.specs.Spans.{nameOf, Sound}
@@ -27,14 +27,6 @@ use Rattle.store.proofs.Read.{sound-read, rest-read}
 use Rattle.store.proofs.Places.{above-all, flipped, del-over}
 use Rattle.store.proofs.Room.{room-put}
 use Rattle.store.proofs.Sweep.{by-same}
-
-commute : (k j : Key) (v : ℕ) (t : Map) → Sorted t → (j ≡ k → ⊥) → del j (put k v t) ≡ put k v (del j t)
-commute k j v t s h = ext _ _ (sorted-del j (put k v t) (sorted-put k v t s)) (sorted-put k v (del j t) (sorted-del j t s)) λ i. go i (key-dec i k) (key-dec i j)
-  where
-    go : (i : Key) → Dec (i ≡ k) → Dec (i ≡ j) → look i (del j (put k v t)) ≡ look i (put k v (del j t))
-    go i (yes p) q = rw p (look-del-other j k (put k v t) (λ e. h (sym e)) ∙ look-put-same k v t ∙ sym (look-put-same k v (del j t)))
-    go i (no p) (yes q) = rw q (look-del-same j (put k v t) ∙ sym (look-put-other k j v (del j t) h ∙ look-del-same j t))
-    go i (no p) (no q) = look-del-other j i (put k v t) q ∙ look-put-other k i v t p ∙ sym (look-put-other k i v (del j t) p ∙ look-del-other j i t q)
 
 module _ (a : Name) where
   -- The map t without what the listing holds of directory a.

@@ -1,0 +1,3 @@
+pub mod Posix
+pub mod Disk
+pub mod Cases

@@ -1,0 +1,13 @@
+pub mod PosixLaws
+pub mod FolderLaws
+pub mod Ready
+pub mod CallLaws
+pub mod DiskLaws
+pub mod ReadySteps
+pub mod DiskPlans
+pub mod PlainNames
+pub mod OnDisk
+pub mod DiskApart
+pub mod DiskCuts
+pub mod DiskFaults
+pub mod DiskExceptions

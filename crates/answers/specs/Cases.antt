@@ -12,7 +12,7 @@ use Rattle.basics.specs.Base.{Bytes, flatMap}
 use Rattle.basics.specs.Name.{lastDot, extension, stripExtension, backupExtension, stagingExtension, backupName, originalName, stripTmp, isNameByte, refusedNames, validName, lowerByte, lower}
 use Rattle.basics.specs.Crc32.{crc32, register, feedByte, shifts, shift, addPolynomial, polynomial}
 use Rattle.basics.specs.Field.{littleEndian, fromLittleEndian, encodeField, encodeFields, fieldsFrom, decodeFields, hasTag}
-use Rattle.basics.specs.Table.{text, digit, pairs, hex, bit, Row, row, equal, agree}
+use Rattle.basics.specs.Worked.{text, digit, pairs, hex, bit, Row, row, equal, agree}
 use Rattle.model.specs.Operation.{fieldTable, fieldTags, kind, values, tagged, encodePayload, makers, validValue, opOfFields, decodePayload}
 use Rattle.model.specs.Log.{header, entry, validHeader, firstPayload, walk, entries, readJournal, markCommitting, appendOperation}
 use Rattle.model.specs.Store.{dirs, files, validNode, validNodes, validStaged, ascending, wellFormed, hasBackupFiles, hasPendingWork}

@@ -5,4 +5,4 @@ pub mod Base
 pub mod Name
 pub mod Crc32
 pub mod Field
-pub mod Table
+pub mod Worked

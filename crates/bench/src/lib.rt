@@ -207,3 +207,22 @@ pub extern "C" fn bench_rename_dir(image: &[u8], at: usize, rounds: u32) -> u64 
         rounds,
     )
 }
+
+// The checksum of bytes, from the table.
+#[no_mangle]
+pub extern "C" fn bench_checksum(s: &[u8]) -> u32 {
+    crc32::hash(s)
+}
+
+// The same bit by bit.
+#[no_mangle]
+pub extern "C" fn bench_checksum_bit_by_bit(s: &[u8]) -> u32 {
+    crc32::hash_bit_by_bit(s)
+}
+
+// Reads a log; how many operations it has.
+#[no_mangle]
+pub extern "C" fn bench_read_wal(log: &[u8]) -> usize {
+    let r = wal::read_wal(log, 0, log.len());
+    r.len
+}

@@ -1,4 +1,4 @@
-// Asks the exported entries the corners of documents 01 and 02, and the published check value of the checksum, and prints what they answer. The
+// Asks the exported entries the corners of documents 01 and 02, and the published check value of both checksums, and prints what they answer. The
 // questions are data/questions and the expected lines stdout: `oracle/lists` makes both of oracle/corners.txt and the original's answers.
 mod show;
 
@@ -31,5 +31,11 @@ fn main() {
     run(questions::open_list(b"questions"));
     show::put(b"CRC-32 of 123456789: ");
     io::print_hex(libc::STDOUT_FILENO, crc32::hash(b"123456789") as u64, 8);
+    show::put(b", bit by bit: ");
+    io::print_hex(
+        libc::STDOUT_FILENO,
+        crc32::hash_bit_by_bit(b"123456789") as u64,
+        8,
+    );
     show::put(b"\n");
 }

@@ -1,11 +1,55 @@
-// CRC-32 of lent bytes, bit by bit. 01, How a store is handed over: "The CRC is reflected, polynomial 0xEDB88320, start and final
-// exclusive-or all ones." It is wal.rs's checksum (`compute_checksum`); that it is IEEE 802.3's is a law of crate laws.
+// CRC-32 of lent bytes, from a table and bit by bit. 01, How a store is handed over: "The CRC is reflected, polynomial 0xEDB88320, start and
+// final exclusive-or all ones." It is wal.rs's checksum (`compute_checksum`); that it is IEEE 802.3's is a law of crate laws.
 ghost use mathlib.Core.Path.{_≡_};
-ghost use Rattle.basics.specs.Crc32.{shift, feedByte, crc32, ieeeCrc32};
+ghost use mathlib.Core.Bool.{true};
+ghost use Rattle.crc32.specs.Table.{byteTable};
+ghost use Rattle.basics.specs.Crc32.{shift, shifts, feedByte, crc32, ieeeCrc32};
+
+mod table;
+
+use table::TABLE;
 
 const POLYNOMIAL: u32 = 0xEDB8_8320;
 
 const ALL_ONES: u32 = 0xFFFF_FFFF;
+
+// The table: its rule is one test, which the checker computes over all 256 numbers.
+fn byte_table() -> [u32; 256]
+    ensures { λ r. ⌜ r ≡ byteTable ⌝ }
+{
+    TABLE
+}
+
+// The register after eight shifts: the byte that falls out says which number goes in.
+fn shift_byte(t: &[u32; 256], c: u32) -> u32
+    requires { ⌜ now t ≡ byteTable ⌝ }
+    ensures { λ r. ⌜ r ≡ shifts 8 c ⌝ }
+{
+    let i = (c % 256) as usize;
+    (c >> 8) ^ t[i]
+}
+
+// The register after one more byte.
+fn update(t: &[u32; 256], c: u32, b: u8) -> u32
+    requires { ⌜ now t ≡ byteTable ⌝ }
+    ensures { λ r. ⌜ r ≡ feedByte c b ⌝ }
+{
+    shift_byte(t, c ^ (b as u32))
+}
+
+// The checksum of all bytes, from the table. Every checksum of the log is this one.
+pub fn hash(s: &[u8]) -> u32
+    ensures { λ r. ⌜ (r ≡ crc32 (now (s .entry))) × (r ≡ ieeeCrc32 (now (s .entry))) ⌝ }
+{
+    let t = byte_table();
+    let mut c: u32 = ALL_ONES;
+    let mut i: usize = 0;
+    while i < s.len() {
+        c = update(&t, c, s[i]);
+        i += 1;
+    }
+    c ^ ALL_ONES
+}
 
 // The register after one shift: the bit that falls out says whether the polynomial goes in.
 fn shift_once(c: u32) -> u32
@@ -18,8 +62,8 @@ fn shift_once(c: u32) -> u32
     }
 }
 
-// The register after one more byte. 01, Which shape goes where: the table of 256 numbers (02) takes this loop's place.
-fn update(c: u32, b: u8) -> u32
+// The register after one more byte, bit by bit.
+fn update_bit_by_bit(c: u32, b: u8) -> u32
     ensures { λ r. ⌜ r ≡ feedByte c b ⌝ }
 {
     let mut r = c ^ (b as u32);
@@ -31,15 +75,22 @@ fn update(c: u32, b: u8) -> u32
     r
 }
 
-// The checksum of all bytes.
-pub fn hash(s: &[u8]) -> u32
+// The same checksum without the table, for comparison.
+pub fn hash_bit_by_bit(s: &[u8]) -> u32
     ensures { λ r. ⌜ (r ≡ crc32 (now (s .entry))) × (r ≡ ieeeCrc32 (now (s .entry))) ⌝ }
 {
-    let mut c: u32 = ALL_ONES;
+    let mut r: u32 = ALL_ONES;
     let mut i: usize = 0;
     while i < s.len() {
-        c = update(c, s[i]);
+        r = update_bit_by_bit(r, s[i]);
         i += 1;
     }
-    c ^ ALL_ONES
+    r ^ ALL_ONES
+}
+
+// 02, item 3: "both give the same checksum for every byte string".
+pub fn both_agree(s: &[u8]) -> bool
+    ensures { λ r. ⌜ r ≡ true ⌝ }
+{
+    hash(s) == hash_bit_by_bit(s)
 }

@@ -13,7 +13,7 @@ use Rattle.basics.specs.Base.{Bytes, caseOption, isSome, flatMap}
 use Rattle.basics.specs.Name.{lastDot, extension, stripExtension, backupExtension, stagingExtension, backupName, originalName, stripTmp, isBackup, isNameByte, refusedNames, validName, lowerByte, lower}
 use Rattle.basics.specs.Crc32.{polynomial, generator, addFront, divide, remainder, bitsOf, ofBits, messageBits, complementFirst, zeros, dividend, ieeeCrc32, crc32, register, feedByte, shifts, shift, addPolynomial}
 use Rattle.basics.specs.Field.{littleEndian, fromLittleEndian, encodeField, encodeFields, fieldsFrom, decodeFields, hasTag}
-use Rattle.basics.specs.Table.{text, digit, pairs, hex, bit, times, Row, row, equal, agree}
+use Rattle.basics.specs.Worked.{text, digit, pairs, hex, bit, times, Row, row, equal, agree}
 use Rattle.model.specs.Operation as operation
 use Rattle.model.specs.Operation.{Op, fieldTable, fieldTags, kind, values, tagged, encodePayload, makers, validValue, opOfFields, decodePayload}
 use Rattle.model.specs.Log.{header, entry, validHeader, firstPayload, walk, entries, readJournal, markCommitting, appendOperation, Journal, absent, recording, committing, journal, Ending, whole, truncated, undecodable, tooMany}

@@ -6,7 +6,7 @@ use mathlib.Core.Option.{Option, none, some}
 use Rattle.basics.specs.Order.{Name, cmpName, caseCmp}
 use Rattle.basics.specs.Map.{Map}
 use Rattle.basics.specs.Base.{Bytes, ifEmpty}
-use Rattle.basics.specs.Table.{text}
+use Rattle.basics.specs.Worked.{text}
 use Rattle.model.specs.Log.{header}
 use Rattle.model.specs.Store.{Store, dirs}
 use Rattle.model.specs.Step.{Step, rewriteHeader, syncStaging, syncLog, removeLog, syncJournal, syncCollections, makeDirectory, renameFile, moveStaged, renameDirectory, copyFile, removeFile, removeDirectory, removeStaging, syncDirectory}

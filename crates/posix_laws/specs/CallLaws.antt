@@ -9,7 +9,7 @@ use lib.Seq.{drop-nil}
 use Rattle.basics.specs.Order.{Name}
 use Rattle.basics.specs.Base.{Bytes, caseOption, if_then_else_, sameBytes}
 use Rattle.posix.specs.Posix.{Node, file, directory, Directory, empty, entry, find, enter, leave, Path, Errno, EINVAL, Result, ok, error, andThen, resolve, change, unlinks, written, replaces, vacates, isDirectory, begins, Call, rename, unlink, fsync, pwrite, call, calls}
-use Rattle.basics.specs.Table.{text}
+use Rattle.basics.specs.Worked.{text}
 use Rattle.posix.specs.Disk.{collectionsName, journalName, stagingName, logName, directoryPath, filePath, stagedPath, logPath, logEntry, root, entryNames}
 use Rattle.basic_laws.specs.Tests.{same-eq, same-refl}
 use Rattle.posix_laws.specs.PosixLaws.{Rising, other-lt, find-head, find-tail, find-enter-same, enter-enter, leave-head}

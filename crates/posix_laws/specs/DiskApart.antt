@@ -8,7 +8,7 @@ use Rattle.basics.specs.Map.{Map, look}
 use Rattle.basics.specs.Base.{Bytes, caseOption}
 use Rattle.model.specs.Store.{Store, dirs}
 use Rattle.posix.specs.Posix.{Node, file, directory, Directory, empty, find, Result, ok, error, resolve}
-use Rattle.basics.specs.Table.{text}
+use Rattle.basics.specs.Worked.{text}
 use Rattle.posix.specs.Disk.{collectionsName, journalName, stagingName, logName, logPath, folder, folders, root, disk}
 use Rattle.basic_laws.specs.MapLaws.{ext, none≢some, some-inj}
 use Rattle.basic_laws.specs.Tests.{nil≢cons}

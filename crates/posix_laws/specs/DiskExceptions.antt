@@ -17,7 +17,7 @@ use Rattle.model.specs.Store.{Store, dirs, files, validNode, validNodes, ascend
 use Rattle.model.specs.Step.{removeLog, renameDirectory, copyFile, apply, fails, stepFault}
 use Rattle.model.specs.Plan.{restoreDirectory, recoverPlan}
 use Rattle.posix.specs.Posix.{file, directory, empty, entry, find, enter, ok, resolve, change, call, calls}
-use Rattle.basics.specs.Table.{text}
+use Rattle.basics.specs.Worked.{text}
 use Rattle.posix.specs.Disk.{collectionsName, journalName, stagingName, logName, folder, folders, root, disk, stepCalls}
 use Rattle.basic_laws.specs.ValidNames.{dotBak}
 

@@ -21,7 +21,7 @@ use Rattle.model.specs.Image.{decode}
 use Rattle.model.specs.Step.{Step, rewriteHeader, syncStaging, syncLog, removeLog, syncJournal, syncCollections, makeDirectory, renameFile, moveStaged, renameDirectory, copyFile, removeFile, removeDirectory, removeStaging, syncDirectory, apply, applyAll, tagAndNames, Fault, fails, full, nameTooLong, newFile, stepFault}
 use Rattle.model.specs.Plan.{opSteps, operationSteps, firstFault, stepsBeforeFault, commitFault}
 use Rattle.posix.specs.Posix.{directory, Directory, empty, entry, find, Path, Errno, ENOENT, ENOTEMPTY, ok, error, inside, resolve, replaces, rename, call, calls}
-use Rattle.basics.specs.Table.{text}
+use Rattle.basics.specs.Worked.{text}
 use Rattle.posix.specs.Disk.{collectionsName, journalName, stagingName, logName, directoryPath, filePath, stagedPath, folder, folders, root, disk, stepCalls}
 use Rattle.basic_laws.specs.MapLaws.{none≢some, some-inj}
 use Rattle.basic_laws.specs.Tests.{leb-le, All, all-append, all-every, all-map, all-imp}

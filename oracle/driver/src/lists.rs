@@ -137,7 +137,7 @@ fn corners_list(panel: &Panel, table: &str) -> (Vec<u8>, String) {
         printed += &text;
     }
     // IEEE 802.3 decides the checksum, not the original.
-    (list, printed + "CRC-32 of 123456789: cbf43926\n")
+    (list, printed + "CRC-32 of 123456789: cbf43926, bit by bit: cbf43926\n")
 }
 
 /// An answer as the program prints it.

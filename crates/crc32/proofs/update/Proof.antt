@@ -1,36 +1,15 @@
--- `crc32::update` meets its contract. The loop's invariant: the shifts that are left give the whole step.
-use Prim.Native.Nat.{_-_}
-use native.Mathlib.Omega.{arith}
+-- `crc32::update` meets its contract: what the byte is added to is shifted by eight places.
 use borrow.Author.Needs.{needs}
-use Rattle.crc32.proofs.Register.{Shifting, shifting, shifted, all-shifted}
+use Rattle.basics.specs.Crc32.{feedByte}
 use Rattle.crc32.proofs.update.Statement.{statement}
 use Rattle.crc32.proofs.update.Tie as tie
 
-abbrev Inv-loop : tie.InvT-loop
-Inv-loop c b r₀ n₀ r n = Shifting c b n r
+shift-byte-requires : tie.Need-shift-byte-requires
+shift-byte-requires c κs = search needs
 
-abbrev μ-loop : tie.MeasureT-loop
-μ-loop c b r₀ n₀ r n = 8 - n
-
-loop-holds : tie.Need-loop-holds Inv-loop μ-loop
-loop-holds c = shifting _ _
-
-shift-once-requires : tie.Need-shift-once-requires Inv-loop μ-loop
-shift-once-requires c κs = search needs
-
-add-n : tie.Need-add-n Inv-loop μ-loop
-add-n c = search needs
-
-loop-less : tie.Need-loop-less Inv-loop μ-loop
-loop-less c = search needs
-
-loop-again : tie.Need-loop-again Inv-loop μ-loop
-loop-again c = shifted (c .before .before .loop .inv) (c .shift-once .ensures) (omega arith)
-
-returns : tie.Need-returns Inv-loop μ-loop
-returns c = all-shifted (c .before .loop .inv) (omega arith)
+returns : tie.Need-returns
+unfolding feedByte
+returns c = c .shift-byte .ensures
 
 pub update-spec : {M : Type 1} → statement M
-update-spec =
-    tie.close
-    (tie.spec Inv-loop μ-loop loop-holds shift-once-requires add-n loop-less loop-again returns)
+update-spec = tie.close (tie.spec shift-byte-requires returns)

@@ -9,9 +9,6 @@ use store::Nodes;
 use store::Store;
 use wal::Tail;
 
-// The room that any image needs.
-const IMAGE_ROOM: usize = decode::IMAGE_LIMIT;
-
 // Reads an image and writes it again, its tree too; how many bytes were written.
 #[no_mangle]
 pub extern "C" fn bench_codec(image: &[u8], out: &mut [u8]) -> usize {
@@ -19,7 +16,7 @@ pub extern "C" fn bench_codec(image: &[u8], out: &mut [u8]) -> usize {
     let mut staging = [[0u32; 3]; store::ROOM];
     let d = decode::decode(image, &mut tree, &mut staging);
     if d.ok {
-        if IMAGE_ROOM <= out.len() {
+        if basics::IMAGE_ROOM <= out.len() {
             let s = d.store;
             return encode::encode(image, &tree, &staging, s, Tail::Nothing, 0, out);
         }

@@ -13,12 +13,9 @@ mod recording;
 use local_storage::LocalStorage;
 use wal::Tail;
 
-// 02, item 4: "the image limit and least output of refusal 2 become 19,390"; 01, Sixteen numbers, 2: "(8,576 for a key list, 197 for a step)".
-const IMAGE_ROOM: usize = decode::IMAGE_LIMIT;
-
-const KEYS_ROOM: usize = 8_576;
-
-const STEP_ROOM: usize = 197;
+use basics::IMAGE_ROOM;
+use basics::KEYS_ROOM;
+use basics::STEP_ROOM;
 
 // Room for an image and the three names of a Write. A small image takes a small buffer: the large one takes longer to clear than such an image
 // takes to read.

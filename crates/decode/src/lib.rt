@@ -17,17 +17,6 @@ use store::Node;
 use store::Nodes;
 use store::Store;
 
-// "At most 16 directories, 128 files, 32 staging files"; 02, item 4: "The log limit becomes 6,952 bytes, and the image limit […] 19,390."
-const DIR_LIMIT: usize = 16;
-
-const FILE_LIMIT: usize = 128;
-
-const STAGING_LIMIT: usize = 32;
-
-const LOG_LIMIT: usize = 6_952;
-
-pub const IMAGE_LIMIT: usize = 19_390;
-
 const NO_LOG: LogRef = LogRef {
     start: 0,
     len: 0,
@@ -78,7 +67,11 @@ pub struct Decoded {
 fn file_limit(staged: bool) -> usize
     ensures { λ r. ⌜ r ≡ filesOf staged ⌝ }
 {
-    if staged { STAGING_LIMIT } else { FILE_LIMIT }
+    if staged {
+        basics::STAGING_LIMIT
+    } else {
+        basics::FILE_LIMIT
+    }
 }
 
 // Whether a name may stand before another: "ascending", "No name twice in a directory."
@@ -100,7 +93,7 @@ fn dir_at(src: &[u8], last: Spot, x: Item) -> Next
     ensures { λ r. ⌜ Comes false (now (src .entry)) last r ⌝ }
 {
     let dirs = last.dirs;
-    if DIR_LIMIT <= dirs {
+    if basics::DIR_LIMIT <= dirs {
         return Next::Broken;
     }
     let start = x.start;
@@ -268,7 +261,7 @@ fn read_log(src: &[u8], at: usize) -> LogPart
     let start = x.start;
     let end = x.end;
     let len = end - start;
-    if LOG_LIMIT < len {
+    if basics::LOG_LIMIT < len {
         return LogPart {
             ok: false,
             log: NO_LOG,
@@ -356,7 +349,7 @@ fn read_image(src: &[u8], tree: &mut Nodes, staging: &mut Nodes) -> Decoded
 pub fn decode(src: &[u8], tree: &mut Nodes, staging: &mut Nodes) -> Decoded
     ensures { λ r. ⌜ Decodes (now (src .entry)) (now (tree .exit)) (now (staging .exit)) r ⌝ }
 {
-    if IMAGE_LIMIT < src.len() {
+    if basics::IMAGE_ROOM < src.len() {
         *tree = [[0u32; 3]; store::ROOM];
         *staging = [[0u32; 3]; store::ROOM];
         return Decoded {

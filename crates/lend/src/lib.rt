@@ -8,9 +8,6 @@ ghost use Rattle.basics.specs.Name.{lower};
 ghost use Rattle.lend.specs.Lending.{Lends};
 use spans::NameRef;
 
-// 01, How a store is handed over: "A name is 1 to 64 bytes".
-const NAME_LIMIT: usize = 64;
-
 // A given name that was tested: where it is valid, it stands in the bytes before `end`.
 pub struct Named {
     pub valid: bool,
@@ -53,7 +50,7 @@ pub fn lend_key(src: &mut [u8], at: usize, key: &[u8]) -> Named
     ensures { λ r. ⌜ Lends at (lower (now (key .entry))) (now (src .entry)) (now (src .exit)) r ⌝ }
 {
     let n = key.len();
-    if NAME_LIMIT < n {
+    if basics::NAME_LIMIT < n {
         return not_valid(at);
     }
     paths::normalize_key(key, src, at);

@@ -4,7 +4,7 @@ ghost use Prim.Native.Nat.{_≤_};
 ghost use lib.ListN.{length};
 
 // One byte more than an image may have, so that a longer input is seen to be one: it is refused with 1.
-const INPUT_ROOM: usize = 19_263;
+const INPUT_ROOM: usize = basics::IMAGE_ROOM + 1;
 
 // No listing is longer (crate listing, specs/Room.antt).
 const LISTING_ROOM: usize = 19_113;

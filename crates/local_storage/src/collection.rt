@@ -18,9 +18,6 @@ use store::Nodes;
 use store::Store;
 use transaction::Operation;
 
-// 01, How a store is handed over: "32 staging files".
-const STAGING_LIMIT: usize = 32;
-
 // 01, Sixteen numbers: "10. A staging file of a Write's staging name stands, 32 staging files stand, or the number is 0."
 fn can_stage(src: &[u8], t: &Nodes, n: usize, staged: NameRef, number: u32) -> bool
     requires { ⌜ SoundTable (now src) (tableOf (now t) n) × Sound (now src) staged ⌝ }
@@ -29,7 +26,7 @@ fn can_stage(src: &[u8], t: &Nodes, n: usize, staged: NameRef, number: u32) -> b
     if store::exists(src, t, n, spans::empty(), staged) {
         return false;
     }
-    if STAGING_LIMIT <= n {
+    if basics::STAGING_LIMIT <= n {
         return false;
     }
     if number == 0 {

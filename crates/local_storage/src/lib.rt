@@ -54,9 +54,6 @@ pub struct Transaction {
     pub read: WalRead,
 }
 
-// 01, Corners, wal.rs: "32 operations and the end: accepted."
-const OPERATION_LIMIT: usize = 32;
-
 fn wide(x: u16) -> usize
     ensures { λ r. ⌜ (r ≡ x) × (r < 65536) ⌝ }
 {
@@ -129,7 +126,7 @@ fn refusal(src: &[u8], s: Store) -> u32
         return 4;
     }
     let read = t.read;
-    if OPERATION_LIMIT <= read.len {
+    if basics::OPERATION_LIMIT <= read.len {
         return 5;
     }
     0

@@ -32,9 +32,6 @@ pub enum OriginalName {
     NotABackup,
 }
 
-// 01, How a store is handed over: "A name is 1 to 64 bytes".
-const NAME_LIMIT: usize = 64;
-
 // ".bak"
 const DOT_BAK: [u8; 4] = [0x2E, 0x62, 0x61, 0x6B];
 
@@ -98,7 +95,7 @@ pub fn is_sound(src: &[u8], r: NameRef) -> bool
     if src.len() < end {
         return false;
     }
-    length_of(r) <= NAME_LIMIT
+    length_of(r) <= basics::NAME_LIMIT
 }
 
 // One byte of a name.
@@ -267,7 +264,7 @@ pub fn backup(src: &[u8], r: NameRef) -> BackupName
     ensures { λ b. ⌜ Backup (now (src .entry)) r b ⌝ }
 {
     let n = length_of(r);
-    if n + 4 <= NAME_LIMIT {
+    if n + 4 <= basics::NAME_LIMIT {
         BackupName::Is(NameRef {
             start: r.start,
             len: r.len,

@@ -26,11 +26,6 @@ use store::Node;
 use store::Nodes;
 use store::Store;
 
-// 01, How a store is handed over: "At most 16 directories, 128 files".
-const DIR_LIMIT: usize = 16;
-
-const FILE_LIMIT: usize = 128;
-
 // 01, Sixteen numbers: "14. A commit step fails", "15. A commit step needs a 17th directory or a 129th file."
 const FAILS: u32 = 14;
 
@@ -192,7 +187,11 @@ fn new_file(src: &[u8], t: &Nodes, n: usize, dir: NameRef, file: NameRef) -> u32
         Held::Number(_) => 0,
         Held::Nothing => {
             let c = store::count(src, t, n);
-            if c.files < FILE_LIMIT { 0 } else { FULL }
+            if c.files < basics::FILE_LIMIT {
+                0
+            } else {
+                FULL
+            }
         }
     }
 }
@@ -216,7 +215,7 @@ pub fn fault(src: &[u8], tree: &Nodes, staging: &Nodes, s: Store, x: Step) -> u3
     match x {
         Step::MakeDirectory(_) => {
             let n = store::count(src, tree, s.tree);
-            if n.dirs < DIR_LIMIT { 0 } else { FULL }
+            if n.dirs < basics::DIR_LIMIT { 0 } else { FULL }
         }
         Step::MoveStaged(f, d, k) => {
             let h = store::look(src, staging, s.staging, spans::empty(), f);

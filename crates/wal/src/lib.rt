@@ -47,7 +47,7 @@ pub struct Logged {
 
 // The operations of a log, those before `len`, and how the walk ended (`WalReadResult`).
 pub struct WalRead {
-    pub ops: [Logged; 32],
+    pub ops: [Logged; basics::OPERATION_LIMIT],
     pub len: usize,
     pub ending: Ending,
 }
@@ -186,7 +186,7 @@ pub fn entry_from(log: &[u8], at: usize) -> Entry
 }
 
 // The answer of a walk.
-fn ended(ops: [Logged; 32], len: usize, ending: Ending) -> WalRead
+fn ended(ops: [Logged; basics::OPERATION_LIMIT], len: usize, ending: Ending) -> WalRead
     ensures { λ r. ⌜ (r .ops ≡ ops) × ((r .len ≡ len) × (r .ending ≡ ending)) ⌝ }
 {
     WalRead {
@@ -201,11 +201,11 @@ fn walk_entries(src: &[u8], first: usize, end: usize) -> WalRead
     requires { ⌜ Bounds (now src) first end ⌝ }
     ensures { λ r. ⌜ WalksLog (now (src .entry)) first end r ⌝ }
 {
-    let mut ops = [NO_OPERATION; 32];
+    let mut ops = [NO_OPERATION; basics::OPERATION_LIMIT];
     let log = &src[..end];
     let mut at = first;
     let mut n: usize = 0;
-    while n < 32 {
+    while n < basics::OPERATION_LIMIT {
         if end <= at {
             return ended(ops, n, Ending::Whole);
         }
@@ -230,7 +230,11 @@ pub fn read_wal(src: &[u8], start: usize, end: usize) -> WalRead
     ensures { λ r. ⌜ ReadsLog (now (src .entry)) start end r ⌝ }
 {
     if !transaction::in_bounds(src, start, end) {
-        return ended([NO_OPERATION; 32], 0, Ending::Undecodable);
+        return ended(
+            [NO_OPERATION; basics::OPERATION_LIMIT],
+            0,
+            Ending::Undecodable,
+        );
     }
     if end - start < WAL_FILE_HEADER_SIZE {
         return walk_entries(src, end, end);

@@ -34,11 +34,11 @@ abbrev pub outcome : Outcome → Answer
 outcome (refuse n) = refusal n
 outcome (give s) = answer 0 s
 
--- 01, Sixteen numbers: "An answer says how many bytes were written; the lent output keeps its bytes behind them." The output after it.
+-- An output after some bytes are written at its front. 01, Sixteen numbers: "the lent output keeps its bytes behind them".
 abbrev pub overwritten : Bytes → Bytes → Bytes
 overwritten written out = written ++ drop (length written) out
 
--- 01, Sixteen numbers: "1. The image breaks its layout or a limit. 2. The lent output has under" 19,390 bytes (02, item 4); then what follows.
+-- 01, Sixteen numbers: "1. The image breaks its layout or a limit." Then 2, where an output has not the room that the entry asks for; then what follows.
 abbrev pub onImage : Bytes → Bool → (Store → Answer) → Answer
 onImage b room next = caseOption (decode b) (refusal 1) λ s. if room then next s else refusal 2
 

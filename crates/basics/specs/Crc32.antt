@@ -1,4 +1,4 @@
--- CRC-32: the definition of IEEE 802.3, and the shift register of 01, which gives the same (crate laws, Crc32Laws).
+-- CRC-32: the definition of IEEE 802.3, and the shift register of 01, which gives the same (crate basic_laws, Crc32Laws).
 use Prim.Native.Nat.{ℕ, zero, suc, _+_, _-_, _*_, _/_, _%_}
 use mathlib.Core.List.{List, [], _∷_, _++_, map}
 use mathlib.Core.Bool.{Bool, true, false, not, xor}
@@ -74,7 +74,7 @@ dividend m = complementFirst 32 (messageBits m ++ zeros 32)
 unfoldable pub ieeeCrc32 : Bytes → ℕ
 ieeeCrc32 m = ofBits (map not (remainder (dividend m)))
 
--- 01, How a store is handed over: "The CRC is reflected, polynomial 0xEDB88320, start and final exclusive-or all ones."
+-- 01, How a store is handed over: "The CRC is reflected, polynomial 0xEDB88320".
 -- The register after one shift: the bit that fell out says whether the polynomial goes in.
 unfoldable pub addPolynomial : ℕ → ℕ → ℕ
 addPolynomial zero c = c
@@ -95,6 +95,6 @@ unfoldable pub register : ℕ → Bytes → ℕ
 register c [] = c
 register c (b ∷ bs) = register (feedByte c b) bs
 
--- What code and the other definitions cite.
+-- "start and final exclusive-or all ones": what code and the other definitions cite.
 unfoldable pub crc32 : Bytes → ℕ
 crc32 bs = bitXor (register 0xFFFF_FFFF bs) 0xFFFF_FFFF

@@ -1,4 +1,5 @@
--- A sorted list of places with numbers, as a finite map: look, put, del. Crate laws has their laws (MapLaws).
+-- A list of places with numbers, as a finite map: look, put, del; ascending in a well-formed store (crate model, Store). No part of document 01.
+-- Crate basic_laws has their laws (MapLaws).
 use mathlib.Core.Path.{_≡_}
 use Prim.Native.Nat.{ℕ}
 use mathlib.Core.List.{List, [], _∷_}

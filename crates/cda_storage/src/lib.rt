@@ -10,12 +10,11 @@ ghost use Rattle.handover.specs.Contract.{Gives, StepGives, PendingGives};
 
 mod recording;
 
-use local_storage::LocalStorage;
-use wal::Tail;
-
 use basics::IMAGE_ROOM;
 use basics::KEYS_ROOM;
 use basics::STEP_ROOM;
+use local_storage::LocalStorage;
+use wal::Tail;
 
 // Room for an image and the three names of a Write. A small image takes a small buffer: the large one takes longer to clear than such an image
 // takes to read.

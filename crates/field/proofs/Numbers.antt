@@ -1,4 +1,4 @@
--- Little-endian numbers: what crate laws has no law for.
+-- Little-endian numbers: what crate basic_laws has no law for.
 use mathlib.Core.Path.{_≡_, refl, sym, ap, _∙_}
 use mathlib.Core.List.{[], _∷_, _++_}
 use Prim.Native.Nat.{ℕ, _+_, _*_, _/_, _%_, _<_}

@@ -101,11 +101,11 @@ makers =
     ∷ (λ v. write (record { collection = getD v 0 []; key = getD v 1 []; staged = getD v 2 []; mark = some (sameBytes (getD v 3 []) (1 ∷ [])) }))
     ∷ []
 
--- The tags of one byte that is 0 or 1; "another value doesn't decode" (02, item 4).
+-- The tags of a mark.
 abbrev pub isMark : ℕ → Bool
 isMark t = eqb t 6 || eqb t 7
 
--- Each value by its tag: the kind has one byte, a mark is 0 or 1, all else is a valid name.
+-- Each value by its tag: the kind has one byte, a mark is 0 or 1 (02, item 4: "another value doesn't decode"), all else is a valid name.
 unfoldable pub validValue : Field → Bool
 validValue f =
     if eqb (f .tag) 1 then eqb (length (f .value)) 1

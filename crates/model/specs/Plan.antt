@@ -167,8 +167,8 @@ isNewArtifact t (createCollection c) = isSome (look (c, []) t)
 isNewArtifact t (deleteCollection c) = false
 isNewArtifact t (copyCollection a b existed) = not existed && isSome (look (b, []) t) && not (isSome (look (backupName b, []) t))
 
--- 01, Corners, recovery.rs: "Truncated Committing log and any backup, or any new artifact by `has_new_artifacts`: refusal 13. Else the log is
--- discarded." Sixteen numbers: "11. Recovery from a Committing log meets an undecodable payload. 12. […] a byte after 32 operations."
+-- 01, Corners, recovery.rs: "Truncated Committing log and any backup, or any new artifact by `has_new_artifacts`: refusal 13."
+-- Sixteen numbers: "11. Recovery from a Committing log meets an undecodable payload. 12. […] a byte after 32 operations."
 abbrev pub recoverFault : Journal → Map → Option ℕ
 recoverFault absent t = none
 recoverFault (recording o e) t = none
@@ -182,7 +182,7 @@ abbrev pub removeStandingLog : Store → List Step
 removeStandingLog s = ifPresent (s .log) (removeLog ∷ [])
 
 -- 01, Modules in port order: "Tempting and wrong: restoring backups before removing new artifacts; treating an undecodable payload as
--- truncated". Only a whole log is undone.
+-- truncated". Only a whole log is undone; a truncated one that is not refused "is discarded".
 abbrev pub undoParts : List Op → Ending → List (Store → List Step)
 undoParts ops whole = inTurn undoSteps (reverse ops) ∷ restoreBackups ∷ []
 undoParts ops truncated = []

@@ -23,7 +23,7 @@ pub record Store : Type 0 where
 abbrev pub stagingKey : Name → Key
 stagingKey f = ([], f)
 
--- 01, Listings and file steps: "A directory is listed […] in ascending byte order": the directories, and the files of one.
+-- The directories, and the files of one, in the tree's order; so "in ascending byte order" (01, Listings and file steps) where that is ascending.
 unfoldable pub dirs : Map → List Name
 dirs [] = []
 dirs (n ∷ r) = let rest = dirs r in ifEmpty (n .0 .1) (n .0 .0 ∷ rest) rest
@@ -32,7 +32,7 @@ unfoldable pub files : Name → Map → List Name
 files d [] = []
 files d (n ∷ r) = let rest = files d r in caseCmp (cmpName d (n .0 .0)) rest (ifEmpty (n .0 .1) rest (n .0 .1 ∷ rest)) rest
 
--- The names of the staging files, ascending.
+-- The names of the staging files, in their order.
 abbrev pub stagingNames : Map → List Name
 stagingNames m = map (λ n. n .0 .1) m
 
@@ -72,7 +72,7 @@ wellFormed s =
     && ascending (s .staging) && allOf validStaged (s .staging) && leb (length (s .staging)) stagingLimit
     && caseOption (s .log) true (λ l. leb (length l) logLimit)
 
--- 01, Listings and file steps: "The search for a backup leaves both walks at the first hit" (`has_backup_files`).
+-- A directory or a file has a backup's name (`has_backup_files`).
 unfoldable pub hasBackupFiles : Map → Bool
 hasBackupFiles t = anyOf (λ n. isBackup (n .0 .0) || isBackup (n .0 .1)) t
 

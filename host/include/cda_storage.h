@@ -38,7 +38,7 @@ enum cda_storage_number {
     CDA_STORAGE_COLLECTION_EXISTS = 9,
     /* a staging file of that name stands, 32 staging files stand, or the content number is 0 */
     CDA_STORAGE_STAGING_REFUSED = 10,
-    /* the log of an interrupted commit holds an operation that does not decode */
+    /* the log of an interrupted commit has an entry with the right checksum that does not decode: no damage but another program's log, the original's for one; let that program recover */
     CDA_STORAGE_UNDECODABLE_PAYLOAD = 11,
     /* the log of an interrupted commit goes on after 32 operations */
     CDA_STORAGE_LOG_TOO_LONG = 12,

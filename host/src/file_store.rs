@@ -2,24 +2,30 @@
 mod carry_out;
 mod error;
 mod layout;
+mod lock;
+mod reader;
 mod scan;
 mod transaction;
 
 pub use error::StoreError;
+pub use reader::Reader;
 pub use transaction::Transaction;
 
 use crate::{
     Refusal,
+    calls::{self, Calls, Lock, System},
     entries::{Plan, Stepped},
     image::{Contents, Image},
+    log,
     step::Step,
 };
-use layout::Layout;
+use layout::{ASIDE, Layout};
 use std::{
     cell::{Cell, RefCell},
     ffi::OsStr,
     fmt,
-    fs::{self, File, TryLockError},
+    fs::File,
+    io::ErrorKind,
     path::{Path, PathBuf},
 };
 
@@ -28,16 +34,17 @@ use std::{
 ///
 /// # One process at a time
 ///
-/// The root directory itself is locked while the store is open, against other `FileStore`s; it leaves no entry on disk. The
-/// original takes no such lock and must not have the directory open meanwhile.
+/// The root directory itself is locked while the store is open, against other `FileStore`s and against a [`Reader`]; it leaves no
+/// entry on disk. Who finds it locked waits for a second. The original takes no such lock and must not have the directory open
+/// meanwhile.
 ///
 /// # What a cut leaves
 ///
 /// A process that ends anywhere leaves a store that the next open recovers. Document 01's cut rule says what comes of it
 /// where each step is done whole or not at all. On disk each step is one call that the file system does whole, except:
 ///
-/// - a copy is made in the staging directory and moved into its place. A cut inside leaves a staging file, which the next
-///   open removes: the copy was not done;
+/// - a copy is made as `copy.tmp` in the staging directory and moved into its place. A cut inside leaves that file, which is no part
+///   of the store's image, and the next open removes it: the copy was not done;
 /// - the removal of a directory removes its files one by one. Where a cut leaves a part of them, the next open removes the
 ///   rest.
 ///
@@ -49,10 +56,28 @@ use std::{
 /// marked Committing and before the key's rename to its backup. Outside the rule's conditions files can be lost, as with the
 /// original. docs/FINDINGS.md has the cases.
 ///
-/// Syncs are carried out where the original has them. What a loss of power takes from a disk is outside the rule.
+/// # What a loss of power leaves
+///
+/// What is not synced can be lost with the power. The steps have the original's syncs. The store adds these, which are no steps:
+///
+/// - [`FileStore::begin`]: every collection and the directory of the collections, the root, and, behind the new log, the journal;
+/// - a copy: its content, before it is moved into its place;
+/// - recovery where a log stands: every collection and the directory of the collections before the log is removed, and the journal
+///   behind it;
+/// - recovery where no log stands: the journal, before anything else.
+///
+/// With them the cut rule's promise holds for a loss of power too, in tests (`tests/power_loss.rs`, `tests/mounted.rs`); it is not
+/// proved of this code. A disk is taken for granted that keeps what it has synced, and keeps the changes of one directory in their
+/// order.
+///
+/// # What stands below the root
+///
+/// A symbolic link below the root is [`StoreError::Foreign`], and none is followed where a file or directory is opened. The root
+/// itself may be reached by links. Whoever replaces a directory of an open store by a link is not noticed by the renames and removals
+/// in it: the standard library has no such calls relative to an open directory.
 pub struct FileStore {
     layout: Layout,
-    _lock: File,
+    _lock: Option<File>,
     state: Cell<State>,
     observer: RefCell<Observer>,
 }
@@ -79,9 +104,10 @@ pub struct Event<'a> {
     pub step: &'a Step,
 }
 
-/// Reads a store from its directory into an image, with the files numbered from 1. Nothing is changed and nothing recovered.
+/// Reads a store from its directory into an image, with the files numbered from 1. Nothing is changed and nothing recovered. No lock
+/// is taken: beside a running update this may show its middle, which a [`Reader`] does not.
 pub fn scan(root: impl Into<PathBuf>) -> Result<Image, StoreError> {
-    Ok(scan::scan(&Layout(root.into()))?.image()?)
+    Ok(scan::scan(&Layout::new(root, System))?.image()?)
 }
 
 impl FileStore {
@@ -89,35 +115,90 @@ impl FileStore {
     /// nothing is written: the directories below are made by the first [`FileStore::begin`].
     ///
     /// Other entries of the root than `collections` and `journal` are left alone. Below these two, whatever an image can't
-    /// hold is [`StoreError::Foreign`].
+    /// hold is [`StoreError::Foreign`]. A log with a damaged header beside backups is [`StoreError::Damaged`].
     pub fn open(root: impl Into<PathBuf>) -> Result<FileStore, StoreError> {
         FileStore::open_observed(root, |_| {})
     }
 
     /// Opens the store with an observer, which is told of every step of recovery and commits before and after it is carried
-    /// out.
+    /// out. If it panics, the store is stopped as by a failed file call ([`StoreError::Stopped`]).
     pub fn open_observed(root: impl Into<PathBuf>, observer: impl FnMut(&Event) + Send + 'static) -> Result<FileStore, StoreError> {
-        let layout = Layout(root.into());
-        let lock = lock(layout.root())?;
-        let (state, observer) = (Cell::new(State::Idle), RefCell::new(Box::new(observer) as Observer));
-        let store = FileStore { layout, _lock: lock, state, observer };
-        let image = store.image()?;
-        if image.has_pending_work()? {
-            store.run(Plan::Recover, &image)?;
+        FileStore::open_with(System, root, observer)
+    }
+
+    /// Opens the store with other file calls.
+    #[doc(hidden)]
+    pub fn open_with(
+        calls: impl Calls + 'static,
+        root: impl Into<PathBuf>,
+        observer: impl FnMut(&Event) + Send + 'static,
+    ) -> Result<FileStore, StoreError> {
+        let store = FileStore::locked(calls, root, observer)?;
+        let contents = scan::scan(&store.layout)?;
+        if contents.has_damaged_log()? {
+            return Err(StoreError::Damaged { path: store.layout.log() });
         }
+        store.recover(&contents.image()?)?;
+        store.clear_aside()?;
         Ok(store)
     }
 
-    /// Begins a transaction. [`Refusal::TransactionBusy`] if one is open.
+    /// Opens a store whose recovery is refused for its log ([`StoreError::Damaged`], [`Refusal::UndecodablePayload`],
+    /// [`Refusal::LogTooLong`], [`Refusal::Corruption`]): every backup is put back in the place of its original, then the log and
+    /// the staging files go. So a key or collection that stood before the update is as before, as far as its backup stands; one
+    /// that the update made stays. The steps are those of a recovery from a log without operations: a file whose name ends in .tmp
+    /// goes too. Elsewhere it is [`StoreError::Sound`].
+    pub fn restore(root: impl Into<PathBuf>, observer: impl FnMut(&Event) + Send + 'static) -> Result<FileStore, StoreError> {
+        let (store, contents) = FileStore::refused(root, observer)?;
+        let [_, committing] = log::empty()?;
+        let mut image = Contents { log: committing, ..contents }.image()?;
+        // A collection that is put back can hold backups itself: then the log stays for another turn.
+        while image.recover()?.has_pending_work()? {
+            image = store.run_to_the_log(&image)?;
+        }
+        store.recover(&image)?;
+        store.clear_aside()?;
+        Ok(store)
+    }
+
+    /// Opens a store whose recovery is refused for its log, as [`FileStore::restore`] does, but keeps what stands: the log, the
+    /// staging files and then the backups go.
+    pub fn accept(root: impl Into<PathBuf>, observer: impl FnMut(&Event) + Send + 'static) -> Result<FileStore, StoreError> {
+        let (store, contents) = FileStore::refused(root, observer)?;
+        let [recording, _] = log::empty()?;
+        store.recover(&Contents { log: recording, ..contents }.image()?)?;
+        store.recover(&store.image()?)?;
+        store.clear_aside()?;
+        Ok(store)
+    }
+
+    /// Locks a store whose recovery is refused for its log: the store, and what stands.
+    fn refused(root: impl Into<PathBuf>, observer: impl FnMut(&Event) + Send + 'static) -> Result<(FileStore, Contents), StoreError> {
+        let store = FileStore::locked(System, root, observer)?;
+        let contents = scan::scan(&store.layout)?;
+        if !contents.has_damaged_log()? && contents.image()?.recover().is_ok() {
+            return Err(StoreError::Sound { path: store.layout.root().to_path_buf() });
+        }
+        Ok((store, contents))
+    }
+
+    fn locked(
+        calls: impl Calls + 'static,
+        root: impl Into<PathBuf>,
+        observer: impl FnMut(&Event) + Send + 'static,
+    ) -> Result<FileStore, StoreError> {
+        let layout = Layout::new(root, calls);
+        let lock = lock::lock(&layout, Lock::Exclusive)?;
+        let (state, observer) = (Cell::new(State::Idle), RefCell::new(Box::new(observer) as Observer));
+        Ok(FileStore { layout, _lock: lock, state, observer })
+    }
+
+    /// Begins a transaction. [`Refusal::TransactionBusy`] if one is open. A failed file call stops the store.
     pub fn begin(&self) -> Result<Transaction<'_>, StoreError> {
         self.running()?;
         let open = self.state.get() == State::Recording;
         let image = Contents { open, ..scan::scan(&self.layout)? }.image()?.begin()?;
-        for directory in [self.layout.staging(), self.layout.collections()] {
-            fs::create_dir_all(&directory).map_err(StoreError::at(&directory))?;
-        }
-        let log = self.layout.log();
-        fs::write(&log, image.contents().log.unwrap_or_default()).map_err(StoreError::at(&log))?;
+        self.stop_at_error(self.prepare(&image.contents()))?;
         self.state.set(State::Recording);
         Ok(Transaction::new(self, image))
     }
@@ -148,7 +229,43 @@ impl FileStore {
         let listed = |name: &&String| is_key(name) && name.eq_ignore_ascii_case(&key);
         let name = files.keys().find(|name| **name == key).or_else(|| files.keys().find(listed)).ok_or(Refusal::KeyNotFound)?;
         let path = self.layout.file(collection, name);
-        File::open(&path).map_err(StoreError::at(&path))
+        calls::open(&path).map_err(StoreError::at(&path))
+    }
+
+    /// Makes the directories that are missing, sees that all of the store is on the disk, and writes a new log.
+    fn prepare(&self, begun: &Contents) -> Result<(), StoreError> {
+        let layout = &self.layout;
+        for directory in [layout.collections(), layout.journal(), layout.staging()] {
+            match layout.calls.make_directory(&directory) {
+                Err(error) if error.kind() == ErrorKind::AlreadyExists => {}
+                made => made.map_err(StoreError::at(&directory))?,
+            }
+        }
+        layout.sync_collections(begun)?;
+        layout.sync(layout.root())?;
+        let log = layout.log();
+        layout.calls.write(&log, begun.log.as_deref().unwrap_or_default()).map_err(StoreError::at(&log))?;
+        layout.sync(&layout.journal())
+    }
+
+    /// Recovers the store, if there is work. Where no log is found, its removal is synced before the backups go.
+    fn recover(&self, image: &Image) -> Result<(), StoreError> {
+        if !image.has_pending_work()? {
+            return Ok(());
+        }
+        if image.contents().log.is_none() {
+            self.stop_at_error(self.layout.sync_standing(&self.layout.journal()))?;
+        }
+        self.run(Plan::Recover, image)
+    }
+
+    /// Removes what a copy left that was stopped before it was in its place.
+    fn clear_aside(&self) -> Result<(), StoreError> {
+        let aside = self.layout.staged(ASIDE);
+        match scan::has_aside(&self.layout)? {
+            true => self.stop_at_error(self.layout.calls.remove_file(&aside).map_err(StoreError::at(&aside))),
+            false => Ok(()),
+        }
     }
 
     /// Carries out a plan, step by step. A refusal of the whole plan comes before its first step.
@@ -156,11 +273,33 @@ impl FileStore {
         image.steps(plan).try_for_each(|stepped| self.carry_out(plan, &stepped?))
     }
 
+    /// Carries out a recovery's steps before the removal of the log: the image there.
+    fn run_to_the_log(&self, image: &Image) -> Result<Image, StoreError> {
+        let mut reached = image.clone();
+        for stepped in image.recover_steps() {
+            let stepped = stepped?;
+            if stepped.step == Step::RemoveLog {
+                break;
+            }
+            self.carry_out(Plan::Recover, &stepped)?;
+            reached = stepped.image;
+        }
+        Ok(reached)
+    }
+
     fn carry_out(&self, plan: Plan, stepped: &Stepped) -> Result<(), StoreError> {
         let Stepped { number, step, image } = stepped;
-        let tell = |done| (self.observer.borrow_mut())(&Event { done, plan, number: *number, step });
+        let tell = |done| {
+            let state = self.state.replace(State::Stopped); // and so it stays if the observer panics
+            (self.observer.borrow_mut())(&Event { done, plan, number: *number, step });
+            self.state.set(state);
+        };
         tell(false);
-        self.stop_at_error(carry_out::carry_out(&self.layout, step, image))?;
+        let done = match (plan, step) {
+            (Plan::Recover, Step::RemoveLog) => carry_out::remove_log_for_good(&self.layout, image),
+            _ => carry_out::carry_out(&self.layout, step, image),
+        };
+        self.stop_at_error(done)?;
         tell(true);
         Ok(())
     }
@@ -178,15 +317,5 @@ impl FileStore {
 impl fmt::Debug for FileStore {
     fn fmt(&self, f: &mut fmt::Formatter) -> fmt::Result {
         f.debug_struct("FileStore").field("root", &self.layout.root()).field("state", &self.state.get()).finish_non_exhaustive()
-    }
-}
-
-/// Locks the root directory until the file is closed.
-fn lock(root: &Path) -> Result<File, StoreError> {
-    let directory = File::open(root).map_err(StoreError::at(root))?;
-    match directory.try_lock() {
-        Ok(()) => Ok(directory),
-        Err(TryLockError::WouldBlock) => Err(StoreError::Locked { path: root.to_path_buf() }),
-        Err(TryLockError::Error(error)) => Err(StoreError::at(root)(error)),
     }
 }

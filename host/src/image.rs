@@ -57,6 +57,15 @@ impl Contents {
         Image::new(self.encode())
     }
 
+    /// Whether backups stand beside a log whose header is damaged, which the port takes for no log: one of under 8 bytes, or with
+    /// another first byte, checksum or status than a log has. Recovery would then remove the backups, as behind a commit that is
+    /// done; [`FileStore::open`](crate::FileStore::open) refuses it.
+    pub fn has_damaged_log(&self) -> Result<bool, Refusal> {
+        let Some(log) = &self.log else { return Ok(false) };
+        let backups = Contents { directories: self.directories.clone(), ..Contents::default() };
+        Ok(backups.image()?.has_pending_work()? && !log::is_taken(log)?)
+    }
+
     /// Whether a collection holds a file.
     pub fn has(&self, collection: &str, file: &str) -> bool {
         self.directories.get(collection).is_some_and(|files| files.contains_key(file))

@@ -18,6 +18,8 @@
 #![forbid(unsafe_code)]
 #![warn(missing_docs)]
 
+#[doc(hidden)]
+pub mod calls;
 mod entries;
 mod field;
 mod file_store;
@@ -27,7 +29,7 @@ mod step;
 
 pub use cda_storage_sys::Refusal;
 pub use entries::{CommitError, Plan, Stepped, Steps};
-pub use file_store::{Event, FileStore, StoreError, Transaction, scan};
+pub use file_store::{Event, FileStore, Reader, StoreError, Transaction, scan};
 pub use image::{Contents, Files, Image};
 pub use log::Write;
 pub use step::Step;

@@ -1,5 +1,9 @@
 //! The Writes of a log: document 01, 'How a store is handed over'; document 02, item 4.
-use crate::field;
+use crate::{
+    Refusal, field,
+    image::{Contents, Image},
+    step::Step,
+};
 
 /// A Write that a transaction has recorded.
 #[derive(Clone, PartialEq, Eq, Hash, Debug)]
@@ -12,6 +16,22 @@ pub struct Write {
     pub staged: String,
     /// Whether the key's file stood when this was recorded; a log of an older version does not say.
     pub mark: Option<bool>,
+}
+
+/// Whether the port takes a log by its header. It is asked what it would do beside a backup: where there is no log, the backup is
+/// removed first.
+pub fn is_taken(log: &[u8]) -> Result<bool, Refusal> {
+    let directories = [("c".to_string(), [("k.bak".to_string(), 1)].into())].into();
+    let header = log[..log.len().min(8)].to_vec();
+    let (_, first) = Contents { directories, log: Some(header), ..Contents::default() }.image()?.recover_step(1)?;
+    Ok(!matches!(first, Some(Step::RemoveFile { .. })))
+}
+
+/// The logs of a transaction with no operation: while it is recorded, and while it is committed.
+pub fn empty() -> Result<[Option<Vec<u8>>; 2], Refusal> {
+    let recording = Image::default().begin()?;
+    let (committing, _) = recording.commit_step(1)?;
+    Ok([recording, committing].map(|image| image.contents().log))
 }
 
 /// The Writes of a log that the port reads to its end, if they are all that it holds.

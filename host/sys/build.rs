@@ -22,13 +22,13 @@ fn main() {
     fs::write(out.join("entries.rs"), list::declarations(ENTRIES)).unwrap();
     fs::write(out.join("refusals.rs"), list::refusals(REFUSALS)).unwrap();
     fs::write(out.join("cda_storage.h"), list::header(ENTRIES, REFUSALS)).unwrap();
-    let named = env::var_os("CDA_LIB").map(PathBuf::from);
     let beside = Path::new(&env::var("CARGO_MANIFEST_DIR").unwrap()).join("../../target/staticlib/libcda_storage.a");
-    let library = named.unwrap_or(beside);
+    let named = env::var_os("CDA_LIB").filter(|named| !named.is_empty());
+    let library = named.as_ref().map_or(beside, |named| from_where_cargo_was_called(Path::new(named)));
     println!("cargo::rerun-if-changed={}", library.display());
     match library.canonicalize() {
         Ok(library) => link(&library),
-        Err(error) if env::var_os("CARGO_FEATURE_REQUIRED").is_some() || env::var_os("CDA_LIB").is_some() => {
+        Err(error) if env::var_os("CARGO_FEATURE_REQUIRED").is_some() || named.is_some() => {
             println!(
                 "cargo::error={}: {error}. `rt staticlib cda_storage` makes the static library; CDA_LIB names another.",
                 library.display()
@@ -36,6 +36,15 @@ fn main() {
         }
         Err(_) => {}
     }
+}
+
+/// Cargo runs this in the package's folder, and leaves PWD as the caller's shell has set it. Where no shell has, a relative path
+/// stays one from the package's folder.
+fn from_where_cargo_was_called(named: &Path) -> PathBuf {
+    if named.is_relative() {
+        println!("cargo::rerun-if-env-changed=PWD");
+    }
+    env::var_os("PWD").map_or(PathBuf::new(), PathBuf::from).join(named)
 }
 
 fn link(library: &Path) {

@@ -1,13 +1,15 @@
 //! The command `cda-store`, run as a process.
 mod common;
 
-use cda_store::Contents;
-use common::{Folder, OLD_WRITE, RECORDING, crc32, ten_steps};
+use cda_store::{Contents, FileStore};
+use common::{COMMITTING, Folder, OLD_WRITE, RECORDING, crc32, ten_steps};
 use std::{
     collections::BTreeMap,
     fs,
     path::PathBuf,
     process::{Command, Output},
+    thread,
+    time::Duration,
 };
 
 const COMMANDS: [&str; 10] = ["list", "recover", "put", "delete", "copy", "create", "drop", "clear", "apply", "cuts"];
@@ -294,11 +296,73 @@ fn an_interrupted_update_is_told_until_it_is_recovered() {
 }
 
 #[test]
+fn a_running_update_is_not_called_interrupted() {
+    let place = Place::with_a();
+    let root = place.0.0.join("store");
+    let store = FileStore::open(&root).unwrap();
+    let mut transaction = store.begin().unwrap();
+    transaction.write("db", "a", &b"newer"[..]).unwrap();
+    for line in ["list store", "cuts store", "cuts store put db/a new"] {
+        place.fails(2, line, "store: an update is running");
+    }
+    let update = thread::spawn(move || {
+        let store = FileStore::open(root).unwrap();
+        thread::sleep(Duration::from_millis(200));
+        drop(store);
+    });
+    transaction.commit().unwrap();
+    drop(store);
+    assert_eq!(place.done("list store"), "db/\ndb/a 5\n");
+    update.join().unwrap();
+}
+
+#[test]
 fn an_update_recovers_first() {
     let place = Place::with_a();
     place.said("put store db/a new --stop-after 8");
     assert_eq!(place.done("put store db/b old"), "Recovered an interrupted update first, in 1 step.\nCommitted in 8 steps.\n");
     assert_eq!(place.done("list store"), "db/\ndb/a 5\ndb/b 3\n");
+}
+
+/// An update is interrupted, and its log is damaged.
+fn with_damaged_log(log: &[u8]) -> Place {
+    let place = Place::with_a();
+    place.said("put store db/a new db/b new --stop-after 5");
+    fs::write(place.0.0.join("store/journal/transaction.wal"), log).unwrap();
+    place
+}
+
+#[test]
+fn a_damaged_log_is_named_and_two_ways_are_told() {
+    for (log, why) in [(&b"?"[..], "store/journal/transaction.wal: the log is damaged"), (&[COMMITTING, b"?"].concat(), "refusal 13")] {
+        let place = with_damaged_log(log);
+        for line in ["recover store", "put store db/c new", "cuts store put db/c new"] {
+            place.fails(1, line, why);
+            place.fails(1, line, "cda-store recover --restore");
+        }
+        assert!(place.done("list store").ends_with("cda-store recover --help.\n"));
+
+        let told = place.done("recover --restore store");
+        assert!(told.starts_with("   1  remove db/a\n   2  rename db/a.bak to db/a\n   3  remove the log\n"), "{told}");
+        assert!(told.ends_with("Put the backups back, in 4 steps.\n"), "{told}");
+        assert_eq!(place.done("list store"), "db/\ndb/a 3\n");
+
+        let place = with_damaged_log(log);
+        let told = place.done("recover store --accept");
+        assert!(told.starts_with("   1  remove the log\n   2  remove staged 3.tmp\n   3  remove db/a.bak\n"), "{told}");
+        assert!(told.ends_with("Kept what stands, in 3 steps.\n"), "{told}");
+        assert_eq!(place.done("list store"), "db/\ndb/a 5\n");
+    }
+}
+
+#[test]
+fn restore_and_accept_are_for_a_damaged_log() {
+    let place = Place::with_a();
+    place.fails(1, "recover --restore store", "store: recovery is not refused here");
+    place.said("put store db/a new --stop-after 6");
+    place.fails(1, "recover --accept store", "store: recovery is not refused here");
+    place.fails(64, "recover --accept --restore store", "one of --restore and --accept");
+    place.fails(64, "list --accept store", "list has no --accept");
 }
 
 #[test]
@@ -314,11 +378,27 @@ fn reasons_are_told() {
     told("put db/a old\nput db/a new", &["changed db/a (written by this update)\n"]);
     told("put db/a new\ndrop db", &["changed db/a (written by this update); kept db/a.bak (a name in .bak)\n"]);
     told("copy db z\ncopy e z", &["kept z/, z/a (made by this update)\n"]);
-    told("drop db\ncopy db z", &["This commit is refused, and its last steps roll it back: refusal 14"]);
     fs::write(place.0.0.join("store/collections/db/K"), "").unwrap();
     told("put db/k new\ndelete db/k\nput db/a new", &["lost db/k (no mark and no backup)\n"]);
     place.done("put store db/t.tmp old");
     told("clear db", &["lost db/t.tmp (a name in .tmp)\n"]);
+}
+
+#[test]
+fn a_refused_update_does_nothing() {
+    let (place, long) = (Place::with_a(), "k".repeat(61));
+    place.done(&format!("put store db/{long} old"));
+    for update in [format!("put db/{long} new"), "apply script".into()] {
+        fs::write(place.0.0.join("script"), "delete db/a\ndrop db\ncopy db z").unwrap();
+        let table = place.done(&format!("cuts store {update} --svg cuts.svg"));
+        assert!(table.starts_with("This update is refused, and nothing is done; refusal 14 (StepFailed): "), "{table}");
+        assert_eq!(table.lines().count(), 1);
+        let picture = fs::read_to_string(place.0.0.join("cuts.svg")).unwrap();
+        assert_eq!(open_elements(&picture), Vec::<String>::new());
+        assert!(picture.contains("This update is refused") && !picture.contains("mark the log"), "{picture}");
+        place.fails(1, &update.replacen(' ', " store ", 1), "refusal 14");
+        assert_eq!(place.done("recover store"), "Nothing to recover.\n");
+    }
 }
 
 #[test]

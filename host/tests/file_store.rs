@@ -2,13 +2,15 @@
 mod common;
 
 use cda_storage_sys::LOG_LIMIT;
-use cda_store::{Event, FileStore, Refusal, Step, StoreError, Transaction, scan};
-use common::{COMMITTING, Folder, OLD_WRITE, RECORDING};
+use cda_store::{Event, FileStore, Reader, Refusal, Step, StoreError, Transaction, scan};
+use common::{COMMITTING, Folder, OLD_WRITE, RECORDING, crc32};
 use std::{
     fs,
     io::{self, Read},
     os::unix::fs::symlink,
-    path::Path,
+    path::{Path, PathBuf},
+    thread,
+    time::{Duration, SystemTime},
 };
 
 fn refusal(result: Result<(), StoreError>) -> Refusal {
@@ -68,6 +70,29 @@ fn one_store_at_a_time() {
     assert!(matches!(FileStore::open(&folder.0), Err(StoreError::Locked { path }) if path == folder.0));
     drop(store);
     FileStore::open(&folder.0).unwrap();
+}
+
+#[test]
+fn a_reader_waits_for_an_update() {
+    let folder = Folder::with(&["db/a=1"]);
+    let store = FileStore::open(&folder.0).unwrap();
+    assert!(matches!(Reader::open(&folder.0), Err(StoreError::Running { path }) if path == folder.0));
+    let update = thread::spawn(move || {
+        let mut transaction = store.begin().unwrap();
+        transaction.write("db", "a", &b"2"[..]).unwrap();
+        thread::sleep(Duration::from_millis(200));
+        transaction.commit().unwrap();
+    });
+    let reader = Reader::open(&folder.0).unwrap();
+    assert!(!reader.image().unwrap().has_pending_work().unwrap());
+    update.join().unwrap();
+    Reader::open(&folder.0).unwrap();
+    let other = thread::spawn(move || {
+        thread::sleep(Duration::from_millis(200));
+        drop(reader);
+    });
+    FileStore::open(&folder.0).unwrap();
+    other.join().unwrap();
 }
 
 #[test]
@@ -153,23 +178,53 @@ fn refused_calls_record_nothing() {
     assert_eq!(folder.files().len(), 34);
 }
 
-#[test]
-fn a_commit_that_fails_is_rolled_back() {
-    let folder = Folder::with(&["c/a=1", "d/b=2"]);
-    let store = FileStore::open(&folder.0).unwrap();
+/// Commits what is recorded, which is refused: no step is carried out, and every file below the store is as it was.
+fn refused_commit(folder: &Folder, refused: Refusal, record: impl FnOnce(&mut Transaction)) {
+    let store = FileStore::open_observed(&folder.0, |event| panic!("{event:?}")).unwrap();
+    drop(store.begin().unwrap());
+    let before = (folder.everything(), changed(&folder.0.join("collections")));
     let mut transaction = store.begin().unwrap();
-    transaction.delete_collection("c").unwrap();
-    transaction.copy_collection("c", "d").unwrap();
-    assert_eq!(refusal(transaction.commit()), Refusal::StepFailed);
-    assert_eq!(folder.files(), ["c/", "c/a=1", "d/", "d/b=2"]);
+    record(&mut transaction);
+    assert_eq!(refusal(transaction.commit()), refused);
+    assert_eq!((folder.everything(), changed(&folder.0.join("collections"))), before);
+    drop(store.begin().unwrap());
+}
+
+/// When each directory of collections was changed last.
+fn changed(collections: &Path) -> Vec<(PathBuf, SystemTime)> {
+    let directories = fs::read_dir(collections).unwrap().map(|entry| entry.unwrap().path()).chain([collections.to_path_buf()]);
+    directories.map(|path| (path.clone(), fs::metadata(path).unwrap().modified().unwrap())).collect()
+}
+
+#[test]
+fn a_refused_commit_touches_no_collection() {
+    refused_commit(&Folder::with(&["c/a=1", "d/b=2"]), Refusal::StepFailed, |t| {
+        t.write("d", "b", &b"3"[..]).unwrap();
+        t.delete_collection("c").unwrap();
+        t.copy_collection("c", "d").unwrap();
+    });
+    let long = "k".repeat(61);
+    refused_commit(&Folder::with(&["c/a=1", &format!("c/{long}=2")]), Refusal::StepFailed, |t| {
+        ["a", &long, "new"].iter().for_each(|key| t.write("c", key, &b"3"[..]).unwrap());
+    });
     let files: Vec<String> = (0..126).map(|i| format!("c/f{i}=x")).collect();
     let full = Folder::with(&[&files.iter().map(String::as_str).collect::<Vec<_>>()[..], &["c/a=1", "d/b=2"]].concat());
-    let store = FileStore::open(&full.0).unwrap();
+    refused_commit(&full, Refusal::StoreFull, |t| t.write("d", "new", &b"3"[..]).unwrap());
+}
+
+#[test]
+fn a_copy_that_was_stopped_counts_no_staging_file() {
+    let folder = Folder::with(&["db/a=1"]);
+    let store = FileStore::open(&folder.0).unwrap();
     let mut transaction = store.begin().unwrap();
-    transaction.write("d", "new", &b"3"[..]).unwrap();
-    assert_eq!(refusal(transaction.commit()), Refusal::StoreFull);
-    assert_eq!(full.files().len(), 130);
-    store.begin().unwrap().commit().unwrap();
+    (0..32).for_each(|i| transaction.write("db", &format!("k{i}"), &b"x"[..]).unwrap());
+    std::mem::forget(transaction);
+    drop(store);
+    let aside = folder.0.join("journal/staging/copy.tmp");
+    fs::write(&aside, "part").unwrap();
+    assert_eq!(scan(&folder.0).unwrap().contents().staging.len(), 32);
+    FileStore::open(&folder.0).unwrap();
+    assert_eq!((folder.files(), aside.exists()), (vec!["db/".to_string(), "db/a=1".to_string()], false));
 }
 
 #[test]
@@ -226,6 +281,50 @@ fn foreign_content_is_named_and_left() {
     let other =
         |root: &Path| fs::rename(root.join("collections"), root.join("other")).and_then(|()| fs::write(root.join("collections"), ""));
     foreign(&store_and(|root| other(root).unwrap()), "collections");
+}
+
+/// A directory of the store is a link to one of the same content outside.
+#[test]
+fn a_link_that_leads_out_of_the_store_is_foreign() {
+    for path in ["collections", "collections/db", "journal", "journal/staging", "journal/staging/s.tmp", "journal/transaction.wal"] {
+        let outside = Folder::new();
+        let link = |root: &Path| {
+            fs::write(root.join("journal/transaction.wal"), COMMITTING).unwrap();
+            fs::rename(root.join(path), outside.0.join("it")).unwrap();
+            symlink(outside.0.join("it"), root.join(path)).unwrap();
+        };
+        let store = store_and(link);
+        let before = outside.everything();
+        foreign(&store, path);
+        assert!(matches!(scan(&store.0), Err(StoreError::Foreign { .. })));
+        assert_eq!(outside.everything(), before, "{path}");
+    }
+}
+
+/// A link in the place of a file or directory that was scanned is not followed by the call that opens it.
+#[test]
+fn a_link_that_comes_later_is_not_opened() {
+    for (number, path) in [(1, "journal/transaction.wal"), (3, "journal/transaction.wal"), (6, "collections/db"), (9, "journal")] {
+        let outside = Folder::new();
+        fs::create_dir(outside.0.join("directory")).unwrap();
+        fs::write(outside.0.join("file"), "outside").unwrap();
+        let (before, target) = (outside.everything(), outside.0.clone());
+        let (_folder, error) = fails_at(number, move |root| {
+            let target = target.join(if root.join(path).is_dir() { "directory" } else { "file" });
+            fs::rename(root.join(path), root.join("aside")).unwrap();
+            symlink(target, root.join(path)).unwrap();
+        });
+        assert!(matches!(&error, StoreError::Io { path: named, .. } if named.ends_with(path)), "{error}");
+        assert_eq!(outside.everything(), before);
+    }
+}
+
+/// The store may be reached by a link: what is named is the caller's.
+#[test]
+fn the_root_may_be_a_link() {
+    let (store, outside) = (Folder::with(&["db/a=1"]), Folder::new());
+    symlink(&store.0, outside.0.join("link")).unwrap();
+    assert_eq!(FileStore::open(outside.0.join("link")).unwrap().list("db").unwrap(), ["a"]);
 }
 
 #[test]
@@ -357,4 +456,101 @@ fn an_old_log_is_recovered_by_the_old_rule() {
     assert_eq!(recovered(&["db/a.bak=1"], &committing), ["db/", "db/a=1"]);
     assert_eq!(recovered(&["db/a=2", "db/a.bak=1"], &committing), ["db/", "db/a=1"]);
     refused(&["db/a=1"], &[&committing[..], b"?"].concat());
+}
+
+/// The header of a log, damaged in each way that the port takes for no log.
+fn damaged_logs() -> Vec<Vec<u8>> {
+    let damaged = |at: usize, byte: u8| {
+        let mut log = [COMMITTING, OLD_WRITE].concat();
+        log[at] = byte;
+        log
+    };
+    let short = (0..8).map(|length| COMMITTING[..length].to_vec());
+    short.chain([damaged(0, 0xCB), damaged(1, 0), damaged(1, 2), damaged(4, 0), damaged(7, 0), vec![0; 40]]).collect()
+}
+
+/// Backups of a file and of a collection, as an update that is interrupted leaves them.
+const WITH_BACKUPS: [&str; 4] = ["c.bak/k=1", "db/a=new", "db/a.bak=old", "db/b=2"];
+
+#[test]
+fn a_damaged_log_beside_backups_is_refused() {
+    for log in damaged_logs() {
+        for files in [&WITH_BACKUPS[..], &["db/a=new", "db/a.bak=old"], &["c.bak/k=1"]] {
+            let folder = with_log(files, &log);
+            let before = folder.everything();
+            match FileStore::open(&folder.0) {
+                Err(StoreError::Damaged { path }) => assert!(path.ends_with("journal/transaction.wal")),
+                other => panic!("{log:?}: {other:?}"),
+            }
+            assert_eq!(folder.everything(), before);
+        }
+        assert_eq!(recovered(&["db/a=1"], &log), ["db/", "db/a=1"], "no backup stands: the log is discarded");
+    }
+    assert_eq!(recovered(&["db/a=1", "db/b.bak=2"], RECORDING), ["db/", "db/a=1", "db/b.bak=2"]);
+    let folder = Folder::with(&["db/a=new", "db/a.bak=old"]);
+    FileStore::open(&folder.0).unwrap();
+    assert_eq!(folder.files(), ["db/", "db/a=new"], "no log: the ordinary end of a commit");
+}
+
+/// Logs for which recovery is refused with 11, 12 and 13, upon `WITH_BACKUPS`.
+fn refused_logs() -> [(Refusal, Vec<u8>); 3] {
+    let undecodable = [b"\x00\x00\x00\x00\x01\0\0\0\xff".as_slice()].concat();
+    let entry = |payload: &[u8]| [&crc32(payload).to_le_bytes()[..], &(payload.len() as u32).to_le_bytes(), payload].concat();
+    [
+        (Refusal::UndecodablePayload, [COMMITTING, &entry(&undecodable[8..])].concat()),
+        (Refusal::LogTooLong, [COMMITTING, &OLD_WRITE.repeat(33)].concat()),
+        (Refusal::Corruption, [COMMITTING, OLD_WRITE, b"?"].concat()),
+    ]
+}
+
+#[test]
+fn what_recovery_refuses_can_be_restored_or_accepted() {
+    let logs = damaged_logs().into_iter().chain(refused_logs().map(|(refused, log)| {
+        assert_eq!(refusal(FileStore::open(&with_log(&WITH_BACKUPS, &log).0).map(|_| ())), refused);
+        log
+    }));
+    for log in logs {
+        let with_staging = || {
+            let folder = with_log(&WITH_BACKUPS, &log);
+            fs::create_dir(folder.0.join("journal/staging")).unwrap();
+            fs::write(folder.0.join("journal/staging/3.tmp"), "new").unwrap();
+            folder
+        };
+        let restored = with_staging();
+        let store = FileStore::restore(&restored.0, |_| {}).unwrap();
+        assert_eq!(restored.files(), ["c/", "c/k=1", "db/", "db/a=old", "db/b=2"], "{log:?}");
+        assert!(!store.image().unwrap().has_pending_work().unwrap());
+        let accepted = with_staging();
+        let store = FileStore::accept(&accepted.0, |_| {}).unwrap();
+        assert_eq!(accepted.files(), ["db/", "db/a=new", "db/b=2"], "{log:?}");
+        assert!(!store.image().unwrap().has_pending_work().unwrap());
+    }
+}
+
+/// Backups inside a collection's backup are put back too.
+#[test]
+fn every_backup_is_restored() {
+    let files = ["c/a=3", "c.bak/a=2", "c.bak/a.bak=1", "db/a.bak.bak=5"];
+    let restored = with_log(&files, b"?");
+    FileStore::restore(&restored.0, |_| {}).unwrap();
+    assert_eq!(restored.files(), ["c/", "c/a=1", "db/", "db/a=5"]);
+    let accepted = with_log(&files, b"?");
+    FileStore::accept(&accepted.0, |_| {}).unwrap();
+    assert_eq!(accepted.files(), ["c/", "c/a=3", "db/"]);
+}
+
+#[test]
+fn what_recovery_ends_is_not_restored_or_accepted() {
+    for (files, log) in
+        [(&["db/a=new", "db/a.bak=old"][..], &b""[..]), (&["db/a=1"], RECORDING), (&WITH_BACKUPS, COMMITTING), (&["db/a=1"], b"?")]
+    {
+        let folder = with_log(files, log);
+        if log.is_empty() {
+            fs::remove_file(folder.0.join("journal/transaction.wal")).unwrap();
+        }
+        let before = folder.everything();
+        assert!(matches!(FileStore::restore(&folder.0, |_| {}), Err(StoreError::Sound { path }) if path == folder.0));
+        assert!(matches!(FileStore::accept(&folder.0, |_| {}), Err(StoreError::Sound { .. })));
+        assert_eq!(folder.everything(), before);
+    }
 }

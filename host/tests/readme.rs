@@ -1,12 +1,8 @@
-//! Runs the commands of README.md in a fresh folder, in order, and compares what they print.
+//! Runs the commands of README.md, in order, on a fresh clone, and compares what they print.
 mod common;
 
-use common::Folder;
-use std::{
-    env, fs,
-    path::{Path, PathBuf},
-    process::Command,
-};
+use common::{Folder, library};
+use std::{collections::BTreeSet, env, ffi::OsString, fs, path::Path, process::Command};
 
 const HOST: &str = env!("CARGO_MANIFEST_DIR");
 
@@ -38,12 +34,10 @@ fn shown() -> Vec<Shown> {
     all
 }
 
-/// The library that the page's CDA_LIB names.
-fn library() -> PathBuf {
-    env::var_os("CDA_LIB").map_or(Path::new(HOST).join("../target/staticlib/libcda_storage.a"), PathBuf::from)
-}
+/// From here on the page works in a folder of its own.
+const LEAVE: &str = "cd \"$(mktemp -d)\"";
 
-/// What the test does itself: the folder is the clone, and `run` has the shell's settings.
+/// What the test does itself: one folder is the clone, another the page's own, and `run` has the shell's settings.
 fn is_given(command: &str) -> bool {
     let built = command == "rt staticlib cda_storage" && library().exists();
     built || ["git clone ", "cd ", "export "].iter().any(|start| command.starts_with(start))
@@ -62,26 +56,32 @@ fn clone(from: &Path, to: &Path) {
 }
 
 /// What a command prints in the folder.
-fn run(command: &str, folder: &Path) -> String {
-    let path = format!("{}:{}", folder.join("target/release").display(), env::var("PATH").unwrap());
+fn run(command: &str, folder: &Path, clone: &Path) -> String {
+    let path = format!("{}:{}", clone.join("target/release").display(), env::var("PATH").unwrap());
     let mut shell = Command::new("sh");
     shell.args(["-c", &format!("exec 2>&1; {command}")]).current_dir(folder).env_remove("CARGO_TARGET_DIR");
-    let output = shell.env("PATH", path).env("CDA_LIB", library().canonicalize().unwrap()).output().unwrap();
-    String::from_utf8(output.stdout).unwrap()
+    shell.env("PATH", path).env("CDA_HOST", clone).env("CDA_LIB", library().canonicalize().unwrap());
+    String::from_utf8(shell.output().unwrap().stdout).unwrap()
+}
+
+fn names(folder: &Path) -> BTreeSet<OsString> {
+    fs::read_dir(folder).unwrap().map(|entry| entry.unwrap().file_name()).filter(|name| name != "target").collect()
 }
 
 #[test]
 fn every_command_prints_what_the_page_shows() {
-    let folder = Folder::new();
-    clone(Path::new(HOST), &folder.0);
-    fs::remove_file(folder.0.join("cuts.svg")).unwrap();
-    let all = shown();
-    assert!(all.len() > 20, "the page has its commands");
-    for Shown { command, output } in all.iter().filter(|shown| !is_given(&shown.command)) {
-        assert_eq!(run(command, &folder.0), *output, "$ {command}");
+    let (fresh, own) = (Folder::new(), Folder::new());
+    clone(Path::new(HOST), &fresh.0);
+    let (all, before) = (shown(), names(&fresh.0));
+    let leave = all.iter().position(|shown| shown.command == LEAVE).expect("the page leaves the clone");
+    assert!(all.len() > 25, "the page has its commands");
+    for (i, Shown { command, output }) in all.iter().enumerate().filter(|(_, shown)| !is_given(&shown.command)) {
+        let folder = if i < leave { &fresh.0 } else { &own.0 };
+        assert_eq!(run(command, folder, &fresh.0), *output, "$ {command}");
     }
+    assert_eq!(names(&fresh.0), before, "nothing is left in the clone");
     let picture = |folder: &Path| fs::read_to_string(folder.join("cuts.svg")).unwrap();
-    assert_eq!(picture(&folder.0), picture(Path::new(HOST)), "the page's picture is what its command draws");
+    assert_eq!(picture(&own.0), picture(Path::new(HOST)), "the page's picture is what its command draws");
 }
 
 #[test]

@@ -10,7 +10,7 @@ use std::{
 #[derive(Debug)]
 #[non_exhaustive]
 pub enum StoreError {
-    /// The port refused the call. The files are as before; for 14 and 15 the transaction was rolled back.
+    /// The port refused the call. The files are as before; for 14 and 15 the transaction was discarded.
     Refused(Refusal),
     /// A file call failed.
     Io {
@@ -28,12 +28,30 @@ pub enum StoreError {
         /// What is wrong with it.
         why: String,
     },
+    /// The log's header is damaged, so that nobody can tell how far its update came, and backups stand. Nothing was changed.
+    /// [`FileStore::restore`](crate::FileStore::restore) puts the backups back, [`FileStore::accept`](crate::FileStore::accept) keeps
+    /// what stands.
+    Damaged {
+        /// The log.
+        path: PathBuf,
+    },
+    /// Nothing is to be restored or accepted: opening the store recovers it. Nothing was changed.
+    Sound {
+        /// The store's directory.
+        path: PathBuf,
+    },
     /// Another process has the store open.
     Locked {
         /// The store's directory.
         path: PathBuf,
     },
-    /// An earlier file call failed in the middle of a transaction. The store must be opened anew, which recovers it.
+    /// An update is running, so that what stands there is not what it leaves: a [`FileStore`](crate::FileStore) has the store open.
+    Running {
+        /// The store's directory.
+        path: PathBuf,
+    },
+    /// An earlier file call failed in the middle of a transaction, or the observer panicked. The store must be opened anew, which
+    /// recovers it.
     Stopped,
 }
 
@@ -61,8 +79,11 @@ impl fmt::Display for StoreError {
             StoreError::Io { path, step: None, source } => write!(f, "{}: {source}", path.display()),
             StoreError::Io { path, step: Some(step), source } => write!(f, "{}: {source} (step: {step})", path.display()),
             StoreError::Foreign { path, why } => write!(f, "{}: {why}", path.display()),
+            StoreError::Damaged { path } => write!(f, "{}: the log is damaged, and backups stand; nothing was changed", path.display()),
+            StoreError::Sound { path } => write!(f, "{}: recovery is not refused here; open the store, which recovers it", path.display()),
             StoreError::Locked { path } => write!(f, "{}: another process has the store open", path.display()),
-            StoreError::Stopped => write!(f, "the store was stopped by a failed file call and must be opened anew"),
+            StoreError::Running { path } => write!(f, "{}: an update is running (another process has the store open)", path.display()),
+            StoreError::Stopped => write!(f, "the store was stopped by a failed file call or its observer's panic and must be opened anew"),
         }
     }
 }

@@ -1,14 +1,17 @@
 //! A store on disk, read as what an image holds. What no image can hold is an error that names its path.
-use super::{error::StoreError, layout::Layout};
+use super::{
+    error::StoreError,
+    layout::{ASIDE, Layout},
+};
 use crate::{
     Refusal,
+    calls::Kind,
     image::{Contents, Files},
 };
 use cda_storage_sys::LOG_LIMIT;
 use std::{
     collections::BTreeMap,
-    fs::{self, FileType},
-    io::{Error, ErrorKind},
+    io::ErrorKind,
     path::{Path, PathBuf},
 };
 
@@ -16,15 +19,23 @@ const DIRECTORY_LIMIT: usize = 16;
 const FILE_LIMIT: usize = 128;
 const STAGING_LIMIT: usize = 32;
 
-/// Reads the store. Missing directories below the root read as empty. Files are numbered from 1 in the image's order.
+/// Reads the store. Missing directories below the root read as empty. Files are numbered from 1 in the image's order. A symbolic
+/// link below the root is none of a store's.
 pub fn scan(layout: &Layout) -> Result<Contents, StoreError> {
-    if !layout.root().is_dir() {
-        return Err(StoreError::at(layout.root())(Error::new(ErrorKind::NotFound, "the store's directory does not exist")));
+    let root = layout.calls.list(layout.root()).map_err(|error| match error.kind() {
+        ErrorKind::NotADirectory => StoreError::foreign(layout.root(), "it is not a directory"),
+        _ => StoreError::at(layout.root())(error),
+    })?;
+    for (name, kind) in root {
+        let entry = Entry { path: layout.root().join(name), kind };
+        let is_part = entry.path == layout.collections() || entry.path == layout.journal();
+        entry.require(!is_part || kind == Kind::Directory, "it is not a directory")?;
     }
     let mut numbers = 1..;
     let log = journal(layout)?;
     let directories = collections(layout, &mut numbers)?;
-    let staging = files(&layout.staging(), STAGING_LIMIT, "a store has at most 32 staging files", &mut numbers)?;
+    let staged = entries(layout, &layout.staging())?.into_iter().filter(|entry| !entry.is_aside(layout)).collect();
+    let staging = files(staged, STAGING_LIMIT, "a store has at most 32 staging files", &mut numbers)?;
     Ok(Contents { directories, staging, log, open: false })
 }
 
@@ -33,22 +44,27 @@ type Numbers = std::ops::RangeFrom<u32>;
 fn collections(layout: &Layout, numbers: &mut Numbers) -> Result<BTreeMap<String, Files>, StoreError> {
     let mut directories = BTreeMap::new();
     let mut room = FILE_LIMIT;
-    for entry in entries(&layout.collections())? {
-        entry.require(entry.kind.is_dir(), "only directories stand among the collections")?;
+    for entry in entries(layout, &layout.collections())? {
+        entry.require(entry.kind == Kind::Directory, "only directories stand among the collections")?;
         entry.require(directories.len() < DIRECTORY_LIMIT, "a store has at most 16 collections")?;
         let name = entry.name()?;
-        let files = files(&entry.path, room, "a store has at most 128 files", numbers)?;
+        let files = files(entries(layout, &entry.path)?, room, "a store has at most 128 files", numbers)?;
         room -= files.len();
         directories.insert(name, files);
     }
     Ok(directories)
 }
 
+/// Whether a copy stands aside that was not moved into its place. It is the host's own and no part of an image.
+pub fn has_aside(layout: &Layout) -> Result<bool, StoreError> {
+    Ok(entries(layout, &layout.staging())?.iter().any(|entry| entry.is_aside(layout)))
+}
+
 /// The files of a directory, which are at most so many.
-fn files(directory: &Path, room: usize, limit: &str, numbers: &mut Numbers) -> Result<Files, StoreError> {
+fn files(entries: Vec<Entry>, room: usize, limit: &str, numbers: &mut Numbers) -> Result<Files, StoreError> {
     let mut files = Files::new();
-    for entry in entries(directory)? {
-        entry.require(entry.kind.is_file(), "only regular files stand here")?;
+    for entry in entries {
+        entry.require(entry.kind == Kind::File, "only regular files stand here")?;
         entry.require(files.len() < room, limit)?;
         files.insert(entry.name()?, numbers.next().expect("fewer files than numbers"));
     }
@@ -58,27 +74,42 @@ fn files(directory: &Path, room: usize, limit: &str, numbers: &mut Numbers) -> R
 /// The log, where the journal holds nothing but it and the staging directory.
 fn journal(layout: &Layout) -> Result<Option<Vec<u8>>, StoreError> {
     let mut log = None;
-    for entry in entries(&layout.journal())? {
+    for entry in entries(layout, &layout.journal())? {
         if entry.path == layout.log() {
-            entry.require(entry.kind.is_file(), "the log is a regular file")?;
-            let length = fs::metadata(&entry.path).map_err(StoreError::at(&entry.path))?.len();
-            entry.require(length <= LOG_LIMIT as u64, &format!("a log has at most {LOG_LIMIT} bytes"))?;
-            log = Some(fs::read(&entry.path).map_err(StoreError::at(&entry.path))?);
+            entry.require(entry.kind == Kind::File, "the log is a regular file")?;
+            let bytes = layout.calls.read(&entry.path, LOG_LIMIT as u64 + 1).map_err(StoreError::at(&entry.path))?;
+            log = Some(within_limit(&entry, bytes)?);
         } else {
             entry.require(entry.path == layout.staging(), "the journal holds transaction.wal and staging alone")?;
+            entry.require(entry.kind == Kind::Directory, "it is not a directory")?;
         }
     }
     Ok(log)
 }
 
+/// The log that begins with these bytes, if that is all of it. A longer one is refused by the port where an entry of it is
+/// another program's, or it goes on after 32 operations; else it is foreign.
+fn within_limit(entry: &Entry, mut bytes: Vec<u8>) -> Result<Vec<u8>, StoreError> {
+    if bytes.len() > LOG_LIMIT {
+        bytes.truncate(LOG_LIMIT);
+        Contents { log: Some(bytes), ..Contents::default() }.image()?.recover()?;
+        return Err(StoreError::foreign(&entry.path, format!("a log has at most {LOG_LIMIT} bytes")));
+    }
+    Ok(bytes)
+}
+
 struct Entry {
     path: PathBuf,
-    kind: FileType,
+    kind: Kind,
 }
 
 impl Entry {
     fn require(&self, holds: bool, why: &str) -> Result<(), StoreError> {
         if holds { Ok(()) } else { Err(StoreError::foreign(&self.path, why)) }
+    }
+
+    fn is_aside(&self, layout: &Layout) -> bool {
+        self.kind == Kind::File && self.path == layout.staged(ASIDE)
     }
 
     fn name(&self) -> Result<String, StoreError> {
@@ -94,15 +125,11 @@ fn is_valid(name: &str) -> bool {
 }
 
 /// What stands in a directory, in ascending order of names; nothing where it is missing.
-fn entries(directory: &Path) -> Result<Vec<Entry>, StoreError> {
-    let listed = match fs::read_dir(directory) {
+fn entries(layout: &Layout, directory: &Path) -> Result<Vec<Entry>, StoreError> {
+    let mut listed = match layout.calls.list(directory) {
         Err(error) if error.kind() == ErrorKind::NotFound => return Ok(Vec::new()),
-        Err(error) if error.kind() == ErrorKind::NotADirectory => return Err(StoreError::foreign(directory, "it is not a directory")),
         listed => listed.map_err(StoreError::at(directory))?,
     };
-    let entry = |listed: fs::DirEntry| Ok(Entry { path: listed.path(), kind: listed.file_type()? });
-    let entries = listed.map(|listed| listed.and_then(entry)).collect::<Result<Vec<_>, Error>>();
-    let mut entries = entries.map_err(StoreError::at(directory))?;
-    entries.sort_by(|a, b| a.path.file_name().cmp(&b.path.file_name()));
-    Ok(entries)
+    listed.sort();
+    Ok(listed.into_iter().map(|(name, kind)| Entry { path: directory.join(name), kind }).collect())
 }

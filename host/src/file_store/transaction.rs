@@ -6,10 +6,7 @@ use crate::{
     image::{Contents, Image},
     step::Step,
 };
-use std::{
-    fs::{self, File, OpenOptions},
-    io::{self, Read, Write},
-};
+use std::io::Read;
 
 /// An open transaction. Nothing of what it records shows before [`Transaction::commit`]; dropped without it, it is rolled back.
 ///
@@ -73,15 +70,19 @@ impl<'a> Transaction<'a> {
         self.record(|image| image.delete_all(collection))
     }
 
-    /// Applies what was recorded. On [`Refusal::StepFailed`] and [`Refusal::StoreFull`] the transaction was rolled back. Where
-    /// a file call failed behind the step that removes the log, the commit stands, and the next open only clears up.
+    /// Applies what was recorded. On [`Refusal::StepFailed`] and [`Refusal::StoreFull`], which are known before the first step,
+    /// the transaction is discarded, and no collection is touched. Where a file call failed behind the step that removes the log,
+    /// the commit stands, and the next open only clears up.
     pub fn commit(mut self) -> Result<(), StoreError> {
         self.store.running()?;
+        if let Err(error) = self.image.commit() {
+            self.discard()?;
+            return Err(StoreError::Refused(error.refusal));
+        }
         self.ended = true;
-        let answer = self.image.commit();
         self.store.run(Plan::Commit, &self.image)?;
         self.store.state.set(State::Idle);
-        answer.map(|_| ()).map_err(|error| StoreError::Refused(error.refusal))
+        Ok(())
     }
 
     /// Discards what was recorded.
@@ -100,7 +101,7 @@ impl<'a> Transaction<'a> {
     fn append(&mut self, image: Image) -> Result<(), StoreError> {
         let (old, new) = (self.image.contents().log.unwrap_or_default(), image.contents().log.unwrap_or_default());
         let log = self.store.layout.log();
-        let appended = OpenOptions::new().append(true).open(&log).and_then(|mut file| file.write_all(&new[old.len()..]));
+        let appended = self.store.layout.calls.append(&log, &new[old.len()..]);
         self.store.stop_at_error(appended.map_err(StoreError::at(&log)))?;
         self.image = image;
         Ok(())
@@ -108,13 +109,13 @@ impl<'a> Transaction<'a> {
 
     /// Fills a new staging file, or leaves none.
     fn stage(&self, staged: &str, mut content: impl Read) -> Result<(), StoreError> {
-        let path = self.store.layout.staged(staged);
-        let mut file = File::create_new(&path).map_err(StoreError::at(&path))?;
-        io::copy(&mut content, &mut file).map_err(|error| {
-            let removed = fs::remove_file(&path).map_err(StoreError::at(&path));
+        let layout = &self.store.layout;
+        let path = layout.staged(staged);
+        layout.calls.make_file(&path).map_err(StoreError::at(&path))?;
+        layout.calls.fill(&path, &mut content).map_err(|error| {
+            let removed = layout.calls.remove_file(&path).map_err(StoreError::at(&path));
             self.store.stop_at_error(removed).err().unwrap_or_else(|| StoreError::at(&path)(error))
-        })?;
-        Ok(())
+        })
     }
 
     /// Removes the staging files, then the log, as the original's `discard` does.

@@ -1,9 +1,12 @@
 //! What the tests share: folders of their own, stores read back by the files' contents, and a seeded generator.
 #![allow(dead_code)]
+pub mod memory;
+pub mod suited;
+
 use cda_store::{Contents, Image};
 use std::{
     collections::BTreeMap,
-    fs,
+    env, fs,
     path::{Path, PathBuf},
     sync::atomic::{AtomicU32, Ordering},
 };
@@ -107,6 +110,12 @@ pub fn contents(folder: &Path) -> BTreeMap<String, Vec<u8>> {
 
 fn name(entry: &fs::DirEntry) -> String {
     entry.file_name().into_string().unwrap()
+}
+
+/// The static library: what CDA_LIB names, where a relative path counts from where cargo was called.
+pub fn library() -> PathBuf {
+    let beside = Path::new(env!("CARGO_MANIFEST_DIR")).join("../target/staticlib/libcda_storage.a");
+    env::var_os("CDA_LIB").map_or(beside, |named| PathBuf::from(env::var_os("PWD").unwrap_or_default()).join(named))
 }
 
 /// splitmix64

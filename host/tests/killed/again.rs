@@ -12,7 +12,6 @@ use std::{fmt, path::Path, time::Duration};
 #[derive(Default)]
 pub struct Seen {
     transactions: Count,
-    failing: Count,
     earlier: Count,
     lists: Count,
     kills: Count,
@@ -21,11 +20,11 @@ pub struct Seen {
 
 impl fmt::Display for Seen {
     fn fmt(&self, f: &mut fmt::Formatter) -> fmt::Result {
-        let Seen { transactions, failing, earlier, lists, kills, .. } = self;
+        let Seen { transactions, earlier, lists, kills, .. } = self;
         write!(
             f,
-            "  recovery of puts, after every step and again: {kills} kills in {lists} lists, of {transactions} transactions, {failing} of them \
-             failing; {earlier} lists left the earlier files"
+            "  recovery of puts, after every step and again: {kills} kills in {lists} lists, of {transactions} transactions; {earlier} lists \
+             left the earlier files"
         )
     }
 }
@@ -39,15 +38,14 @@ pub fn child(root: &str, m: u64) {
     panic!("there is no step {m}");
 }
 
-/// A transaction of puts whose commit was killed behind one of its steps, as `every_step` has seen it: its recovery is killed
+/// A transaction of puts, not refused, whose commit was killed behind one of its steps, as `every_step` has seen it: its recovery is killed
 /// after each step. Then the next ones are killed after any step, until one runs to its end.
 pub fn every_recovery(seen: &Seen, root: &Path, recorded: &Recorded, random: &mut Random) {
-    if recorded.case.puts().is_none() {
+    if recorded.case.puts().is_none() || recorded.fails {
         return;
     }
     seen.transactions.add(true);
-    seen.failing.add(recorded.fails);
-    let cuts: Vec<Image> = (0..).map_while(|n| Some(recorded.image.commit_step(n).ok()?.0)).filter(|cut| steps(cut) > 0).collect();
+    let cuts: Vec<Image> = recorded.cuts().filter(|cut| steps(cut) > 0).collect();
     let cut = &cuts[random.below(cuts.len() as u64) as usize];
     for m in 0..=steps(cut) {
         recorded.disk(cut).lay_out(root);

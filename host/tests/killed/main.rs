@@ -5,8 +5,8 @@
 //! - the disk is what the port's step entry says of n steps;
 //! - the store, opened again, is what the port's recovery says of that image;
 //! - a transaction of puts to distinct keys, in collections that stand, without names in .bak or .tmp, leaves exactly the files
-//!   from before if the log stood, else exactly those with all writes done. No key that was there is lost. A commit that fails
-//!   leaves those from before; the others have as many steps as the sum of document 02, item 13, says.
+//!   from before if the log stood, else exactly those with all writes done. No key that was there is lost. A commit that is
+//!   refused has no step and leaves those from before; the others have as many steps as the sum of document 02, item 13, says.
 //!
 //! After every step of a recovery of such puts, whose commit was killed, and then after any step of the recoveries that follow
 //! (`again`): the disk is what the port's step entry says, and once one recovery runs to its end, the store is the same as if the

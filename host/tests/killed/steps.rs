@@ -1,11 +1,11 @@
 //! A commit killed after every step.
 use crate::{
     case::Case,
-    child::{killed, recover, say, stand_still_at},
+    child::{here, killed, recover, say, stand_still, stand_still_at},
     disk::{ByNumber, Disk, by_number},
     seen::{Count, Wrong},
 };
-use cda_store::{FileStore, Image, Plan};
+use cda_store::{FileStore, Image, Plan, StoreError};
 use std::{fmt, path::Path, time::Duration};
 
 #[derive(Default)]
@@ -26,24 +26,28 @@ pub struct Seen {
 impl fmt::Display for Seen {
     fn fmt(&self, f: &mut fmt::Formatter) -> fmt::Result {
         let Seen { transactions, failing, kills, puts, failing_puts, put_kills, earlier, standing, waiting, lost, .. } = self;
-        writeln!(f, "  after every step: {kills} kills of {transactions} transactions, {failing} of them failing; all as the port says")?;
+        writeln!(f, "  after every step: {kills} kills of {transactions} transactions, {failing} of them refused; all as the port says")?;
         writeln!(
             f,
-            "  puts alone: {put_kills} kills of {puts} transactions, {failing_puts} of them failing, the others of as many steps as the sum says; \
+            "  puts alone: {put_kills} kills of {puts} transactions, {failing_puts} of them refused, the others of as many steps as the sum says; \
              {earlier} left the earlier files"
         )?;
         write!(f, "  standing keys put: {standing} seen, {waiting} of them Committing and without a backup; lost: {lost}")
     }
 }
 
-/// The child: says the transaction's image, commits it, and stands still behind step n.
+/// The child: says the transaction's image, commits it, and stands still behind step n. A commit that is refused has no step: there
+/// it stands still behind the answer.
 pub fn child(root: &str, case: &Case, n: u64) {
     let store = FileStore::open_observed(root, stand_still_at(Plan::Commit, n)).unwrap();
     let mut transaction = store.begin().unwrap();
     case.record(&mut transaction);
     say(&transaction.image().bytes().iter().map(|byte| format!("{byte:02x}")).collect::<String>());
-    let _ = transaction.commit();
-    panic!("there is no step {n}");
+    match transaction.commit() {
+        Err(StoreError::Refused(_)) => here(),
+        _ => panic!("there is no step {n}"),
+    }
+    stand_still()
 }
 
 /// Lays out the case, kills its commit behind step n, and hands back the transaction's image.
@@ -71,8 +75,25 @@ impl Recorded {
     fn new(root: &Path, seed: u64, number: u64) -> Recorded {
         let case = Case::new(seed, number);
         let image = commit_killed(root, &case, seed, number, 0);
-        let (fails, by_number) = (image.commit().is_err(), by_number(&image.contents(), root));
-        Recorded { case, image, fails, by_number, name: format!("seed {seed}, case {number}") }
+        let (fails, name) = (image.commit().is_err(), format!("seed {seed}, case {number}"));
+        let mut recorded = Recorded { case, image, fails, by_number: ByNumber::new(), name };
+        recorded.by_number = by_number(&recorded.cut(0).contents(), root);
+        recorded
+    }
+
+    /// How many steps the commit has on disk: none if it is refused.
+    fn steps(&self) -> u64 {
+        if self.fails { 0 } else { self.image.commit_steps().count() as u64 }
+    }
+
+    /// What stands behind n steps of the commit. One that is refused is discarded.
+    pub fn cut(&self, n: u64) -> Image {
+        if self.fails { self.image.rollback().unwrap() } else { self.image.commit_step(n).unwrap().0 }
+    }
+
+    /// What stands behind each number of steps of the commit.
+    pub fn cuts(&self) -> impl Iterator<Item = Image> {
+        (0..=self.steps()).map(|n| self.cut(n))
     }
 
     /// What an image of the transaction says of the disk.
@@ -90,18 +111,18 @@ impl Recorded {
 pub fn every_step(seen: &Seen, root: &Path, seed: u64, number: u64) -> Recorded {
     let recorded = Recorded::new(root, seed, number);
     let Recorded { case, image, fails, .. } = &recorded;
-    let (is_puts, steps) = (case.puts().is_some(), image.commit_steps().count());
-    assert!(*fails || case.steps().is_none_or(|sum| sum == steps), "{}: {steps} steps", recorded.name);
+    let (is_puts, steps) = (case.puts().is_some(), recorded.steps());
+    assert!(*fails || case.steps().is_none_or(|sum| sum as u64 == steps), "{}: {steps} steps", recorded.name);
     seen.transactions.add(true);
     seen.failing.add(*fails);
     seen.puts.add(is_puts);
     seen.failing_puts.add(*fails && is_puts);
-    for n in 0..=steps as u64 {
+    for n in 0..=steps {
         if n > 0 {
             assert_eq!(commit_killed(root, case, seed, number, n), *image);
         }
         let at = format!("{}, step {n}", recorded.name);
-        let cut = image.commit_step(n).unwrap().0;
+        let cut = recorded.cut(n);
         let killed = Disk::read(root);
         assert_eq!(killed, recorded.disk(&cut), "{at}");
         recover(root);

@@ -2,7 +2,8 @@
 //! a transaction, and is ended by its process's exit after some step of the commit; now and then a recovery is ended too, or a
 //! file is put there from outside. Behind every call the disk is held to what the port says, as the original's side reads it
 //! and as the host does. A commit of the host that runs to its end is watched as the original's are, unless it has copies,
-//! which the host makes on the side: its file calls, syncs included, are the plan's steps.
+//! which the host makes on the side: its file calls, syncs included, are the plan's steps. A commit that is refused is discarded
+//! by the host and has no steps.
 //!
 //! The host records marked Writes (document 02, item 4), the original Writes of kind 1, which the port is held to but for kind
 //! and mark. A log that the host left is opened by the host as it is; for the original its Writes are turned into such of kind 1.
@@ -39,6 +40,7 @@ struct Turns<'a> {
     model: Image,
     cut: u64,
     watched: u64,
+    refused: u64,
     recoveries: u64,
     disks: u64,
     /// Committing logs with marked Writes that the host opened, and those that the original was given as old ones.
@@ -73,6 +75,13 @@ impl Turns<'_> {
         for call in calls(rng) {
             let accepted = record(&mut transaction, &call);
             self.told(&call, accepted);
+        }
+        if ask(self.port, &Call::Commit, &self.model.encode(), Lent::AMPLE).number != 0 {
+            let answer = transaction.commit();
+            self.agree(&Call::Commit, matches!(answer, Err(StoreError::Refused(_))));
+            self.told(&Call::Rollback, true);
+            self.refused += 1;
+            return;
         }
         let plan = self.plan(Plan::Commit);
         let n = choose(rng, plan.len());
@@ -273,7 +282,8 @@ pub fn run(panel: &mut Panel, seed: u64, turns: u64) {
     let port = panel.port.take().expect("the port");
     original.root.clear();
     let (model, port) = (Image::default(), port.as_ref());
-    let mut all = Turns { original: &original, port, model, cut: 0, watched: 0, recoveries: 0, disks: 0, marked: 0, unmarked: 0 };
+    let mut all =
+        Turns { original: &original, port, model, cut: 0, watched: 0, refused: 0, recoveries: 0, disks: 0, marked: 0, unmarked: 0 };
     for turn in 0..turns {
         let rng = &mut Rng::new(seed, turn);
         if rng.one_in(4) {
@@ -292,10 +302,11 @@ pub fn run(panel: &mut Panel, seed: u64, turns: u64) {
     }
     println!(
         "host, seed {seed}: original, host and port agree; {turns} turns on one directory, {} commits and {} recoveries cut, {} commits of the \
-         host watched, {} disks compared; logs of cut commits with marked Writes: {} opened by the host, {} by the original as old ones; {:.1} s",
+         host watched and {} refused, {} disks compared; logs of cut commits with marked Writes: {} opened by the host, {} by the original as old ones; {:.1} s",
         all.cut,
         all.recoveries,
         all.watched,
+        all.refused,
         all.disks,
         all.marked,
         all.unmarked,

@@ -1,54 +1,94 @@
 //! The command line.
 use crate::{failure::Failure, help, operation::Operation};
-use std::path::PathBuf;
+use std::{ffi::OsString, path::PathBuf};
 
 #[derive(Debug)]
 pub enum Command {
-    Help(String),
+    Tell(String),
     List { store: PathBuf },
-    Recover { store: PathBuf },
+    Recover { store: PathBuf, way: Way },
     Update { store: PathBuf, operations: Vec<Operation>, stop_after: Option<u64> },
     Cuts { store: PathBuf, operations: Vec<Operation>, picture: Option<PathBuf> },
 }
 
-/// The words behind the program's name.
-pub fn given() -> Result<Vec<String>, Failure> {
-    let words = std::env::args_os().skip(1).map(|word| word.into_string());
-    words.collect::<Result<_, _>>().map_err(|word| Failure::Usage(format!("{} is no text", word.display())))
+/// How a store is recovered.
+#[derive(Clone, Copy, PartialEq, Eq, Debug)]
+pub enum Way {
+    Usual,
+    /// Where that is refused: the backups are put back.
+    Restore,
+    /// Where that is refused: what stands is kept.
+    Accept,
 }
 
-pub fn read(words: &[String]) -> Result<Command, Failure> {
-    let Some((name, rest)) = words.split_first() else { return Err(Failure::Usage("no command".into())) };
-    if matches!(name.as_str(), "help" | "--help" | "-h") {
-        return rest.first().map_or(Ok(help::overview()), |name| help::of(name)).map(Command::Help);
+impl Command {
+    /// Whether the command's work is done in a store; that of the others is the text that they print.
+    pub fn works_on_a_store(&self) -> bool {
+        matches!(self, Command::Recover { .. } | Command::Update { .. })
     }
-    let help = help::of(name)?;
-    if rest.iter().any(|word| word == "--help" || word == "-h") {
-        return Ok(Command::Help(help));
+}
+
+/// Reads the words behind the program's name. Those behind `--` are no options.
+pub fn read(words: &[OsString]) -> Result<Command, Failure> {
+    let mut parts = words.splitn(2, |word| word == "--").map(<[OsString]>::to_vec);
+    let (mut words, behind) = (parts.next().unwrap_or_default(), parts.next().unwrap_or_default());
+    if let Some(text) = told(&words)? {
+        return Ok(Command::Tell(text));
     }
-    let mut rest = rest.to_vec();
-    let stop_after = option(&mut rest, "--stop-after", name, help::is_update(name))?;
-    let picture = option(&mut rest, "--svg", name, name == "cuts")?.map(PathBuf::from);
-    let Some((store, words)) = rest.split_first() else { return Err(Failure::Usage(format!("{name} takes a directory"))) };
-    let store = PathBuf::from(store);
+    let name = words.first().or(behind.first()).ok_or_else(|| Failure::Usage("no command".into()))?;
+    let name = name.to_string_lossy().into_owned();
+    help::of(&name)?;
+    let stop_after = option(&mut words, "--stop-after", &name, help::is_update(&name))?;
+    let picture = option(&mut words, "--svg", &name, name == "cuts")?.map(PathBuf::from);
+    let way = match [flag(&mut words, "--restore", &name)?, flag(&mut words, "--accept", &name)?] {
+        [false, false] => Way::Usual,
+        [true, false] => Way::Restore,
+        [false, true] => Way::Accept,
+        [true, true] => return Err(Failure::Usage("recover takes one of --restore and --accept".into())),
+    };
+    if let Some(word) = words.iter().find(|word| word.len() > 1 && word.as_encoded_bytes().starts_with(b"-")) {
+        return Err(Failure::Usage(format!("{name} has no {}; -- goes before a word that begins with -", word.display())));
+    }
+    let mut words = words.into_iter().chain(behind).skip(1);
+    let store = words.next().map(PathBuf::from).ok_or_else(|| Failure::Usage(format!("{name} takes a directory")))?;
+    let words: Vec<OsString> = words.collect();
     match name.as_str() {
         "list" | "recover" if !words.is_empty() => Err(Failure::Usage(format!("{name} takes a directory alone"))),
         "list" => Ok(Command::List { store }),
-        "recover" => Ok(Command::Recover { store }),
+        "recover" => Ok(Command::Recover { store, way }),
         "cuts" => {
-            let operations = words.split_first().map_or(Ok(Vec::new()), |(name, words)| Operation::read(name, words))?;
-            Ok(Command::Cuts { store, operations, picture })
+            let read = |(name, words): (&OsString, &[OsString])| Operation::read(&name.to_string_lossy(), words);
+            Ok(Command::Cuts { store, operations: words.split_first().map_or(Ok(Vec::new()), read)?, picture })
         }
-        _ => Ok(Command::Update { store, operations: Operation::read(name, words)?, stop_after: stop_after.map(number).transpose()? }),
+        _ => Ok(Command::Update { store, operations: Operation::read(&name, &words)?, stop_after: stop_after.map(number).transpose()? }),
     }
 }
 
-fn number(word: String) -> Result<u64, Failure> {
-    word.parse().map_err(|_| Failure::Usage(format!("{word} is no step number")))
+/// The help or the version, if the words ask for it.
+fn told(words: &[OsString]) -> Result<Option<String>, Failure> {
+    let is = |word: &OsString, names: &[&str]| names.iter().any(|name| word == name);
+    match words {
+        [first, ..] if is(first, &["--version", "-V"]) => Ok(Some(help::version())),
+        [first, name, ..] if is(first, &["help", "--help", "-h"]) => help::of(&name.to_string_lossy()).map(Some),
+        [first] if is(first, &["help", "--help", "-h"]) => Ok(Some(help::overview())),
+        [name, rest @ ..] if rest.iter().any(|word| is(word, &["--help", "-h"])) => help::of(&name.to_string_lossy()).map(Some),
+        _ => Ok(None),
+    }
+}
+
+fn number(word: OsString) -> Result<u64, Failure> {
+    word.to_str().and_then(|word| word.parse().ok()).ok_or_else(|| Failure::Usage(format!("{} is no step number", word.display())))
+}
+
+/// Takes a word out of those of `recover`: whether it was there.
+fn flag(words: &mut Vec<OsString>, flag: &str, command: &str) -> Result<bool, Failure> {
+    let Some(at) = words.iter().position(|word| word == flag) else { return Ok(false) };
+    words.remove(at);
+    if command == "recover" { Ok(true) } else { Err(Failure::Usage(format!("{command} has no {flag}"))) }
 }
 
 /// Takes an option and its word out of the words of a command that may have it.
-fn option(words: &mut Vec<String>, option: &str, command: &str, may: bool) -> Result<Option<String>, Failure> {
+fn option(words: &mut Vec<OsString>, option: &str, command: &str, may: bool) -> Result<Option<OsString>, Failure> {
     let Some(at) = words.iter().position(|word| word == option) else { return Ok(None) };
     if !may {
         return Err(Failure::Usage(format!("{command} has no {option}")));

@@ -6,13 +6,13 @@ use crate::{
     progress::Progress,
     why::{Scene, Why},
 };
-use cda_store::{Contents, Files, Image, Refusal, Step, Stepped, scan};
+use cda_store::{Contents, Files, Image, Reader, Refusal, Step, Stepped, StoreError};
 use std::{collections::BTreeMap, fs, path::Path};
 
 /// All cuts of a transaction, from the one before its first step.
 pub struct Cuts {
     pub cuts: Vec<Cut>,
-    /// Why the commit itself is refused; its steps then end with the rollback.
+    /// Why the commit itself is refused. It is known before the first step, so nothing is done, and there is one cut.
     pub refusal: Option<Refusal>,
     /// How the number of steps comes about, where a rule says it.
     pub count: Option<Count>,
@@ -74,11 +74,15 @@ impl Outcome {
 /// stands open there.
 pub fn transaction(store: &Path, operations: &[Operation]) -> Result<Image, Failure> {
     let is_image = store.is_file();
-    let image = if is_image { Image::new(fs::read(store).map_err(Failure::at(store))?)? } else { scan(store)? };
+    let image = if is_image { Image::new(fs::read(store).map_err(Failure::at(store))?)? } else { Reader::open(store)?.image()? };
     if operations.is_empty() {
         let contents = image.contents();
         let open = contents.open || !is_image;
         return Ok(Contents { open, ..contents }.image()?);
+    }
+    if image.contents().has_damaged_log()? {
+        let path = if is_image { store.to_path_buf() } else { store.join("journal/transaction.wal") };
+        return Err(StoreError::Damaged { path }.into());
     }
     let begun = image.recover()?.begin()?;
     Ok(operations.iter().try_fold(begun, |image, operation| operation.imagine(&image))?)
@@ -88,12 +92,12 @@ pub fn transaction(store: &Path, operations: &[Operation]) -> Result<Image, Fail
 pub fn cuts(transaction: &Image) -> Result<Cuts, Failure> {
     let (after, refusal) = match transaction.commit() {
         Ok(after) => (after, None),
-        Err(error) => (error.image.ok_or(error.refusal)?, Some(error.refusal)),
+        Err(error) => (error.image.ok_or(error.refusal).and(transaction.rollback())?, Some(error.refusal)),
     };
     let (earlier, later) = (paths(transaction), paths(&after));
     let mut progress = Progress::new();
     let mut steps: Vec<Stepped> = Vec::new();
-    for stepped in transaction.commit_steps() {
+    for stepped in transaction.commit_steps().take_while(|_| refusal.is_none()) {
         progress.tell(|| format!("step {}", steps.len() + 1));
         steps.push(stepped?);
     }

@@ -23,9 +23,15 @@ const TOPICS: [Topic; 10] = [
     },
     Topic {
         name: "recover",
-        usage: "recover DIR",
+        usage: "recover DIR [--restore | --accept]",
         line: "end an interrupted update: undo it, or clear up behind it",
-        more: "Prints the file steps that recovery carried out. Nothing is done where no update was interrupted.",
+        more: "Prints the file steps that recovery carried out. Nothing is done where no update was interrupted.
+Recovery is refused, and nothing is changed, where the log is damaged: refusals 11, 12 and 13, or a damaged header while backups stand. Copy DIR,
+then choose:
+  --restore        Each .bak is put back in place of its original, and log and staging files go. What the update had put anew, where nothing
+                   stood before, stays. Choose it to have the files from before the update.
+  --accept         Log, staging files and every .bak go, and what stands is kept. Choose it if the update had come to its end, or if the files
+                   from before are worth less than those that stand.",
     },
     Topic {
         name: "put",
@@ -64,8 +70,8 @@ the commit is not refused.
 ];
 
 const STATUS: &str =
-    "Exit status: 0 done; 1 refused (the number and why are printed); 2 a file call failed, or something stands in DIR that no store has;
-3 stopped by --stop-after; 64 the command line is wrong.
+    "Exit status: 0 done; 1 refused (why is printed, and the number if it has one); 2 a file call failed, or something stands in DIR that no store has;
+3 stopped by --stop-after; 64 the command line is wrong. What was done in DIR is 0 even where standard output takes no text.
 ";
 
 /// Whether a command records operations and commits them.
@@ -86,5 +92,11 @@ pub fn overview() -> String {
     for topic in &TOPICS {
         let _ = writeln!(text, "  {:8} {}", topic.name, topic.line);
     }
-    text + "\ncda-store COMMAND --help says more. DIR must exist; a store needs nothing in it.\n\n" + STATUS
+    text + "\ncda-store COMMAND --help says more, cda-store --version which version this is. Words behind -- are no options.
+DIR must exist; a store needs nothing in it.\n\n"
+        + STATUS
+}
+
+pub fn version() -> String {
+    format!("cda-store {}\n", env!("CARGO_PKG_VERSION"))
 }

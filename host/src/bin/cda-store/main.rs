@@ -3,6 +3,7 @@ mod arguments;
 mod count;
 mod cuts;
 mod failure;
+mod fold;
 mod help;
 mod operation;
 mod progress;
@@ -14,21 +15,41 @@ mod why;
 use arguments::Command;
 use failure::Failure;
 use std::{
-    io::{ErrorKind, Write, stdout},
+    env,
+    ffi::OsString,
+    io::{ErrorKind, Write, stderr, stdout},
     process::ExitCode,
 };
 
 fn main() -> ExitCode {
-    match arguments::given().and_then(|words| arguments::read(&words)).and_then(run).and_then(|text| print(&text)) {
+    let words: Vec<OsString> = env::args_os().skip(1).collect();
+    match arguments::read(&words).and_then(answer) {
         Ok(()) => ExitCode::SUCCESS,
         Err(failure) => {
-            eprintln!("cda-store: {failure}");
+            tell(&failure.to_string());
             ExitCode::from(failure.status())
         }
     }
 }
 
-/// Prints the answer. A reader that has seen enough is no failure.
+/// Runs a command and prints its text. What was done in a store stays done where that can't be printed, and the status says so.
+fn answer(command: Command) -> Result<(), Failure> {
+    let done = command.works_on_a_store();
+    match print(&run(command)?) {
+        Err(failure) if done => {
+            tell(&format!("done; {failure}"));
+            Ok(())
+        }
+        printed => printed,
+    }
+}
+
+/// A message on standard error; where it is closed, the status alone speaks.
+fn tell(message: &str) {
+    let _ = writeln!(stderr(), "cda-store: {message}");
+}
+
+/// Prints a text. A reader that has seen enough is no failure.
 fn print(text: &str) -> Result<(), Failure> {
     match stdout().write_all(text.as_bytes()) {
         Err(error) if error.kind() != ErrorKind::BrokenPipe => Err(Failure::Io(format!("standard output: {error}"))),
@@ -39,9 +60,9 @@ fn print(text: &str) -> Result<(), Failure> {
 /// Runs a command: what it prints.
 fn run(command: Command) -> Result<String, Failure> {
     match command {
-        Command::Help(text) => Ok(text),
+        Command::Tell(text) => Ok(text),
         Command::List { store } => update::list(&store),
-        Command::Recover { store } => update::recover(&store),
+        Command::Recover { store, way } => update::recover(&store, way),
         Command::Update { store, operations, stop_after } => update::update(&store, &operations, stop_after),
         Command::Cuts { store, operations, picture } => {
             let cuts = cuts::cuts(&cuts::transaction(&store, &operations)?)?;

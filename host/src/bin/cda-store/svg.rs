@@ -1,6 +1,7 @@
-//! The cuts as a picture: a band from the first cut to the last, and a line for each.
+//! The cuts as a picture: a band from the first cut to the last, and a row for each.
 use crate::{
     cuts::{Cut, Cuts},
+    fold::folded,
     table,
 };
 
@@ -11,11 +12,14 @@ const BAND: usize = 920;
 const PART: usize = 72;
 const BAND_TOP: usize = 78;
 const ROWS_TOP: usize = 176;
-const LINE: usize = 24;
-/// Characters that fit their column.
-const STEP_LENGTH: usize = 62;
-const DETAIL_LENGTH: usize = 54;
-const NOTE_LENGTH: usize = 140;
+/// The height of a row of one line, and of every line more.
+const ROW: usize = 24;
+const LINE: usize = 16;
+/// What has names in it is set in letters of one width, so that the number of characters that fit a column is known.
+const NAMES: &str = "font-family=\"monospace\" font-size=\"12\"";
+const STEP_LENGTH: usize = 58;
+const DETAIL_LENGTH: usize = 48;
+const NOTE_LENGTH: usize = 130;
 
 /// Each outcome's colour; the word stands beside it.
 fn colour(word: &str) -> &'static str {
@@ -28,18 +32,21 @@ fn colour(word: &str) -> &'static str {
 }
 
 pub fn picture(cuts: &Cuts) -> String {
-    let notes: Vec<String> = table::notes(cuts).iter().flat_map(|note| folded(note)).collect();
-    let rows: String = cuts.cuts.iter().enumerate().map(|(i, cut)| row(i, cut)).collect();
-    let bottom = ROWS_TOP + LINE * cuts.cuts.len() + 16;
-    let height = bottom + 18 * notes.len() + 8;
-    let notes: String = notes.iter().enumerate().map(|(i, line)| text(LEFT, bottom + 18 * i, "", line)).collect();
+    let (mut rows, mut y) = (String::new(), ROWS_TOP);
+    for (n, cut) in cuts.cuts.iter().enumerate() {
+        let (row, height) = row(n, y, cut);
+        (rows, y) = (rows + &row, y + height);
+    }
+    let notes: Vec<String> = table::notes(cuts).iter().flat_map(|note| folded(note, NOTE_LENGTH)).collect();
+    let height = y + 24 + 18 * notes.len();
     format!(
         "<svg xmlns=\"http://www.w3.org/2000/svg\" viewBox=\"0 0 {WIDTH} {height}\" width=\"{WIDTH}\" height=\"{height}\" \
          font-family=\"sans-serif\" font-size=\"13\" fill=\"#222222\">\n<title>What a cut leaves</title>\n\
-         <rect width=\"100%\" height=\"100%\" fill=\"white\"/>\n{}{}{}{rows}{notes}</svg>\n",
+         <rect width=\"100%\" height=\"100%\" fill=\"white\"/>\n{}{}{}{rows}{}</svg>\n",
         text(LEFT, 34, "font-size=\"20\" font-weight=\"bold\"", "What a cut during this update leaves, after recovery"),
         text(LEFT, 58, "", &table::summary(cuts)),
-        band(&cuts.cuts)
+        band(&cuts.cuts),
+        lines(LEFT, y + 16, 18, "", &notes)
     )
 }
 
@@ -69,44 +76,37 @@ fn part(x: usize, width: usize, word: &str, range: &str) -> String {
     out
 }
 
-fn row(n: usize, cut: &Cut) -> String {
-    let y = ROWS_TOP + LINE * n;
+/// A cut's row from here, and its height.
+fn row(n: usize, y: usize, cut: &Cut) -> (String, usize) {
     let step = cut.step.as_ref().map_or("nothing is done yet".to_string(), |step| step.to_string());
     let (word, detail) = (cut.outcome.word(), table::words(&cut.outcome, 1));
     let detail = if detail == word { String::new() } else { detail };
+    let (step, detail) = (folded(&step, STEP_LENGTH), folded(&detail, DETAIL_LENGTH));
+    let height = ROW + LINE * (step.len().max(detail.len()) - 1);
     let shade = if n.is_multiple_of(2) { "#f3f3f3" } else { "white" };
-    format!(
-        "<g><title>{}</title>\n<rect x=\"{LEFT}\" y=\"{}\" width=\"{BAND}\" height=\"{LINE}\" fill=\"{shade}\"/>\n{}{}\
+    let row = format!(
+        "<g><title>{}</title>\n<rect x=\"{LEFT}\" y=\"{}\" width=\"{BAND}\" height=\"{height}\" fill=\"{shade}\"/>\n{}{}\
          <rect x=\"520\" y=\"{}\" width=\"66\" height=\"18\" rx=\"4\" fill=\"{}\"/>\n{}{}</g>\n",
         escaped(&table::words(&cut.outcome, usize::MAX)),
         y - 17,
         text(LEFT + 34, y, "text-anchor=\"end\"", &n.to_string()),
-        text(LEFT + 48, y, "", &shortened(&step, STEP_LENGTH)),
+        lines(LEFT + 48, y, LINE, NAMES, &step),
         y - 14,
         colour(word),
         text(553, y, "text-anchor=\"middle\" fill=\"white\" font-weight=\"bold\"", word),
-        text(598, y, "", &shortened(&detail, DETAIL_LENGTH))
-    )
+        lines(598, y, LINE, NAMES, &detail)
+    );
+    (row, height)
+}
+
+/// Lines below each other; an empty one is not drawn.
+fn lines(x: usize, y: usize, height: usize, style: &str, lines: &[String]) -> String {
+    let drawn = lines.iter().enumerate().filter(|(_, line)| !line.is_empty());
+    drawn.map(|(i, line)| text(x, y + height * i, style, line)).collect()
 }
 
 fn text(x: usize, y: usize, style: &str, what: &str) -> String {
     format!("<text x=\"{x}\" y=\"{y}\" {style}>{}</text>\n", escaped(what))
-}
-
-fn shortened(text: &str, length: usize) -> String {
-    if text.len() <= length { text.to_string() } else { format!("{}…", &text[..length - 1]) }
-}
-
-/// A note in lines that fit the picture.
-fn folded(note: &str) -> Vec<String> {
-    let mut lines: Vec<String> = Vec::new();
-    for word in note.split(' ') {
-        match lines.last_mut().filter(|line| line.len() + word.len() < NOTE_LENGTH) {
-            Some(line) => *line += &format!(" {word}"),
-            None => lines.push(word.to_string()),
-        }
-    }
-    lines
 }
 
 fn escaped(text: &str) -> String {

@@ -1,23 +1,46 @@
 //! The cuts as text.
 use crate::{
     count::Count,
-    cuts::{Change, Cuts, Outcome, Remark},
+    cuts::{Change, Cut, Cuts, Outcome, Remark},
+    fold::folded,
     why::Why,
 };
+use cda_store::Refusal;
 use std::collections::{BTreeMap, BTreeSet};
 use std::fmt::Write;
 
+/// The most characters of the columns of steps and of files: a longest name with / behind it fits a line.
+const STEP_WIDTH: usize = 65;
+const FILES_WIDTH: usize = 72;
+
+/// The lines of a cut's number, of its step and of its files.
+type Row = [Vec<String>; 3];
+
 pub fn text(cuts: &Cuts) -> String {
-    let steps = cuts.cuts.len() - 1;
-    let mut out = format!("The commit has {steps} steps. Cut behind step n and recovered, the store has:\n\n");
-    let step = |i: usize| cuts.cuts[i].step.as_ref().map_or("-".to_string(), |step| step.to_string());
-    let wide = (0..=steps).map(|i| step(i).len()).max().unwrap_or(0);
-    let deep = steps.to_string().len();
-    let _ = writeln!(out, "{:>deep$}  {:wide$}  files", "n", "step");
-    for (i, cut) in cuts.cuts.iter().enumerate() {
-        let _ = writeln!(out, "{i:deep$}  {:wide$}  {}", step(i), words(&cut.outcome, usize::MAX));
+    if let Some(refusal) = cuts.refusal {
+        return refused(refusal) + "\n";
     }
-    out + "\n" + &summary(cuts) + "\n" + &notes(cuts).join("\n") + "\n"
+    let head = ["n", "step", "files"].map(|title| vec![title.to_string()]);
+    let rows: Vec<Row> = [head].into_iter().chain(cuts.cuts.iter().enumerate().map(|(n, cut)| row(n, cut))).collect();
+    let width = |column: usize| rows.iter().flat_map(|row| &row[column]).map(String::len).max().unwrap_or(0);
+    let table: String = rows.iter().map(|row| aligned(row, width(0), width(1))).collect();
+    let top = format!("The commit has {} steps. Cut behind step n and recovered, the store has:\n\n", cuts.cuts.len() - 1);
+    top + &table + "\n" + &summary(cuts) + "\n" + &notes(cuts).join("\n") + "\n"
+}
+
+fn row(n: usize, cut: &Cut) -> Row {
+    let step = cut.step.as_ref().map_or("-".to_string(), |step| step.to_string());
+    [vec![n.to_string()], folded(&step, STEP_WIDTH), folded(&words(&cut.outcome, usize::MAX), FILES_WIDTH)]
+}
+
+/// A row with its first two columns so wide.
+fn aligned(row: &Row, first: usize, second: usize) -> String {
+    let mut out = String::new();
+    for line in 0..row.iter().map(Vec::len).max().unwrap_or(0) {
+        let [n, step, files] = row.each_ref().map(|lines| lines.get(line).map_or("", String::as_str));
+        let _ = writeln!(out, "{}", format!("{n:>first$}  {step:second$}  {files}").trim_end());
+    }
+    out
 }
 
 /// An outcome in words, with at most so many names for each kind of remark.
@@ -41,8 +64,15 @@ fn grouped(remarks: &[Remark], most: usize) -> String {
     groups.into_iter().map(group).collect::<Vec<_>>().join("; ")
 }
 
-/// How many cuts leave what.
+fn refused(refusal: Refusal) -> String {
+    format!("This update is refused, and nothing is done; {refusal}")
+}
+
+/// How many cuts leave what, or why there is none.
 pub fn summary(cuts: &Cuts) -> String {
+    if cuts.refusal.is_some() {
+        return "This update is refused, and nothing is done.".to_string();
+    }
     let mut counts: Vec<(&str, usize)> = Vec::new();
     for cut in &cuts.cuts {
         match counts.iter_mut().find(|(word, _)| *word == cut.outcome.word()) {
@@ -60,7 +90,7 @@ pub fn notes(cuts: &Cuts) -> Vec<String> {
     let always = "earlier: exactly the files from before. later: exactly the files that the commit makes. A cut ends the process between two steps; \
                   what was written stays.";
     let reasons = reasons(cuts).into_iter().map(|why| format!("{}: {}", why.words(), why.sentence()));
-    let refused = cuts.refusal.map(|refusal| format!("This commit is refused, and its last steps roll it back: {refusal}."));
+    let refused = cuts.refusal.map(refused);
     count.into_iter().chain([always.to_string()]).chain(reasons).chain(refused).collect()
 }
 

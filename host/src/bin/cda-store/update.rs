@@ -1,9 +1,10 @@
 //! Listing, recovery and transactions on a directory.
-use crate::{failure::Failure, operation::Operation, progress::Progress};
-use cda_store::{Event, FileStore, Plan, scan};
+use crate::{arguments::Way, failure::Failure, operation::Operation, progress::Progress};
+use cda_store::{Event, FileStore, Plan, Reader};
 use std::{
-    fmt::Write,
+    fmt::Write as _,
     fs,
+    io::{Write as _, stdout},
     path::Path,
     process::exit,
     sync::{Arc, Mutex, MutexGuard},
@@ -14,7 +15,8 @@ const STOPPED: i32 = 3;
 
 /// What stands in the store, with sizes. Nothing is changed.
 pub fn list(store: &Path) -> Result<String, Failure> {
-    let image = scan(store)?;
+    let reader = Reader::open(store)?;
+    let image = reader.image()?;
     let mut text = String::new();
     for (directory, files) in image.contents().directories {
         let _ = writeln!(text, "{directory}/");
@@ -25,20 +27,31 @@ pub fn list(store: &Path) -> Result<String, Failure> {
         }
     }
     if image.has_pending_work()? {
-        text += "An update was interrupted here; cda-store recover ends it.\n";
+        let damaged = image.contents().has_damaged_log()?;
+        text += &match image.recover() {
+            Ok(_) if damaged => "An update was interrupted here, and its log is damaged; see cda-store recover --help.\n".to_string(),
+            Ok(_) => "An update was interrupted here; cda-store recover ends it.\n".to_string(),
+            Err(refusal) => format!("An update was interrupted here; its recovery gives {refusal}. See cda-store recover --help.\n"),
+        };
     }
     Ok(text)
 }
 
-/// Opens the store, which recovers it, and tells the steps.
-pub fn recover(store: &Path) -> Result<String, Failure> {
+/// Recovers the store and tells the steps.
+pub fn recover(store: &Path, way: Way) -> Result<String, Failure> {
     let watch = Watch::new(None);
-    open(store, &watch)?;
+    match way {
+        Way::Usual => open(store, &watch)?,
+        Way::Restore => FileStore::restore(store, observer(&watch))?,
+        Way::Accept => FileStore::accept(store, observer(&watch))?,
+    };
     let steps = &seen(&watch).recovery;
     let told = steps.iter().enumerate().map(|(i, step)| format!("{:4}  {step}\n", i + 1));
-    let end = match steps.len() {
-        0 => "Nothing to recover.\n".to_string(),
-        n => format!("Recovered in {}.\n", steps_in_words(n)),
+    let end = match (way, steps.len()) {
+        (Way::Usual, 0) => "Nothing to recover.\n".to_string(),
+        (Way::Usual, n) => format!("Recovered in {}.\n", steps_in_words(n)),
+        (Way::Restore, n) => format!("Put the backups back, in {}.\n", steps_in_words(n)),
+        (Way::Accept, n) => format!("Kept what stands, in {}.\n", steps_in_words(n)),
     };
     Ok(told.collect::<String>() + &end)
 }
@@ -66,8 +79,12 @@ fn steps_in_words(n: usize) -> String {
 }
 
 fn open(store: &Path, watch: &Shared) -> Result<FileStore, Failure> {
+    Ok(FileStore::open_observed(store, observer(watch))?)
+}
+
+fn observer(watch: &Shared) -> impl FnMut(&Event) + Send + 'static {
     let watch = Arc::clone(watch);
-    Ok(FileStore::open_observed(store, move |event| seen(&watch).see(event))?)
+    move |event| seen(&watch).see(event)
 }
 
 /// The store's observer and the command look at the same.
@@ -99,7 +116,7 @@ impl Watch {
         }
         let done = event.number - u64::from(!event.done);
         if event.plan == Plan::Commit && self.stop_after == Some(done) {
-            println!("Stopped after step {done}; cda-store recover ends the update.");
+            let _ = writeln!(stdout(), "Stopped after step {done}; cda-store recover ends the update.");
             exit(STOPPED);
         }
     }

@@ -1,4 +1,2 @@
-pub mod Lent
-pub mod Recorded
-pub mod Done
 pub mod Listed
+pub mod Pending

@@ -1,4 +1,3 @@
-pub mod Buffers
 pub mod Calls
 pub mod CutRule
 pub mod Again

@@ -1,6 +1,6 @@
 -- Demand 1 over calls of the exported entries: every call is answered with 0 or one of the numbers named here, whatever it was lent, and after a
 -- refusal every lent buffer is as it was; 14 and 15, given by commit alone, hand back the rolled-back image.
-use mathlib.Core.Path.{_≡_, refl, sym, ap, _∙_}
+use mathlib.Core.Path.{_≡_, refl, sym, ap, subst, _∙_}
 use mathlib.Core.Bool.{Bool, true, false, false≢true}
 use mathlib.Core.List.{List, [], _∷_}
 use mathlib.Core.Option.{Option, none, some}
@@ -14,11 +14,14 @@ use Rattle.model.specs.Store.{Store, hasPendingWork}
 use Rattle.model.specs.Image.{decode}
 use Rattle.model.specs.Step.{Fault, fails, full, commitNumber}
 use Rattle.model.specs.Plan.{commitFault}
-use Rattle.model.specs.Record.{Outcome, refuse, give, beginTransaction, discard, recordWrite, recordDelete, recordDeleteAll, recordCreate, recordDeleteCollection, recordCopy}
-use Rattle.answers.specs.Answers.{Answer, Pending, refusal, answer, outcome, onImage, imageEntry, begin, write, delete, deleteAll, createCollection, deleteCollection, copyCollection, rollback, commit, commitStep, recover, recoverStep, pending, listKeys}
+use Rattle.answers.specs.Answers.{Answer, Pending, refusal, answer, outcome, begin, write, delete, deleteAll, createCollection, deleteCollection, copyCollection, rollback, commit, commitStep, recover, recoverStep, pending, listKeys}
+use Rattle.basic_laws.specs.Tests.{All, in-all}
 use Rattle.answer_laws.specs.EntryLaws.{on-commit, on-recover, on-commit-step, on-recover-step, on-list-keys}
 use Rattle.handover.specs.Contract.{handsBack, Gives, StepGives}
-use Rattle.handover.specs.Numbers.{Numbered, begin-numbers, rollback-numbers, write-numbers, delete-numbers, delete-all-numbers, create-numbers, delete-collection-numbers, copy-numbers}
+use Rattle.recording.specs.Asking.{asked, entryOf, numbersOf}
+use Rattle.recording.specs.Laws.{entry-is, asked-cases}
+use Rattle.recording.specs.declared.Asked.{Asked}
+use Rattle.recording.specs.declared.Asked.the-variants.{Begin, Write, Delete, DeleteAll, CreateCollection, DeleteCollection, CopyCollection, Rollback}
 
 -- An answer with one of these numbers, which is that number alone where it hands nothing back.
 pub record Answered (l : List ℕ) (a : Answer) : Type 0 where
@@ -44,50 +47,41 @@ refused l n i = record { numbers = i; alone = λ h. refl }
 done : (l : List ℕ) {a : Answer} → a .number ≡ 0 → Answered (0 ∷ l) a
 done l e = record { numbers = inl e; alone = λ h. absurd (false≢true (sym h ∙ ap handsBack e)) }
 
--- The entries from image to image: 0, 1, 2, and what the recording refuses with.
-entry : (f : Store → Outcome) (l : List ℕ) → ((s : Store) → Numbered l (f s)) → (b : Bytes) (out : ℕ) → Answered (0 ∷ 1 ∷ 2 ∷ l) (imageEntry f b out)
-entry f l h b out = go (decode b) (leb imageRoom out)
+-- The entries that record: 0, 1, 2, and what is asked refuses with.
+asked-answers : (op : Asked) (c k f : Name) (b : Bytes) (out : ℕ) → Answered (0 ∷ 1 ∷ 2 ∷ numbersOf op) (entryOf op c k f b out)
+asked-answers op c k f b out = subst (Answered (0 ∷ 1 ∷ 2 ∷ numbersOf op)) (sym (entry-is op c k f b out)) (go (decode b) (leb imageRoom out))
   where
-    of : (o : Outcome) → Numbered l o → Answered (0 ∷ 1 ∷ 2 ∷ l) (outcome o)
-    of (refuse n) i = refused _ n (inr (inr (inr i)))
-    of (give s) i = done _ refl
+    each : All (λ n. Answered (0 ∷ 1 ∷ 2 ∷ numbersOf op) (refusal n)) (numbersOf op)
+    each = in-all (λ n. Answered (0 ∷ 1 ∷ 2 ∷ numbersOf op) (refusal n)) (numbersOf op) (λ n i. refused _ n (inr (inr (inr i))))
 
-    go : (o : Option Store) (room : Bool) → Answered (0 ∷ 1 ∷ 2 ∷ l) (caseOption o (refusal 1) (λ s. if room then outcome (f s) else refusal 2))
+    go : (o : Option Store) (room : Bool) → Answered (0 ∷ 1 ∷ 2 ∷ numbersOf op) (caseOption o (refusal 1) (λ s. if room then outcome (asked op c k f s) else refusal 2))
     go none room = refused _ 1 (inr (inl refl))
-    go (some s) true = of (f s) (h s)
+    go (some s) true = asked-cases (λ o. Answered (0 ∷ 1 ∷ 2 ∷ numbersOf op) (outcome o)) op c k f s each (λ u e. done _ refl)
     go (some s) false = refused _ 2 (inr (inr (inl refl)))
 
 pub begin-answers : (b : Bytes) (out : ℕ) → Answered (0 ∷ 1 ∷ 2 ∷ 3 ∷ []) (begin b out)
-unfolding begin
-begin-answers = entry beginTransaction (3 ∷ []) begin-numbers
+begin-answers = asked-answers Begin [] [] []
 
 pub write-answers : (c k staged : Name) (x : ℕ) (b : Bytes) (out : ℕ) → Answered (0 ∷ 1 ∷ 2 ∷ 4 ∷ 5 ∷ 6 ∷ 10 ∷ []) (write c k staged x b out)
-unfolding write
-write-answers c k staged x = entry (recordWrite c k staged x) (4 ∷ 5 ∷ 6 ∷ 10 ∷ []) (write-numbers c k staged x)
+write-answers c k staged x = asked-answers (Write x) c k staged
 
 pub delete-answers : (c k : Name) (b : Bytes) (out : ℕ) → Answered (0 ∷ 1 ∷ 2 ∷ 4 ∷ 5 ∷ 6 ∷ 8 ∷ []) (delete c k b out)
-unfolding delete
-delete-answers c k = entry (recordDelete c k) (4 ∷ 5 ∷ 6 ∷ 8 ∷ []) (delete-numbers c k)
+delete-answers c k = asked-answers Delete c k []
 
 pub delete-all-answers : (c : Name) (b : Bytes) (out : ℕ) → Answered (0 ∷ 1 ∷ 2 ∷ 4 ∷ 5 ∷ 6 ∷ []) (deleteAll c b out)
-unfolding deleteAll
-delete-all-answers c = entry (recordDeleteAll c) (4 ∷ 5 ∷ 6 ∷ []) (delete-all-numbers c)
+delete-all-answers c = asked-answers DeleteAll c [] []
 
 pub create-collection-answers : (c : Name) (b : Bytes) (out : ℕ) → Answered (0 ∷ 1 ∷ 2 ∷ 4 ∷ 5 ∷ 6 ∷ 9 ∷ []) (createCollection c b out)
-unfolding createCollection
-create-collection-answers c = entry (recordCreate c) (4 ∷ 5 ∷ 6 ∷ 9 ∷ []) (create-numbers c)
+create-collection-answers c = asked-answers CreateCollection c [] []
 
 pub delete-collection-answers : (c : Name) (b : Bytes) (out : ℕ) → Answered (0 ∷ 1 ∷ 2 ∷ 4 ∷ 5 ∷ 6 ∷ 7 ∷ []) (deleteCollection c b out)
-unfolding deleteCollection
-delete-collection-answers c = entry (recordDeleteCollection c) (4 ∷ 5 ∷ 6 ∷ 7 ∷ []) (delete-collection-numbers c)
+delete-collection-answers c = asked-answers DeleteCollection c [] []
 
 pub copy-collection-answers : (a c : Name) (b : Bytes) (out : ℕ) → Answered (0 ∷ 1 ∷ 2 ∷ 4 ∷ 5 ∷ 6 ∷ 7 ∷ []) (copyCollection a c b out)
-unfolding copyCollection
-copy-collection-answers a c = entry (recordCopy a c) (4 ∷ 5 ∷ 6 ∷ 7 ∷ []) (copy-numbers a c)
+copy-collection-answers a c = asked-answers CopyCollection a [] c
 
 pub rollback-answers : (b : Bytes) (out : ℕ) → Answered (0 ∷ 1 ∷ 2 ∷ 4 ∷ []) (rollback b out)
-unfolding rollback
-rollback-answers = entry discard (4 ∷ []) rollback-numbers
+rollback-answers = asked-answers Rollback [] [] []
 
 pub commit-answers : (b : Bytes) (out : ℕ) → Answered (0 ∷ 1 ∷ 2 ∷ 4 ∷ 14 ∷ 15 ∷ []) (commit b out)
 commit-answers b out =

@@ -1,35 +1,17 @@
-// The exported entries: bytes in, a number and bytes out. The contract of each cites the model's Answers and nothing else: `Gives`,
-// `StepGives` and `PendingGives` (crate handover, specs/Contract.antt) say what is in the lent outputs after a call.
+// The exported entries: bytes in, a number and bytes out. The contract of each cites crate answers and nothing else: `Returns`,
+// `StepReturns` and `PendingReturns` (crate handover, specs/Contract.antt) say what is in the lent outputs after a call; `lent` is what was lent
+// for a parameter, `room` its length. Entries that record go through crate recording, those that run a plan through crate running.
 ghost use mathlib.Core.Path.{_≡_};
-ghost use mathlib.Core.Bool.{_&&_};
-ghost use lib.ListN.{length};
 ghost use Rattle.basics.specs.Base.{if_then_else_};
 ghost use Rattle.answers.specs.Answers as answers;
-ghost use Rattle.answers.specs.Answers.{begin, write, delete, deleteAll, createCollection, deleteCollection, copyCollection, rollback, commit, commitStep, recover, recoverStep, listKeys};
-ghost use Rattle.handover.specs.Contract.{Gives, StepGives, PendingGives};
+ghost use Rattle.answers.specs.Answers.{begin, write, delete, deleteAll, createCollection, deleteCollection, copyCollection, rollback};
+ghost use Rattle.answers.specs.Answers.{commit, commitStep, recover, recoverStep, listKeys};
+ghost use Rattle.handover.specs.Contract.{lent, room, Returns, StepReturns, PendingReturns};
 
-mod recording;
+mod keys;
 
-use basics::IMAGE_ROOM;
-use basics::KEYS_ROOM;
-use basics::STEP_ROOM;
-use local_storage::LocalStorage;
-use wal::Tail;
-
-// Room for an image and the three names of a Write. A small image takes a small buffer: the large one takes longer to clear than such an image
-// takes to read.
-const SOURCE_ROOM: usize = IMAGE_ROOM + 192;
-
-const SMALL_IMAGE: usize = 2_048;
-
-const SMALL_ROOM: usize = SMALL_IMAGE + 192;
-
-// Both of two tests.
-fn both(a: bool, b: bool) -> bool
-    ensures { λ r. ⌜ r ≡ (a && b) ⌝ }
-{
-    if a { b } else { false }
-}
+use recording::Asked;
+use running::Planned;
 
 // 1 is yes, 0 is no.
 fn yes_or_no(b: bool) -> u32
@@ -41,18 +23,9 @@ fn yes_or_no(b: bool) -> u32
 // Opens a transaction. Refusals: 1, 2, 3.
 #[no_mangle]
 pub extern "C" fn cda_storage_begin(image: &[u8], out: &mut [u8], written: &mut usize) -> u32
-    ensures { λ r. ⌜ Gives (begin (now (image .entry)) (length (now (out .entry)))) r (now (out .entry)) (now (out .exit)) (now (written .entry)) (now (written .exit)) ⌝ }
+    ensures { λ r. ⌜ Returns (begin (lent image) (room out)) r out written ⌝ }
 {
-    let mut tree = [[0u32; 3]; store::ROOM];
-    let mut staging = [[0u32; 3]; store::ROOM];
-    let o = handover::open_image(image, &mut tree, &mut staging, IMAGE_ROOM <= out.len());
-    if o.number != 0 {
-        return o.number;
-    }
-    let s = o.store;
-    let storage = LocalStorage { store: s };
-    let r = storage.begin_transaction();
-    handover::hand_on(image, &tree, &staging, r, o.tree_end, out, written)
+    recording::ask_unnamed(Asked::Begin, image, out, written)
 }
 
 // Records a Write of the caller's staging file and number. Refusals: 1, 2, 4, 5, 6, 10.
@@ -66,41 +39,14 @@ pub extern "C" fn cda_storage_write(
     out: &mut [u8],
     written: &mut usize,
 ) -> u32
-    ensures { λ r. ⌜ Gives (write (now (collection .entry)) (now (key .entry)) (now (staged .entry)) number (now (image .entry)) (length (now (out .entry)))) r (now (out .entry)) (now (out .exit)) (now (written .entry)) (now (written .exit)) ⌝ }
+    ensures { λ r. ⌜ Returns (write (lent collection) (lent key) (lent staged) number (lent image) (room out)) r out written ⌝ }
 {
-    let mut tree = [[0u32; 3]; store::ROOM];
-    let mut staging = [[0u32; 3]; store::ROOM];
-    let o = handover::open_image(image, &mut tree, &mut staging, IMAGE_ROOM <= out.len());
-    if o.number != 0 {
-        return o.number;
-    }
-    if image.len() <= SMALL_IMAGE {
-        let mut src = [0u8; SMALL_ROOM];
-        return recording::write(
-            &mut src,
-            image,
-            &tree,
-            &mut staging,
-            o,
-            collection,
-            key,
-            staged,
-            number,
-            out,
-            written,
-        );
-    }
-    let mut src = [0u8; SOURCE_ROOM];
-    recording::write(
-        &mut src,
+    recording::ask(
+        Asked::Write(number),
         image,
-        &tree,
-        &mut staging,
-        o,
         collection,
         key,
         staged,
-        number,
         out,
         written,
     )
@@ -115,40 +61,9 @@ pub extern "C" fn cda_storage_delete(
     out: &mut [u8],
     written: &mut usize,
 ) -> u32
-    ensures { λ r. ⌜ Gives (delete (now (collection .entry)) (now (key .entry)) (now (image .entry)) (length (now (out .entry)))) r (now (out .entry)) (now (out .exit)) (now (written .entry)) (now (written .exit)) ⌝ }
+    ensures { λ r. ⌜ Returns (delete (lent collection) (lent key) (lent image) (room out)) r out written ⌝ }
 {
-    let mut tree = [[0u32; 3]; store::ROOM];
-    let mut staging = [[0u32; 3]; store::ROOM];
-    let o = handover::open_image(image, &mut tree, &mut staging, IMAGE_ROOM <= out.len());
-    if o.number != 0 {
-        return o.number;
-    }
-    if image.len() <= SMALL_IMAGE {
-        let mut src = [0u8; SMALL_ROOM];
-        return recording::delete(
-            &mut src,
-            image,
-            &mut tree,
-            &mut staging,
-            o,
-            collection,
-            key,
-            out,
-            written,
-        );
-    }
-    let mut src = [0u8; SOURCE_ROOM];
-    recording::delete(
-        &mut src,
-        image,
-        &mut tree,
-        &mut staging,
-        o,
-        collection,
-        key,
-        out,
-        written,
-    )
+    recording::ask(Asked::Delete, image, collection, key, b"", out, written)
 }
 
 // Records a DeleteAll. Refusals: 1, 2, 4, 5, 6.
@@ -159,38 +74,9 @@ pub extern "C" fn cda_storage_delete_all(
     out: &mut [u8],
     written: &mut usize,
 ) -> u32
-    ensures { λ r. ⌜ Gives (deleteAll (now (collection .entry)) (now (image .entry)) (length (now (out .entry)))) r (now (out .entry)) (now (out .exit)) (now (written .entry)) (now (written .exit)) ⌝ }
+    ensures { λ r. ⌜ Returns (deleteAll (lent collection) (lent image) (room out)) r out written ⌝ }
 {
-    let mut tree = [[0u32; 3]; store::ROOM];
-    let mut staging = [[0u32; 3]; store::ROOM];
-    let o = handover::open_image(image, &mut tree, &mut staging, IMAGE_ROOM <= out.len());
-    if o.number != 0 {
-        return o.number;
-    }
-    if image.len() <= SMALL_IMAGE {
-        let mut src = [0u8; SMALL_ROOM];
-        return recording::delete_all(
-            &mut src,
-            image,
-            &tree,
-            &staging,
-            o,
-            collection,
-            out,
-            written,
-        );
-    }
-    let mut src = [0u8; SOURCE_ROOM];
-    recording::delete_all(
-        &mut src,
-        image,
-        &tree,
-        &staging,
-        o,
-        collection,
-        out,
-        written,
-    )
+    recording::ask(Asked::DeleteAll, image, collection, b"", b"", out, written)
 }
 
 // Records a CreateCollection. Refusals: 1, 2, 4, 5, 6, 9.
@@ -201,29 +87,9 @@ pub extern "C" fn cda_storage_create_collection(
     out: &mut [u8],
     written: &mut usize,
 ) -> u32
-    ensures { λ r. ⌜ Gives (createCollection (now (name .entry)) (now (image .entry)) (length (now (out .entry)))) r (now (out .entry)) (now (out .exit)) (now (written .entry)) (now (written .exit)) ⌝ }
+    ensures { λ r. ⌜ Returns (createCollection (lent name) (lent image) (room out)) r out written ⌝ }
 {
-    let mut tree = [[0u32; 3]; store::ROOM];
-    let mut staging = [[0u32; 3]; store::ROOM];
-    let o = handover::open_image(image, &mut tree, &mut staging, IMAGE_ROOM <= out.len());
-    if o.number != 0 {
-        return o.number;
-    }
-    if image.len() <= SMALL_IMAGE {
-        let mut src = [0u8; SMALL_ROOM];
-        return recording::create_collection(
-            &mut src,
-            image,
-            &tree,
-            &staging,
-            o,
-            name,
-            out,
-            written,
-        );
-    }
-    let mut src = [0u8; SOURCE_ROOM];
-    recording::create_collection(&mut src, image, &tree, &staging, o, name, out, written)
+    recording::ask(Asked::CreateCollection, image, name, b"", b"", out, written)
 }
 
 // Records a DeleteCollection. Refusals: 1, 2, 4, 5, 6, 7.
@@ -234,29 +100,9 @@ pub extern "C" fn cda_storage_delete_collection(
     out: &mut [u8],
     written: &mut usize,
 ) -> u32
-    ensures { λ r. ⌜ Gives (deleteCollection (now (name .entry)) (now (image .entry)) (length (now (out .entry)))) r (now (out .entry)) (now (out .exit)) (now (written .entry)) (now (written .exit)) ⌝ }
+    ensures { λ r. ⌜ Returns (deleteCollection (lent name) (lent image) (room out)) r out written ⌝ }
 {
-    let mut tree = [[0u32; 3]; store::ROOM];
-    let mut staging = [[0u32; 3]; store::ROOM];
-    let o = handover::open_image(image, &mut tree, &mut staging, IMAGE_ROOM <= out.len());
-    if o.number != 0 {
-        return o.number;
-    }
-    if image.len() <= SMALL_IMAGE {
-        let mut src = [0u8; SMALL_ROOM];
-        return recording::delete_collection(
-            &mut src,
-            image,
-            &tree,
-            &staging,
-            o,
-            name,
-            out,
-            written,
-        );
-    }
-    let mut src = [0u8; SOURCE_ROOM];
-    recording::delete_collection(&mut src, image, &tree, &staging, o, name, out, written)
+    recording::ask(Asked::DeleteCollection, image, name, b"", b"", out, written)
 }
 
 // Records a CopyCollection. Refusals: 1, 2, 4, 5, 6, 7, and 6 again for the destination.
@@ -268,36 +114,13 @@ pub extern "C" fn cda_storage_copy_collection(
     out: &mut [u8],
     written: &mut usize,
 ) -> u32
-    ensures { λ r. ⌜ Gives (copyCollection (now (source .entry)) (now (dest .entry)) (now (image .entry)) (length (now (out .entry)))) r (now (out .entry)) (now (out .exit)) (now (written .entry)) (now (written .exit)) ⌝ }
+    ensures { λ r. ⌜ Returns (copyCollection (lent source) (lent dest) (lent image) (room out)) r out written ⌝ }
 {
-    let mut tree = [[0u32; 3]; store::ROOM];
-    let mut staging = [[0u32; 3]; store::ROOM];
-    let o = handover::open_image(image, &mut tree, &mut staging, IMAGE_ROOM <= out.len());
-    if o.number != 0 {
-        return o.number;
-    }
-    if image.len() <= SMALL_IMAGE {
-        let mut src = [0u8; SMALL_ROOM];
-        return recording::copy_collection(
-            &mut src,
-            image,
-            &tree,
-            &staging,
-            o,
-            source,
-            dest,
-            out,
-            written,
-        );
-    }
-    let mut src = [0u8; SOURCE_ROOM];
-    recording::copy_collection(
-        &mut src,
+    recording::ask(
+        Asked::CopyCollection,
         image,
-        &tree,
-        &staging,
-        o,
         source,
+        b"",
         dest,
         out,
         written,
@@ -307,42 +130,17 @@ pub extern "C" fn cda_storage_copy_collection(
 // Discards the transaction. Refusals: 1, 2, 4.
 #[no_mangle]
 pub extern "C" fn cda_storage_rollback(image: &[u8], out: &mut [u8], written: &mut usize) -> u32
-    ensures { λ r. ⌜ Gives (rollback (now (image .entry)) (length (now (out .entry)))) r (now (out .entry)) (now (out .exit)) (now (written .entry)) (now (written .exit)) ⌝ }
+    ensures { λ r. ⌜ Returns (rollback (lent image) (room out)) r out written ⌝ }
 {
-    let mut tree = [[0u32; 3]; store::ROOM];
-    let mut staging = [[0u32; 3]; store::ROOM];
-    let o = handover::open_image(image, &mut tree, &mut staging, IMAGE_ROOM <= out.len());
-    if o.number != 0 {
-        return o.number;
-    }
-    let s = o.store;
-    let storage = LocalStorage { store: s };
-    let r = storage.rollback(image);
-    handover::hand_on(image, &tree, &staging, r, o.tree_end, out, written)
+    recording::ask_unnamed(Asked::Rollback, image, out, written)
 }
 
 // Commits the transaction. Refusals: 1, 2, 4; 14 and 15 hand back the rolled-back image.
 #[no_mangle]
 pub extern "C" fn cda_storage_commit(image: &[u8], out: &mut [u8], written: &mut usize) -> u32
-    ensures { λ r. ⌜ Gives (commit (now (image .entry)) (length (now (out .entry)))) r (now (out .entry)) (now (out .exit)) (now (written .entry)) (now (written .exit)) ⌝ }
+    ensures { λ r. ⌜ Returns (commit (lent image) (room out)) r out written ⌝ }
 {
-    let mut tree = [[0u32; 3]; store::ROOM];
-    let mut staging = [[0u32; 3]; store::ROOM];
-    let o = handover::open_image(image, &mut tree, &mut staging, IMAGE_ROOM <= out.len());
-    if o.number != 0 {
-        return o.number;
-    }
-    let s = o.store;
-    let storage = LocalStorage { store: s };
-    let r = storage.commit(image, &mut tree, &mut staging, false, 0);
-    let found = r.found;
-    if found {
-        let kept = r.storage;
-        let t = kept.store;
-        handover::hand_image(image, &tree, &staging, t, Tail::Nothing, 0, out, written);
-        return r.number;
-    }
-    4
+    running::run_whole(Planned::Commit, image, out, written)
 }
 
 // The image after n steps of the commit, and the field of step n. Refusals: 1, 2, 4, 16.
@@ -355,44 +153,15 @@ pub extern "C" fn cda_storage_commit_step(
     step: &mut [u8],
     step_written: &mut usize,
 ) -> u32
-    ensures { λ r. ⌜ StepGives (commitStep n (now (image .entry)) (length (now (out .entry))) (length (now (step .entry)))) r (now (out .entry)) (now (out .exit)) (now (written .entry)) (now (written .exit)) (now (step .entry)) (now (step .exit)) (now («step_written» .entry)) (now («step_written» .exit)) ⌝ }
+    ensures { λ r. ⌜ StepReturns (commitStep n (lent image) (room out) (room step)) r out written step «step_written» ⌝ }
 {
-    let room = both(IMAGE_ROOM <= out.len(), STEP_ROOM <= step.len());
-    let mut tree = [[0u32; 3]; store::ROOM];
-    let mut staging = [[0u32; 3]; store::ROOM];
-    let o = handover::open_image(image, &mut tree, &mut staging, room);
-    if o.number != 0 {
-        return o.number;
-    }
-    let s = o.store;
-    let storage = LocalStorage { store: s };
-    let r = storage.commit(image, &mut tree, &mut staging, true, n);
-    let found = r.found;
-    if found {
-        let kept = r.storage;
-        let t = kept.store;
-        let last = r.last;
-        return handover::hand_step(
-            image,
-            &tree,
-            &staging,
-            t,
-            r.left,
-            last,
-            n,
-            out,
-            written,
-            step,
-            step_written,
-        );
-    }
-    4
+    running::run_steps(Planned::Commit, image, n, out, written, step, step_written)
 }
 
 // Whether recovery has work to do: `pending` is 1 for yes, 0 for no. Refusal: 1.
 #[no_mangle]
 pub extern "C" fn cda_storage_has_pending_work(image: &[u8], pending: &mut u32) -> u32
-    ensures { λ r. ⌜ PendingGives (answers.pending (now (image .entry))) r (now (pending .entry)) (now (pending .exit)) ⌝ }
+    ensures { λ r. ⌜ PendingReturns (answers.pending (lent image)) r pending ⌝ }
 {
     let mut tree = [[0u32; 3]; store::ROOM];
     let mut staging = [[0u32; 3]; store::ROOM];
@@ -408,23 +177,9 @@ pub extern "C" fn cda_storage_has_pending_work(image: &[u8], pending: &mut u32) 
 // Recovers the store. Refusals: 1, 2, 11, 12, 13.
 #[no_mangle]
 pub extern "C" fn cda_storage_recover(image: &[u8], out: &mut [u8], written: &mut usize) -> u32
-    ensures { λ r. ⌜ Gives (recover (now (image .entry)) (length (now (out .entry)))) r (now (out .entry)) (now (out .exit)) (now (written .entry)) (now (written .exit)) ⌝ }
+    ensures { λ r. ⌜ Returns (recover (lent image) (room out)) r out written ⌝ }
 {
-    let mut tree = [[0u32; 3]; store::ROOM];
-    let mut staging = [[0u32; 3]; store::ROOM];
-    let o = handover::open_image(image, &mut tree, &mut staging, IMAGE_ROOM <= out.len());
-    if o.number != 0 {
-        return o.number;
-    }
-    let s = o.store;
-    let r = recovery::recover(image, &mut tree, &mut staging, s, false, 0);
-    if r.number != 0 {
-        return r.number;
-    }
-    let run = r.run;
-    let t = run.store;
-    handover::hand_image(image, &tree, &staging, t, Tail::Nothing, 0, out, written);
-    0
+    running::run_whole(Planned::Recover, image, out, written)
 }
 
 // The image after n steps of the recovery, and the field of step n. Refusals: 1, 2, 11, 12, 13, 16.
@@ -437,36 +192,9 @@ pub extern "C" fn cda_storage_recover_step(
     step: &mut [u8],
     step_written: &mut usize,
 ) -> u32
-    ensures { λ r. ⌜ StepGives (recoverStep n (now (image .entry)) (length (now (out .entry))) (length (now (step .entry)))) r (now (out .entry)) (now (out .exit)) (now (written .entry)) (now (written .exit)) (now (step .entry)) (now (step .exit)) (now («step_written» .entry)) (now («step_written» .exit)) ⌝ }
+    ensures { λ r. ⌜ StepReturns (recoverStep n (lent image) (room out) (room step)) r out written step «step_written» ⌝ }
 {
-    let room = both(IMAGE_ROOM <= out.len(), STEP_ROOM <= step.len());
-    let mut tree = [[0u32; 3]; store::ROOM];
-    let mut staging = [[0u32; 3]; store::ROOM];
-    let o = handover::open_image(image, &mut tree, &mut staging, room);
-    if o.number != 0 {
-        return o.number;
-    }
-    let s = o.store;
-    let r = recovery::recover(image, &mut tree, &mut staging, s, true, n);
-    if r.number != 0 {
-        return r.number;
-    }
-    let run = r.run;
-    let t = run.store;
-    let last = run.last;
-    handover::hand_step(
-        image,
-        &tree,
-        &staging,
-        t,
-        run.left,
-        last,
-        n,
-        out,
-        written,
-        step,
-        step_written,
-    )
+    running::run_steps(Planned::Recover, image, n, out, written, step, step_written)
 }
 
 // The keys of a collection, as 0x03 fields. Refusals: 1, 2, 6.
@@ -477,36 +205,7 @@ pub extern "C" fn cda_storage_list_keys(
     out: &mut [u8],
     written: &mut usize,
 ) -> u32
-    ensures { λ r. ⌜ Gives (listKeys (now (collection .entry)) (now (image .entry)) (length (now (out .entry)))) r (now (out .entry)) (now (out .exit)) (now (written .entry)) (now (written .exit)) ⌝ }
+    ensures { λ r. ⌜ Returns (listKeys (lent collection) (lent image) (room out)) r out written ⌝ }
 {
-    let mut tree = [[0u32; 3]; store::ROOM];
-    let mut staging = [[0u32; 3]; store::ROOM];
-    let o = handover::open_image(image, &mut tree, &mut staging, KEYS_ROOM <= out.len());
-    if o.number != 0 {
-        return o.number;
-    }
-    if image.len() <= SMALL_IMAGE {
-        let mut src = [0u8; SMALL_ROOM];
-        return recording::list_keys(
-            &mut src,
-            image,
-            &tree,
-            &staging,
-            o,
-            collection,
-            out,
-            written,
-        );
-    }
-    let mut src = [0u8; SOURCE_ROOM];
-    recording::list_keys(
-        &mut src,
-        image,
-        &tree,
-        &staging,
-        o,
-        collection,
-        out,
-        written,
-    )
+    keys::list(image, collection, out, written)
 }

@@ -314,7 +314,8 @@ fn read_mark(src: &[u8], at: usize) -> MarkPart
     }
 }
 
-fn both(a: bool, b: bool) -> bool
+// Both of two tests.
+pub fn both(a: bool, b: bool) -> bool
     ensures { λ r. ⌜ r ≡ (a && b) ⌝ }
 {
     if a { b } else { false }

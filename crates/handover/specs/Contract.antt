@@ -4,6 +4,8 @@ use mathlib.Core.Bool.{Bool, _||_}
 use Prim.Native.Nat.{ℕ}
 use lib.ListN.{length}
 use lib.Dec.{eqb}
+use denote.Ref.{RefT, now}
+use denote.Triple.Both.{Both}
 use Rattle.basics.specs.Base.{Bytes, if_then_else_}
 use Rattle.answers.specs.Answers.{Answer, Pending, overwritten}
 
@@ -37,3 +39,28 @@ pub record StepGives (a : Answer) (n : ℕ) (out out' : Bytes) (written written'
 pub record PendingGives (a : Pending) (n pending pending' : ℕ) : Type 0 where
   pub number : n ≡ a .number
   pub answer : pending' ≡ (if eqb (a .number) 0 then (if a .yes? then 1 else 0) else pending)
+
+-- A part that is lent to a call, as it was (`.entry`) and as it is handed back (`.exit`).
+abbrev pub Part : Type 0 → Type 0
+Part X = Both (RefT X) (RefT X)
+
+-- What was lent, and how long it is.
+abbrev pub lent : {X : Type 0} → Part X → X
+lent p = now (p .entry)
+
+abbrev pub room : Part Bytes → ℕ
+room p = length (lent p)
+
+abbrev pub Written : Bytes → Part Bytes → Part ℕ → Type 0
+Written bytes out written = Writes bytes (lent out) (now (out .exit)) (now (written .exit))
+
+-- What the contracts say: the call returns n and leaves the answer `a` in the parts that were lent to it.
+abbrev pub Returns : Answer → ℕ → Part Bytes → Part ℕ → Type 0
+Returns a n out written = Gives a n (lent out) (now (out .exit)) (lent written) (now (written .exit))
+
+abbrev pub StepReturns : Answer → ℕ → Part Bytes → Part ℕ → Part Bytes → Part ℕ → Type 0
+StepReturns a n out written step stepWritten =
+    StepGives a n (lent out) (now (out .exit)) (lent written) (now (written .exit)) (lent step) (now (step .exit)) (lent stepWritten) (now (stepWritten .exit))
+
+abbrev pub PendingReturns : Pending → ℕ → Part ℕ → Type 0
+PendingReturns a n pending = PendingGives a n (lent pending) (now (pending .exit))

@@ -11,15 +11,19 @@ use Rattle.basics.specs.Base.{Bytes, if_then_else_}
 use Rattle.model.specs.Store as model
 use Rattle.model.specs.Image.{encode, decode}
 use Rattle.model.specs.Step.{stepField}
-use Rattle.answers.specs.Answers.{Answer, refusal, onImage}
+use Rattle.answers.specs.Answers.{Answer, refusal, outcome, onImage}
 use Rattle.basic_laws.specs.ValidNames.{Valid}
 use Rattle.laws.specs.StoreLaws.{Good}
 use Rattle.store.specs.Words.{Words}
 use Rattle.store.specs.Tables.{tableOf, mapOf}
 use Rattle.store.specs.Kept.{Kept}
 use Rattle.store.specs.Stores.{LentStore, storeIn, storeOf, SoundStore}
+use Rattle.wal.specs.Tails.{withTail, SoundTail}
+use Rattle.wal.specs.declared.Tail.{Tail}
 use Rattle.steps.specs.Steps.{stepOf, SoundStep}
 use Rattle.steps.specs.declared.Step.{Step}
+use Rattle.local_storage.specs.Recording.{outcomeOf}
+use Rattle.local_storage.specs.declared.Recorded.{Recorded}
 use Rattle.handover.specs.Contract.{handsBack}
 use Rattle.handover.specs.declared.Opened.{Opened}
 
@@ -40,6 +44,21 @@ pub record Opens (image : Bytes) (room : Bool) (tree staging : Words) (r : Opene
   pub given : r .number ≡ 0 → (next : model.Store → Answer) → onImage image room next ≡ next (storeOf image (storeIn tree staging (r .store)))
   pub refused : (r .number ≡ 0 → ⊥) → (next : model.Store → Answer) → onImage image room next ≡ refusal (r .number)
   pub kept : r .number ≡ 0 → Kept image (r .«tree_end») (mapOf image (tableOf tree (r .store .tree)))
+
+-- What lets a store's image be handed back: it has room, and the tree stands in the first `front` bytes (0 says nothing of it).
+pub record ImageStands (src : Bytes) (s : LentStore) (tail : Tail) (front out : ℕ) : Type 0 where
+  pub sound : SoundStore src s
+  pub tailSound : SoundTail src tail
+  pub kept : Kept src front (mapOf src (s .tree))
+  pub room : length (encode (withTail src tail (storeOf src s))) ≤ out
+
+-- What lets a recording method's answer be handed on.
+pub record AnswerStands (src : Bytes) (tree staging : Words) (r : Recorded) (front out : ℕ) : Type 0 where
+  pub sound : SoundStore src (storeIn tree staging (r .storage .store))
+  pub tailSound : SoundTail src (r .tail)
+  pub kept : r .number ≡ 0 → Kept src front (mapOf src (tableOf tree (r .storage .store .tree)))
+  pub room : length (outcome (outcomeOf src tree staging r) .image) ≤ out
+  pub alone : (r .number ≡ 0 → ⊥) → handsBack (r .number) ≡ false
 
 -- The field of the step that was done last, as the n-th; none for n = 0.
 unfoldable pub fieldOf : Bytes → Step → ℕ → Bytes

@@ -1,18 +1,14 @@
 // What every exported entry does before and behind its own work: the image is read, the answer is written into the lent outputs.
-ghost use mathlib.Core.Path.{_≡_};
-ghost use mathlib.Core.Bool.{false};
 ghost use Prim.Native.Nat.{_≤_};
 ghost use lib.ListN.{length};
 ghost use Rattle.model.specs.Image.{encode};
 ghost use Rattle.answers.specs.Answers.{outcome};
-ghost use Rattle.store.specs.Tables.{tableOf, mapOf};
-ghost use Rattle.store.specs.Kept.{Kept};
-ghost use Rattle.store.specs.Stores.{storeIn, storeOf, SoundStore};
-ghost use Rattle.wal.specs.Tails.{withTail, SoundTail};
+ghost use Rattle.store.specs.Stores.{storeIn, storeOf};
+ghost use Rattle.wal.specs.Tails.{withTail};
 ghost use Rattle.steps.specs.Steps.{SoundStep};
 ghost use Rattle.local_storage.specs.Recording.{outcomeOf};
-ghost use Rattle.handover.specs.Contract.{handsBack, Gives, StepGives, Writes};
-ghost use Rattle.handover.specs.Opening.{Opens, fieldOf, StepStands, stepped};
+ghost use Rattle.handover.specs.Contract.{lent, Returns, StepReturns, Written};
+ghost use Rattle.handover.specs.Opening.{Opens, ImageStands, AnswerStands, fieldOf, StepStands, stepped};
 use local_storage::Recorded;
 use steps::Step;
 use store::Nodes;
@@ -28,7 +24,7 @@ pub struct Opened {
 
 // 01, Sixteen numbers: "1. The image breaks its layout or a limit. 2. The lent output has under" 19,390 bytes (02, item 4).
 pub fn open_image(image: &[u8], tree: &mut Nodes, staging: &mut Nodes, room: bool) -> Opened
-    ensures { λ r. ⌜ Opens (now (image .entry)) room (now (tree .exit)) (now (staging .exit)) r ⌝ }
+    ensures { λ r. ⌜ Opens (lent image) room (now (tree .exit)) (now (staging .exit)) r ⌝ }
 {
     let d = decode::decode(image, tree, staging);
     let ok = d.ok;
@@ -67,8 +63,8 @@ pub fn hand_image(
     out: &mut [u8],
     written: &mut usize,
 )
-    requires { ⌜ (SoundStore (now src) (storeIn (now tree) (now staging) s) × SoundTail (now src) tail) × (Kept (now src) kept (mapOf (now src) (tableOf (now tree) (s .tree))) × (length (encode (withTail (now src) tail (storeOf (now src) (storeIn (now tree) (now staging) s)))) ≤ length (now out))) ⌝ }
-    ensures { λ _. ⌜ Writes (encode (withTail (now (src .entry)) tail (storeOf (now (src .entry)) (storeIn (now (tree .entry)) (now (staging .entry)) s)))) (now (out .entry)) (now (out .exit)) (now (written .exit)) ⌝ }
+    requires { ⌜ ImageStands (now src) (storeIn (now tree) (now staging) s) tail kept (length (now out)) ⌝ }
+    ensures { λ _. ⌜ Written (encode (withTail (lent src) tail (storeOf (lent src) (storeIn (lent tree) (lent staging) s)))) out written ⌝ }
 {
     *written = encode::encode(src, tree, staging, s, tail, kept, out);
 }
@@ -83,8 +79,8 @@ pub fn hand_on(
     out: &mut [u8],
     written: &mut usize,
 ) -> u32
-    requires { ⌜ ((SoundStore (now src) (storeIn (now tree) (now staging) (r .storage .store)) × SoundTail (now src) (r .tail)) × (r .number ≡ 0 → Kept (now src) kept (mapOf (now src) (tableOf (now tree) (r .storage .store .tree))))) × ((length (outcome (outcomeOf (now src) (now tree) (now staging) r) .image) ≤ length (now out)) × ((r .number ≡ 0 → ⊥) → handsBack (r .number) ≡ false)) ⌝ }
-    ensures { λ n. ⌜ Gives (outcome (outcomeOf (now (src .entry)) (now (tree .entry)) (now (staging .entry)) r)) n (now (out .entry)) (now (out .exit)) (now (written .entry)) (now (written .exit)) ⌝ }
+    requires { ⌜ AnswerStands (now src) (now tree) (now staging) r kept (length (now out)) ⌝ }
+    ensures { λ n. ⌜ Returns (outcome (outcomeOf (lent src) (lent tree) (lent staging) r)) n out written ⌝ }
 {
     let n = r.number;
     if n != 0 {
@@ -100,7 +96,7 @@ pub fn hand_on(
 // The field of the n-th step, none for n = 0, written at the front of the output, and how many bytes it has.
 fn hand_field(src: &[u8], last: Step, n: u64, step: &mut [u8], step_written: &mut usize)
     requires { ⌜ SoundStep (now src) last × (length (fieldOf (now src) last n) ≤ length (now step)) ⌝ }
-    ensures { λ _. ⌜ Writes (fieldOf (now (src .entry)) last n) (now (step .entry)) (now (step .exit)) (now («step_written» .exit)) ⌝ }
+    ensures { λ _. ⌜ Written (fieldOf (lent src) last n) step «step_written» ⌝ }
 {
     if n == 0 {
         *step_written = 0;
@@ -124,7 +120,7 @@ pub fn hand_step(
     step_written: &mut usize,
 ) -> u32
     requires { ⌜ StepStands (now src) (storeIn (now tree) (now staging) s) left last n (length (now out)) (length (now step)) ⌝ }
-    ensures { λ r. ⌜ StepGives (stepped (now (src .entry)) (storeIn (now (tree .entry)) (now (staging .entry)) s) left last n) r (now (out .entry)) (now (out .exit)) (now (written .entry)) (now (written .exit)) (now (step .entry)) (now (step .exit)) (now («step_written» .entry)) (now («step_written» .exit)) ⌝ }
+    ensures { λ r. ⌜ StepReturns (stepped (lent src) (storeIn (lent tree) (lent staging) s) left last n) r out written step «step_written» ⌝ }
 {
     if left != 0 {
         return 16;

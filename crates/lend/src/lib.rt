@@ -15,8 +15,8 @@ pub struct Named {
     pub end: usize,
 }
 
-// A name that is not valid: nothing of it is lent.
-fn not_valid(at: usize) -> Named
+// A name that is not valid, or none: nothing of it is lent.
+pub fn not_valid(at: usize) -> Named
     ensures { λ r. ⌜ (r .valid ≡ false) × (r .end ≡ at) ⌝ }
 {
     Named {

@@ -1,5 +1,5 @@
 -- `cda_storage::cda_storage_has_pending_work` meets its contract.
-use Rattle.cda_storage.proofs.Done.{pending-refused, pending-gives}
+use Rattle.cda_storage.proofs.Pending.{pending-refused, pending-gives}
 use borrow.Author.Needs.{needs}
 use Rattle.cda_storage.proofs.cda_storage_has_pending_work.Statement.{statement}
 use Rattle.cda_storage.proofs.cda_storage_has_pending_work.Tie as tie
@@ -13,14 +13,16 @@ returns c =
 
 has-pending-work-requires : tie.Need-has-pending-work-requires
 has-pending-work-requires c κs =
-    c .before .before .before .before .before .open-image .ensures .held (c .before .before .before .if1 .left) .sound
+    let h = c .before .before .before .if1 .left in
+    c .before .before .before .before .before .open-image .ensures .held h .sound
 
 yes-or-no-requires : tie.Need-yes-or-no-requires
 yes-or-no-requires c κs = search needs
 
 returns-2 : tie.Need-returns-2
 returns-2 c =
-    pending-gives (c .before .before .before .before .before .before .before .open-image .ensures) (c .before .before .before .before .before .if1 .left) (c .before .has-pending-work .ensures) (c .yes-or-no .ensures)
+    let h = c .before .before .before .before .before in
+    pending-gives (h .before .before .open-image .ensures) (h .if1 .left) (c .before .has-pending-work .ensures) (c .yes-or-no .ensures)
 
 pub cda-storage-has-pending-work-spec : {M : Type 1} → statement M
 cda-storage-has-pending-work-spec =

@@ -12,7 +12,7 @@ same-length c = search needs
 
 returns : tie.Need-returns
 returns c =
-    let e = in-room (c .before .before .encode .ensures) (c .before .before .before .before .before .before .pre .1 .1) in
+    let e = in-room (c .before .before .encode .ensures) (c .before .before .before .before .before .before .pre .room) in
     record { same = e .1; size = e .0 }
 
 pub hand-image-spec : {M : Type 1} → statement M

@@ -11,12 +11,19 @@ use Rattle.handover.proofs.hand_on.Tie as tie
 returns : tie.Need-returns
 returns c =
     let z = c .before .before .before in
-    left-alone (z .pre .1 .1 (c .if1 .taken)) (turned-down (z .args .src .now) (z .args .tree .now) (z .args .staging .now) (z .args .r) (c .if1 .taken))
+    left-alone (z .pre .alone (c .if1 .taken)) (turned-down (z .args .src .now) (z .args .tree .now) (z .args .staging .now) (z .args .r) (c .if1 .taken))
 
 hand-image-requires : tie.Need-hand-image-requires
 hand-image-requires c κs =
     let z = c .before .before .before .before .before .before .before in
-    (z .pre .0 .0, (z .pre .0 .1 (c .before .before .before .before .if1 .left), subst (λ (a : Answer). length (a .image) ≤ length (z .args .out .now)) (recorded (z .args .src .now) (z .args .tree .now) (z .args .staging .now) (z .args .r) (c .before .before .before .before .if1 .left)) (z .pre .1 .0)))
+    let h = c .before .before .before .before .if1 .left in
+    let e = recorded (z .args .src .now) (z .args .tree .now) (z .args .staging .now) (z .args .r) h in
+    record {
+      sound = z .pre .sound;
+      tailSound = z .pre .tailSound;
+      kept = z .pre .kept h;
+      room = subst (λ (a : Answer). length (a .image) ≤ length (z .args .out .now)) e (z .pre .room);
+    }
 
 same-length : tie.Need-same-length
 same-length c = search needs

@@ -15,7 +15,7 @@ returns c =
 hand-image-requires : tie.Need-hand-image-requires
 hand-image-requires c κs =
     let z = c .before .before .before .before .before .before in
-    ((z .pre .sound, tt), (none-kept, z .pre .room (c .before .before .if1 .left)))
+    record { sound = z .pre .sound; tailSound = tt; kept = none-kept; room = z .pre .room (c .before .before .if1 .left) }
 
 hand-field-requires : tie.Need-hand-field-requires
 hand-field-requires c κs =

@@ -1,0 +1,4 @@
+pub mod Asking
+pub mod Buffers
+pub mod Outcomes
+pub mod Laws

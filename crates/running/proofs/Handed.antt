@@ -1,0 +1,109 @@
+-- An entry that runs a plan, by what `run` left.
+use mathlib.Core.Path.{_≡_, refl, sym, ap, subst, _∙_}
+use mathlib.Core.Bool.{Bool, true, false, _&&_}
+use Prim.Native.Nat.{ℕ, _≤_}
+use native.Mathlib.Omega.{arith}
+use lib.ListN.{length}
+use lib.Dec.{leb}
+use borrow.Author.Tests.{leb-true}
+use Rattle.basics.specs.Limits.{imageRoom, stepRoom}
+use Rattle.basics.specs.Base.{Bytes, if_then_else_}
+use Rattle.model.specs.Image.{encode}
+use Rattle.answers.specs.Answers.{Answer, answer, refusal, onImage, commit, recover, commitStep, recoverStep}
+use Rattle.answer_laws.specs.Bounds.{Bounded, commit-bounded, recover-bounded, commit-step-bounded, recover-step-bounded}
+use Rattle.basic_laws.specs.Tests.{and-both}
+use Rattle.store.specs.Words.{Words}
+use Rattle.store.specs.Kept.{none-kept}
+use Rattle.store.specs.Stores.{storeIn, storeOf}
+use Rattle.wal.specs.declared.Tail.the-variants.{Nothing}
+use Rattle.handover.specs.Contract.{Gives, StepGives, Writes}
+use Rattle.handover.specs.Opening.{Opens, ImageStands, stepped, StepStands}
+use Rattle.handover.specs.declared.Opened.{Opened}
+use Rattle.handover.proofs.Outputs.{left-alone, step-left-alone, gives, stepped-at}
+use Rattle.running.specs.Planning.{planStore, planAt, planEntry, planStepEntry, Runs}
+use Rattle.running.specs.declared.Planned.{Planned}
+use Rattle.running.specs.declared.Planned.the-variants.{Commit, Recover}
+use Rattle.running.specs.declared.Ran.{Ran}
+
+-- The entries, upon an image.
+plan-is : (p : Planned) (image : Bytes) (out : ℕ) → planEntry p image out ≡ onImage image (leb imageRoom out) (planStore p)
+unfolding commit recover
+plan-is Commit image out = refl
+plan-is Recover image out = refl
+
+plan-step-is : (p : Planned) (n : ℕ) (image : Bytes) (out stepOut : ℕ) → planStepEntry p n image out stepOut ≡ onImage image (leb imageRoom out && leb stepRoom stepOut) (planAt p n)
+unfolding commitStep recoverStep
+plan-step-is Commit n image out stepOut = refl
+plan-step-is Recover n image out stepOut = refl
+
+plan-bounded : (p : Planned) (image : Bytes) (out : ℕ) → Bounded (planEntry p image out)
+plan-bounded Commit = commit-bounded
+plan-bounded Recover = recover-bounded
+
+plan-step-bounded : (p : Planned) (n : ℕ) (image : Bytes) (out stepOut : ℕ) → Bounded (planStepEntry p n image out stepOut)
+plan-step-bounded Commit = commit-step-bounded
+plan-step-bounded Recover = recover-step-bounded
+
+-- The whole plan.
+module _ (p : Planned) (image : Bytes) (len : ℕ) {tree staging : Words} {o : Opened} (w : Opens image (leb imageRoom len) tree staging o) where
+  pub not-opened : (o .number ≡ 0 → ⊥) → {out : Bytes} {written : ℕ} → Gives (planEntry p image len) (o .number) out out written written
+  not-opened h = left-alone (w .alone h) (plan-is p image len ∙ w .refused h (planStore p))
+
+  module _ (z : o .number ≡ 0) {tree' staging' : Words} {r : Ran} (c : Runs p image (storeIn tree staging (o .store)) false 0 tree' staging' r) where
+    pub nothing-back : r .back ≡ false → {out : Bytes} {written : ℕ} → Gives (planEntry p image len) (r .number) out out written written
+    nothing-back f = left-alone (c .alone f) (plan-is p image len ∙ w .given z (planStore p) ∙ c .whole refl ∙ rw f)
+
+    module _ (f : r .back ≡ true) where
+      given : planEntry p image len ≡ answer (r .number) (storeOf image (storeIn tree' staging' (r .store)))
+      given = plan-is p image len ∙ w .given z (planStore p) ∙ c .whole refl ∙ rw f
+
+      pub image-stands : ImageStands image (storeIn tree' staging' (r .store)) Nothing 0 len
+      image-stands = record {
+        sound = c .sound f;
+        tailSound = tt;
+        kept = none-kept;
+        room =
+            let i = subst (λ (x : Answer). length (x .image) ≤ imageRoom) given (plan-bounded p image len .image) in
+            omega (arith, leb-true imageRoom len (w .roomy z));
+      }
+
+      pub handed : {out out' : Bytes} {written written' : ℕ} → Writes (encode (storeOf image (storeIn tree' staging' (r .store)))) out out' written' → Gives (planEntry p image len) (r .number) out out' written written'
+      handed = gives (c .told refl f) (sym (ap (λ (a : Answer). a .number) given)) (sym (ap (λ (a : Answer). a .image) given))
+
+-- Its first n steps.
+module _ (p : Planned) (n : ℕ) (image : Bytes) (out stepOut : ℕ) {room : Bool} (b : room ≡ (leb imageRoom out && leb stepRoom stepOut)) {tree staging : Words} {o : Opened} (w : Opens image room tree staging o) where
+  entry-is : planStepEntry p n image out stepOut ≡ onImage image room (planAt p n)
+  entry-is = plan-step-is p n image out stepOut ∙ rw b
+
+  pub steps-not-opened : (o .number ≡ 0 → ⊥) → {lent : Bytes} {written : ℕ} {step : Bytes} {stepWritten : ℕ} → StepGives (planStepEntry p n image out stepOut) (o .number) lent lent written written step step stepWritten stepWritten
+  steps-not-opened h = step-left-alone (w .alone h) (entry-is ∙ w .refused h (planAt p n))
+
+  module _ (z : o .number ≡ 0) {tree' staging' : Words} {r : Ran} (c : Runs p image (storeIn tree staging (o .store)) true n tree' staging' r) where
+    pub no-steps-back : r .back ≡ false → {lent : Bytes} {written : ℕ} {step : Bytes} {stepWritten : ℕ} → StepGives (planStepEntry p n image out stepOut) (r .number) lent lent written written step step stepWritten stepWritten
+    no-steps-back f = step-left-alone (c .alone f) (entry-is ∙ w .given z (planAt p n) ∙ c .cut refl ∙ rw f)
+
+    module _ (f : r .back ≡ true) where
+      abbrev left : Answer
+      left = stepped image (storeIn tree' staging' (r .store)) (r .left) (r .last) n
+
+      steps-given : planStepEntry p n image out stepOut ≡ left
+      steps-given = entry-is ∙ w .given z (planAt p n) ∙ c .cut refl ∙ rw f
+
+      bounded : Bounded left
+      bounded = subst Bounded steps-given (plan-step-bounded p n image out stepOut)
+
+      pub step-stands : StepStands image (storeIn tree' staging' (r .store)) (r .left) (r .last) n out stepOut
+      step-stands =
+          let t = and-both (leb imageRoom out) (leb stepRoom stepOut) (sym b ∙ w .roomy z) in
+          let at = stepped-at image (storeIn tree' staging' (r .store)) (r .left) (r .last) n in
+          record {
+            sound = c .sound f;
+            lastSound = c .last f;
+            room = λ y. let x = ap (λ (a : Answer). length (a .image)) (at y) in omega (arith, bounded .image, leb-true imageRoom out (t .0));
+            stepRoom = λ y. let x = ap (λ (a : Answer). length (a .step)) (at y) in omega (arith, bounded .step, leb-true stepRoom stepOut (t .1));
+          }
+
+      pub steps-handed : {k : ℕ} {lent lent' : Bytes} {written written' : ℕ} {step step' : Bytes} {stepWritten stepWritten' : ℕ} → StepGives left k lent lent' written written' step step' stepWritten stepWritten'
+          → StepGives (planStepEntry p n image out stepOut) k lent lent' written written' step step' stepWritten stepWritten'
+      steps-handed {k} {lent} {lent'} {written} {written'} {step} {step'} {stepWritten} {stepWritten'} g =
+          subst (λ (a : Answer). StepGives a k lent lent' written written' step step' stepWritten stepWritten') (sym steps-given) g

@@ -1,0 +1,62 @@
+-- `running::run_steps`: the same, of the first n steps.
+use lib.ListN.{length}
+use borrow.Author.Needs.{needs}
+use Rattle.running.proofs.Handed.{steps-not-opened, no-steps-back, step-stands, steps-handed}
+use Rattle.running.proofs.run_steps.Statement.{statement}
+use Rattle.running.proofs.run_steps.Tie as tie
+
+both-requires : tie.Need-both-requires
+both-requires c κs = search needs
+
+open-image-requires : tie.Need-open-image-requires
+open-image-requires c κs = search needs
+
+returns : tie.Need-returns
+returns c =
+    let z = c .before .before .before .before .before .before .before .before .before in
+    steps-not-opened (z .args .p) (z .args .n) (z .args .image .now) (length (z .args .out .now)) (length (z .args .step .now))
+    (c .before .before .before .before .before .both .ensures) (c .before .before .open-image .ensures) (c .if1 .taken)
+
+run-requires : tie.Need-run-requires
+run-requires c κs = c .before .before .before .before .before .open-image .ensures .held (c .before .before .before .if1 .left)
+
+hand-step-requires : tie.Need-hand-step-requires
+hand-step-requires c κs =
+    let q = c .before .before .before .before .before .before .before .before in
+    let z = q .before .before .before .before .before .before .before .before .before .before .before .before .before in
+    step-stands (z .args .p) (z .args .n) (z .args .image .now) (length (z .args .out .now)) (length (z .args .step .now))
+    (q .before .before .before .before .before .before .before .before .before .both .ensures) (q .before .before .before .before .before .before .open-image .ensures) (q .before .before .before .before .if1 .left) (q .run .ensures) (c .before .before .before .before .before .before .before .if2 .taken)
+
+same-length : tie.Need-same-length
+same-length c = search needs
+
+same-length-2 : tie.Need-same-length-2
+same-length-2 c = search needs
+
+returns-2 : tie.Need-returns-2
+returns-2 c =
+    let q = c .before .before .before .before .before .before .before .before .before .before .before .before .before in
+    let z = q .before .before .before .before .before .before .before .before .before .before .before .before .before in
+    steps-handed (z .args .p) (z .args .n) (z .args .image .now) (length (z .args .out .now)) (length (z .args .step .now))
+    (q .before .before .before .before .before .before .before .before .before .both .ensures) (q .before .before .before .before .before .before .open-image .ensures) (q .before .before .before .before .if1 .left) (q .run .ensures) (c .before .before .before .before .before .before .before .before .before .before .before .before .if2 .taken) (c .before .before .before .before .hand-step .ensures)
+
+returns-3 : tie.Need-returns-3
+returns-3 c =
+    let q = c .before in
+    let z = q .before .before .before .before .before .before .before .before .before .before .before .before .before in
+    no-steps-back (z .args .p) (z .args .n) (z .args .image .now) (length (z .args .out .now)) (length (z .args .step .now))
+    (q .before .before .before .before .before .before .before .before .before .both .ensures) (q .before .before .before .before .before .before .open-image .ensures) (q .before .before .before .before .if1 .left) (q .run .ensures) (c .if2 .left)
+
+pub run-steps-spec : {M : Type 1} → statement M
+run-steps-spec =
+    tie.close
+    (tie.spec
+    both-requires
+    open-image-requires
+    returns
+    run-requires
+    hand-step-requires
+    same-length
+    same-length-2
+    returns-2
+    returns-3)

@@ -1,0 +1,141 @@
+// One road for every entry that runs a plan: the image is read, the plan is run, wholly or by its first n steps, and what it leaves is handed back.
+ghost use mathlib.Core.Path.{_≡_};
+ghost use Rattle.store.specs.Stores.{storeIn};
+ghost use Rattle.handover.specs.Contract.{lent, room, Returns, StepReturns};
+ghost use Rattle.handover.specs.Opening.{Held};
+ghost use Rattle.running.specs.Planning.{planEntry, planStepEntry, Runs};
+use local_storage::LocalStorage;
+use steps::Step;
+use store::Nodes;
+use store::Store;
+use wal::Tail;
+
+// The plan that is meant.
+pub enum Planned {
+    Commit,
+    Recover,
+}
+
+// What a plan leaves: a number; whether a store is handed back with it; that store; what is left of the budget; the step that was done last.
+pub struct Ran {
+    pub number: u32,
+    pub back: bool,
+    pub store: Store,
+    pub left: u64,
+    pub last: Step,
+}
+
+// All steps of the plan, or where `limited` the first n.
+fn run(
+    p: Planned,
+    image: &[u8],
+    tree: &mut Nodes,
+    staging: &mut Nodes,
+    s: Store,
+    limited: bool,
+    n: u64,
+) -> Ran
+    requires { ⌜ Held (now image) (storeIn (now tree) (now staging) s) ⌝ }
+    ensures { λ r. ⌜ Runs p (lent image) (storeIn (lent tree) (lent staging) s) limited n (now (tree .exit)) (now (staging .exit)) r ⌝ }
+{
+    match p {
+        Planned::Commit => {
+            let storage = LocalStorage { store: s };
+            let r = storage.commit(image, tree, staging, limited, n);
+            let kept = r.storage;
+            let t = kept.store;
+            let last = r.last;
+            Ran {
+                number: r.number,
+                back: r.found,
+                store: t,
+                left: r.left,
+                last: last,
+            }
+        }
+        Planned::Recover => {
+            let r = recovery::recover(image, tree, staging, s, limited, n);
+            let done = r.run;
+            let t = done.store;
+            let last = done.last;
+            Ran {
+                number: r.number,
+                back: r.number == 0,
+                store: t,
+                left: done.left,
+                last: last,
+            }
+        }
+    }
+}
+
+// The whole plan.
+pub fn run_whole(p: Planned, image: &[u8], out: &mut [u8], written: &mut usize) -> u32
+    ensures { λ r. ⌜ Returns (planEntry p (lent image) (room out)) r out written ⌝ }
+{
+    let mut tree = [[0u32; 3]; store::ROOM];
+    let mut staging = [[0u32; 3]; store::ROOM];
+    let o = handover::open_image(
+        image,
+        &mut tree,
+        &mut staging,
+        basics::IMAGE_ROOM <= out.len(),
+    );
+    if o.number != 0 {
+        return o.number;
+    }
+    let s = o.store;
+    let r = run(p, image, &mut tree, &mut staging, s, false, 0);
+    let back = r.back;
+    if back {
+        let t = r.store;
+        handover::hand_image(image, &tree, &staging, t, Tail::Nothing, 0, out, written);
+        return r.number;
+    }
+    r.number
+}
+
+// The first n steps, and the field of step n.
+pub fn run_steps(
+    p: Planned,
+    image: &[u8],
+    n: u64,
+    out: &mut [u8],
+    written: &mut usize,
+    step: &mut [u8],
+    step_written: &mut usize,
+) -> u32
+    ensures { λ r. ⌜ StepReturns (planStepEntry p n (lent image) (room out) (room step)) r out written step «step_written» ⌝ }
+{
+    let room = decode::both(
+        basics::IMAGE_ROOM <= out.len(),
+        basics::STEP_ROOM <= step.len(),
+    );
+    let mut tree = [[0u32; 3]; store::ROOM];
+    let mut staging = [[0u32; 3]; store::ROOM];
+    let o = handover::open_image(image, &mut tree, &mut staging, room);
+    if o.number != 0 {
+        return o.number;
+    }
+    let s = o.store;
+    let r = run(p, image, &mut tree, &mut staging, s, true, n);
+    let back = r.back;
+    if back {
+        let t = r.store;
+        let last = r.last;
+        return handover::hand_step(
+            image,
+            &tree,
+            &staging,
+            t,
+            r.left,
+            last,
+            n,
+            out,
+            written,
+            step,
+            step_written,
+        );
+    }
+    r.number
+}

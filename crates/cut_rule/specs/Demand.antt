@@ -117,6 +117,12 @@ CutRule =
     (recover (cutAt n b) out .number ≡ 2 → ⊥) →
     recover (cutAt n b) out ≡ answer 0 (settled (expectedFiles (hasTag 0x13 (cutAt n b)) s ws))
 
+-- And it leaves no backup: of these files none, and no directory, has a name that ends in .bak or .tmp.
+abbrev pub NoBackupLeft : Type 0
+NoBackupLeft =
+    (b : Bytes) (s : Store) (ws : List Write) (stood : Bool) → Conditions b s ws → (d f : Name) → Has (d, f) (expectedFiles stood s ws) →
+    NoExtension d × NoExtension f
+
 -- Demand 3: the rule for kind 1 alone. "It waits at n" for every written key that existed.
 abbrev pub Demand3 : Type 0
 Demand3 =

@@ -1,19 +1,22 @@
 -- The cut rule for Writes, whole, as Demand.antt states it; demand 3 and item 4 of document 02; a commit that fails.
-use mathlib.Core.Path.{_≡_, refl, sym, _∙_, ap}
-use mathlib.Core.List.{List, [], map}
-use mathlib.Core.Option.{none}
+use mathlib.Core.Path.{_≡_, refl, sym, _∙_, ap, subst}
+use Prim.Native.Nat.{ℕ}
+use mathlib.Core.List.{List, [], _∷_, map}
+use mathlib.Core.Option.{Option, none, some}
 use mathlib.Core.Bool.{Bool, true, false}
 use mathlib.Core.Logic.{_⊎_, inl, inr}
 use Rattle.basics.specs.Limits.{imageRoom}
-use Rattle.basics.specs.Map.{Map, Has}
-use Rattle.basics.specs.Base.{Bytes, In, isSome, if_then_else_}
+use Rattle.basics.specs.Order.{Name, Key}
+use Rattle.basics.specs.Map.{Map, Has, look, put}
+use Rattle.basics.specs.Base.{Bytes, In, isSome, caseOption, if_then_else_}
 use Rattle.basics.specs.Field.{hasTag}
 use Rattle.model.specs.Operation.{Op, Write, write, target}
 use Rattle.model.specs.Image.{encode}
 use Rattle.model.specs.Plan.{commitFault, committedAt}
 use Rattle.answers.specs.Answers.{answer, commit}
-use Rattle.basic_laws.specs.MapLaws.{none≢some}
-use Rattle.cut_rule.specs.Demand.{Renamed, NoneWaits, cutAt, expectedFiles, settled, CutRule, Demand3, MarkedRule, FailingCommit, FailingRule}
+use Rattle.model.specs.Store.{Store, stagingKey}
+use Rattle.basic_laws.specs.MapLaws.{none≢some, key-dec, look-put-other}
+use Rattle.cut_rule.specs.Demand.{NoExtension, Conditions, allWritesDone, NoBackupLeft, Renamed, NoneWaits, cutAt, expectedFiles, settled, CutRule, Demand3, MarkedRule, FailingCommit, FailingRule}
 use Rattle.cut_rule.specs.Kinds.{Suits, AllTrue}
 use Rattle.cut_rule.specs.StoreRule.{Transacts}
 use Rattle.cut_rule.specs.Commit.{SafeAt, treeAfter, after-tidy, cut-heals}
@@ -52,6 +55,34 @@ cut-rule b s ws n out C m e z l =
     by-log : (x : Bool) → treeAfter s ops T x ≡ expectedFiles x s ws
     by-log true = refl
     by-log false = all-done s ws T (k .1)
+
+-- The names from before, and the keys that the Writes put beside them.
+abbrev Plain : Map → Type 0
+Plain t = (d f : Name) → Has (d, f) t → NoExtension d × NoExtension f
+
+module _ (b : Bytes) (s : Store) (ws : List Write) (C : Conditions b s ws) where
+  put-plain : (w : Write) → In w ws → (x : ℕ) (t : Map) → Plain t → Plain (put (target w) x t)
+  put-plain w i x t p d f h = at (key-dec (d, f) (target w))
+    where
+      at : Dec (_≡_ {A = Key} (d, f) (target w)) → NoExtension d × NoExtension f
+      at (yes e) = (
+        subst NoExtension (sym (ap (λ (k : Key). k .0) e)) (C .names (w .collection) [] (C .collections w i) .0),
+        subst NoExtension (sym (ap (λ (k : Key). k .1) e)) (C .keys w i),
+      )
+      at (no n) = p d f (h .0, sym (look-put-other (target w) (d, f) x t n) ∙ h .1)
+
+  written-plain : (l : List Write) → ((w : Write) → In w l → In w ws) → (t : Map) → Plain t → Plain (allWritesDone (s .staging) l t)
+  unfolding allWritesDone
+  written-plain [] i t p = p
+  written-plain (w ∷ l) i t p = written-plain l (λ v j. i v (inr j)) _ (one (look (stagingKey (w .staged)) (s .staging)))
+    where
+      one : (o : Option ℕ) → Plain (caseOption o t (λ x. put (target w) x t))
+      one none = p
+      one (some x) = put-plain w (i w (inl refl)) x t p
+
+pub no-backup-left : NoBackupLeft
+no-backup-left b s ws true C = C .names
+no-backup-left b s ws false C = written-plain b s ws C ws (λ w i. i) (s .tree) (C .names)
 
 -- Demand 3: kind 1 alone has no mark that could be false.
 pub demand-3 : Demand3

@@ -9,10 +9,11 @@
 extern "C" {
 #endif
 
-/* Least lengths of the lent outputs (an image, a key list, a step field), and the most bytes of a log. */
+/* Least lengths of the lent outputs (an image, a key list, a step field, what names a backup), and the most bytes of a log. */
 #define CDA_STORAGE_IMAGE_ROOM 19390
 #define CDA_STORAGE_KEYS_ROOM 8576
 #define CDA_STORAGE_STEP_ROOM 197
+#define CDA_STORAGE_HIT_ROOM 138
 #define CDA_STORAGE_LOG_LIMIT 6952
 
 /* What the functions return: 0, or a refusal, which leaves outputs and counters as they were (but for 14 and 15 of a commit). */
@@ -136,6 +137,11 @@ uint32_t cda_storage_recover_step(
 uint32_t cda_storage_list_keys(
     const uint8_t *image, size_t image_len,
     const uint8_t *collection, size_t collection_len,
+    uint8_t *out, size_t out_len, size_t *out_written);
+
+/* The first backup file in the order of the image, as the fields 0x10 of its directory and 0x11; if no file is one, the first directory with a backup's name, as its field 0x10; nothing if no backup stands. */
+uint32_t cda_storage_find_backup(
+    const uint8_t *image, size_t image_len,
     uint8_t *out, size_t out_len, size_t *out_written);
 
 #ifdef __cplusplus

@@ -1,7 +1,7 @@
-//! The fourteen entries of the port as methods of [`Image`]. They are pure: an image goes in, an answer comes out, and no file
+//! The fifteen entries of the port as methods of [`Image`]. They are pure: an image goes in, an answer comes out, and no file
 //! is touched.
 use crate::{Refusal, field, image::Image, step::Step};
-use cda_storage_sys::{self as sys, IMAGE_ROOM, KEYS_ROOM, Output, STEP_ROOM};
+use cda_storage_sys::{self as sys, HIT_ROOM, IMAGE_ROOM, KEYS_ROOM, Output, STEP_ROOM};
 use std::{error::Error, fmt};
 
 /// A commit that was refused. 14 and 15 also hand back the rolled-back image.
@@ -20,6 +20,31 @@ impl fmt::Display for CommitError {
 }
 
 impl Error for CommitError {}
+
+/// A backup that stands.
+#[derive(Clone, PartialEq, Eq, Hash, Debug)]
+pub enum Backup {
+    /// A file.
+    File {
+        /// Its collection's name.
+        collection: String,
+        /// Its own.
+        name: String,
+        /// Its content number.
+        number: u32,
+    },
+    /// A collection's directory.
+    Directory(String),
+}
+
+impl fmt::Display for Backup {
+    fn fmt(&self, f: &mut fmt::Formatter) -> fmt::Result {
+        match self {
+            Backup::File { collection, name, .. } => write!(f, "{collection}/{name}"),
+            Backup::Directory(name) => write!(f, "{name}/"),
+        }
+    }
+}
 
 /// The two plans of file steps.
 #[derive(Clone, Copy, PartialEq, Eq, Hash, Debug)]
@@ -139,6 +164,18 @@ impl Image {
         refused(number)?;
         let mut fields = &bytes[..];
         Ok(std::iter::from_fn(|| field::name(field::take(&mut fields)?.1)).collect())
+    }
+
+    /// The first backup file in the order of the image; if no file is one, the first directory with a backup's name.
+    pub fn find_backup(&self) -> Result<Option<Backup>, Refusal> {
+        let (number, bytes) = lend(HIT_ROOM, |out| sys::find_backup(self.bytes(), out));
+        refused(number)?;
+        // Its fields are those of an image that holds nothing else.
+        let hit = Image::written(bytes).contents().directories.pop_first();
+        Ok(hit.map(|(collection, mut files)| match files.pop_first() {
+            Some((name, number)) => Backup::File { collection, name, number },
+            None => Backup::Directory(collection),
+        }))
     }
 
     /// The image after n steps of the commit, and step n (none for n = 0).

@@ -289,7 +289,10 @@ fn the_table_holds_on_disk() {
 fn an_interrupted_update_is_told_until_it_is_recovered() {
     let place = Place::with_a();
     place.said("put store db/a new --stop-after 4");
-    assert_eq!(place.done("list store"), "db/\ndb/a.bak 3\nAn update was interrupted here; cda-store recover ends it.\n");
+    assert_eq!(
+        place.done("list store"),
+        "db/\ndb/a.bak 3\nAn update was interrupted here; cda-store recover ends it.\nThe first backup is db/a.bak.\n"
+    );
     let recovered = "   1  rename db/a.bak to db/a\n   2  remove the log\n   3  remove staged 2.tmp\nRecovered in 3 steps.\n";
     assert_eq!(place.done("recover store"), recovered);
     assert_eq!(place.done("list store"), "db/\ndb/a 3\n");

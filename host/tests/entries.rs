@@ -1,8 +1,8 @@
 //! The entries on images, every refusal, and every step in words.
 mod common;
 
-use cda_storage_sys::{self as sys, IMAGE_ROOM, LOG_LIMIT, Output};
-use cda_store::{Contents, Files, Image, Refusal, Step, Write};
+use cda_storage_sys::{self as sys, HIT_ROOM, IMAGE_ROOM, LOG_LIMIT, Output};
+use cda_store::{Backup, Contents, Files, Image, Refusal, Step, Write};
 use common::{OLD_WRITE, RECORDING, crc32, ten_steps};
 use std::collections::BTreeMap;
 
@@ -241,4 +241,17 @@ fn keys_are_listed_lowered() {
     let image = store(&[("db", &[("A", 1), ("a", 2), ("b.bak", 3), ("c.tmp", 4)])]).image().unwrap();
     assert_eq!(image.list_keys("db").unwrap(), ["a", "a"]);
     assert_eq!(image.list_keys("none").unwrap(), [""; 0]);
+}
+
+#[test]
+fn the_first_backup_is_named() {
+    let found = |files: &[(&str, &[(&str, u32)])]| store(files).image().unwrap().find_backup().unwrap();
+    let file = |collection: &str, name: &str, number| Some(Backup::File { collection: collection.into(), name: name.into(), number });
+    let later: &[(&str, u32)] = &[("y.bak", 2), ("z.bak", 3)];
+    assert_eq!(found(&[("a.bak", &[("x", 1)]), ("b", later)]), file("b", "y.bak", 2), "a file before a directory");
+    assert_eq!(found(&[("a.bak", &[("x.bak", 1)]), ("b", later)]), file("a.bak", "x.bak", 1));
+    assert_eq!(found(&[("a", &[("x", 1)]), ("b.bak", &[("y", 2)]), ("c.bak", &[])]), Some(Backup::Directory("b.bak".into())));
+    assert_eq!(found(&[("db", &[("a", 7)])]), None);
+    let (mut room, mut written) = ([0; HIT_ROOM - 1], 0);
+    assert_eq!(sys::find_backup(b"", Output { bytes: &mut room, written: &mut written }), Refusal::OutputTooShort.number());
 }

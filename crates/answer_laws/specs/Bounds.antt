@@ -1,12 +1,12 @@
--- How long the answers are: no image is longer than 19,390 bytes, no key list longer than 8,576 and no step field longer than 197,
--- whatever is lent.
+-- How long the answers are: no image is longer than 19,390 bytes, no key list longer than 8,576, no step field longer than 197 and what names a
+-- backup no longer than 138, whatever is lent.
 use mathlib.Core.Path.{_≡_}
 use Prim.Native.Nat.{ℕ, zero, suc, _+_, _*_, _-_, _≤_}
 use native.Mathlib.Omega.{arith}
 use mathlib.Core.List.{List, [], _∷_, _++_}
 use mathlib.Core.Bool.{Bool, true, false, _||_}
 use lib.ListN.{length, getElem?, length-append, length-map}
-use Rattle.basics.specs.Limits.{imageRoom, keysRoom, stepRoom}
+use Rattle.basics.specs.Limits.{imageRoom, keysRoom, stepRoom, hitRoom}
 use Rattle.basics.specs.Order.{Name, Cmp, lt, eq, gt, cmpName, caseCmp}
 use Rattle.basics.specs.Map.{Map}
 use Rattle.basics.specs.Base.{Bytes, caseOption, if_then_else_, ifEmpty, flatMap}
@@ -17,17 +17,18 @@ use Rattle.model.specs.Step.{Step, zeroSeparated, tagAndNames, stepField, commi
 use Rattle.model.specs.Step
 use Rattle.model.specs.Plan.{commitFault, commitPlan, recoverPlan, recovered, withoutMark}
 use Rattle.model.specs.Record.{Outcome, beginTransaction, discard, recordWrite, recordDelete, recordDeleteAll, recordCreate, recordDeleteCollection, recordCopy, keyList}
-use Rattle.answers.specs.Answers.{Answer, refusal, answer, imageEntry, begin, write, delete, deleteAll, createCollection, deleteCollection, copyCollection, rollback, commit, recover, commitStep, recoverStep, listKeys}
+use Rattle.answers.specs.Answers.{Answer, refusal, answer, imageEntry, begin, write, delete, deleteAll, createCollection, deleteCollection, copyCollection, rollback, commit, recover, commitStep, recoverStep, listKeys, findBackup}
 use Rattle.basic_laws.specs.Tests.{All, in-all, all-every}
 use Rattle.basic_laws.specs.ValidNames.{Sized, Valid, Naming, valid-length, validNaming, restoredNaming}
 use Rattle.laws.specs.TreeLaws.{file-size}
 use Rattle.laws.specs.StoreLaws.{Good}
 use Rattle.laws.specs.LengthLaws.{encode-length}
+use Rattle.laws.specs.BackupLaws.{hit-length}
 use Rattle.laws.specs.Listings.{listed-file}
 use Rattle.laws.specs.StepLaws.{Fits}
 use Rattle.laws.specs.RecordLaws.{Gives, begin-keeps, rollback-keeps, write-keeps, delete-keeps, delete-all-keeps, create-keeps, delete-collection-keeps, copy-keeps}
 use Rattle.laws.specs.WellFormed.{recover-keeps, recovered-keeps, commit-keeps-failed, commit-fits, recover-fits}
-use Rattle.answer_laws.specs.EntryLaws.{commitRefusals, recoverRefusals, commitStepRefusals, recoverStepRefusals, lent-good, on-entry, on-commit, on-recover, on-commit-step, on-recover-step, on-list-keys}
+use Rattle.answer_laws.specs.EntryLaws.{commitRefusals, recoverRefusals, commitStepRefusals, recoverStepRefusals, lent-good, on-entry, on-commit, on-recover, on-commit-step, on-recover-step, on-list-keys, on-find-backup}
 
 -- What an answer writes fits the outputs that it asks for.
 pub record Bounded (a : Answer) : Type 0 where
@@ -172,3 +173,6 @@ list-keys-length c b out = on-list-keys (λ a. length (a .image) ≤ keysRoom) c
         let k = files-count c (s .tree) in
         let e = file-size (s .tree) in
         let m = g .tree .filesFit in omega arith
+
+pub find-backup-length : (b : Bytes) (out : ℕ) → length (findBackup b out .image) ≤ hitRoom
+find-backup-length b out = on-find-backup (λ a. length (a .image) ≤ hitRoom) b out (omega arith) λ s d. hit-length s (lent-good b s d)

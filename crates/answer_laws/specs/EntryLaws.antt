@@ -8,18 +8,19 @@ use mathlib.Core.Bool.{Bool, true, false, _&&_, _||_}
 use mathlib.Core.Logic.{inl, inr}
 use lib.ListN.{length}
 use lib.Dec.{leb}
-use Rattle.basics.specs.Limits.{imageRoom, keysRoom, stepRoom}
+use Rattle.basics.specs.Limits.{imageRoom, keysRoom, stepRoom, hitRoom}
 use Rattle.basics.specs.Order.{Name}
 use Rattle.basics.specs.Map.{Map}
 use Rattle.basics.specs.Base.{Bytes, caseOption, if_then_else_, anyOf, In}
 use Rattle.basics.specs.Name.{validName}
+use Rattle.basics.specs.Field.{encodeFields}
 use Rattle.model.specs.Log.{Journal, absent, recording, committing, journal, whole, truncated, undecodable, tooMany}
-use Rattle.model.specs.Store.{Store, hasBackupFiles}
-use Rattle.model.specs.Image.{encode, decode}
+use Rattle.model.specs.Store.{Store, hasBackupFiles, firstBackup}
+use Rattle.model.specs.Image.{hitFields, encode, decode}
 use Rattle.model.specs.Step.{Step, Fault, fails, full, commitNumber, fieldAt}
 use Rattle.model.specs.Plan.{commitFault, commitPlan, committedAt, isNewArtifact, recoverFault, recoverPlan, recoveredAt, recovered, withoutMark}
 use Rattle.model.specs.Record.{Outcome, refuse, give, transaction, keyList}
-use Rattle.answers.specs.Answers.{Answer, refusal, answer, outcome, onImage, imageEntry, commitStore, commit, recoverStore, recover, stepAnswer, commitStep, recoverStep, listKeys}
+use Rattle.answers.specs.Answers.{Answer, refusal, answer, outcome, onImage, imageEntry, commitStore, commit, recoverStore, recover, stepAnswer, commitStep, recoverStep, listKeys, findBackup}
 use Rattle.basic_laws.specs.MapLaws.{none≢some, some-inj}
 use Rattle.basic_laws.specs.Tests.{All, all-in}
 use Rattle.laws.specs.ImageLaws.{decode-only}
@@ -52,6 +53,9 @@ recoverStepRefusals = 1 ∷ 2 ∷ 11 ∷ 12 ∷ 13 ∷ 16 ∷ []
 
 abbrev pub listKeysRefusals : List ℕ
 listKeysRefusals = 1 ∷ 2 ∷ 6 ∷ []
+
+abbrev pub findBackupRefusals : List ℕ
+findBackupRefusals = 1 ∷ 2 ∷ []
 
 recover-numbers : (l : List ℕ) (j : Journal) (t : Map) (n : ℕ) → recoverFault j t ≡ some n → In n (11 ∷ 12 ∷ 13 ∷ l)
 recover-numbers l absent t n e = none≢some e
@@ -129,3 +133,8 @@ module _ (P : Answer → Type 0) where
   unfolding listKeys
   on-list-keys c b out r h = on-image b (leb keysRoom out) (λ s. if validName c then record { number = 0; image = keyList c s; step = [] } else refusal 6) (r .0, (r .1 .0, tt)) λ s d.
       on-test (validName c) (record { number = 0; image = keyList c s; step = [] }) (refusal 6) (h s d) (r .1 .1 .0)
+
+  -- The search for a backup.
+  pub on-find-backup : (b : Bytes) (out : ℕ) → Refusals findBackupRefusals → ((s : Store) → decode b ≡ some s → P (record { number = 0; image = encodeFields (hitFields (firstBackup (s .tree))); step = [] })) → P (findBackup b out)
+  unfolding findBackup
+  on-find-backup b out r h = on-image b (leb hitRoom out) (λ s. record { number = 0; image = encodeFields (hitFields (firstBackup (s .tree))); step = [] }) (r .0, (r .1 .0, tt)) h

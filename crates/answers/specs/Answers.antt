@@ -4,14 +4,15 @@ use mathlib.Core.List.{List, [], _∷_, _++_}
 use mathlib.Core.Bool.{Bool, false, _&&_}
 use lib.ListN.{length, drop}
 use lib.Dec.{leb}
-use Rattle.basics.specs.Limits.{imageRoom, keysRoom, stepRoom}
+use Rattle.basics.specs.Limits.{imageRoom, keysRoom, stepRoom, hitRoom}
 use Rattle.basics.specs.Order.{Name}
 use Rattle.basics.specs.Map.{Node}
 use Rattle.basics.specs.Base.{Bytes, caseOption, if_then_else_, ifEmpty, flatMap}
 use Rattle.basics.specs.Name.{validName}
+use Rattle.basics.specs.Field.{encodeFields}
 use Rattle.model.specs.Log.{journal}
-use Rattle.model.specs.Store.{Store, hasPendingWork}
-use Rattle.model.specs.Image.{encode, decode}
+use Rattle.model.specs.Store.{Store, firstBackup, hasPendingWork}
+use Rattle.model.specs.Image.{hitFields, encode, decode}
 use Rattle.model.specs.Step.{Step, fieldAt, commitNumber}
 use Rattle.model.specs.Plan.{commitFault, commitPlan, committedAt, recoverFault, recoverPlan, recoveredAt, recovered, withoutMark}
 use Rattle.model.specs.Record.{Outcome, refuse, give, transaction, beginTransaction, discard, recordWrite, recordDelete, recordDeleteAll, recordCreate, recordDeleteCollection, recordCopy, keyList}
@@ -119,6 +120,10 @@ pending b = caseOption (decode b) (record { number = 1; yes? = false }) λ s. re
 -- `cda_storage_list_keys`: 1, 2, 6. A missing collection reads as empty (01, Modules in port order).
 unfoldable pub listKeys : Name → Bytes → ℕ → Answer
 listKeys c b out = onImage b (leb keysRoom out) λ s. if validName c then record { number = 0; image = keyList c s; step = [] } else refusal 6
+
+-- `cda_storage_find_backup`: 1, 2. 02, item 2: the fields of the hit, none where no backup stands.
+unfoldable pub findBackup : Bytes → ℕ → Answer
+findBackup b out = onImage b (leb hitRoom out) λ s. record { number = 0; image = encodeFields (hitFields (firstBackup (s .tree))); step = [] }
 
 -- A number of at most so many digits, in decimal.
 unfoldable pub decimal : ℕ → ℕ → Bytes

@@ -5,7 +5,7 @@ use Prim.Native.String.{String}
 use mathlib.Core.List.{List, [], _∷_, _++_, map}
 use mathlib.Core.Bool.{Bool, true, false, _&&_}
 use lib.ListN.{length, drop, take}
-use Rattle.basics.specs.Limits.{imageRoom, keysRoom, stepRoom}
+use Rattle.basics.specs.Limits.{imageRoom, keysRoom, stepRoom, hitRoom}
 use Rattle.basics.specs.Order.{cmpKey}
 use Rattle.basics.specs.Map.{look, put, del}
 use Rattle.basics.specs.Base.{Bytes, flatMap}
@@ -15,12 +15,12 @@ use Rattle.basics.specs.Field.{littleEndian, fromLittleEndian, encodeField, enc
 use Rattle.basics.specs.Worked.{text, digit, pairs, hex, bit, Row, row, equal, agree}
 use Rattle.model.specs.Operation.{fieldTable, fieldTags, kind, values, tagged, encodePayload, makers, validValue, opOfFields, decodePayload}
 use Rattle.model.specs.Log.{header, entry, validHeader, firstPayload, walk, entries, readJournal, markCommitting, appendOperation}
-use Rattle.model.specs.Store.{dirs, files, validNode, validNodes, validStaged, ascending, wellFormed, hasBackupFiles, hasPendingWork}
-use Rattle.model.specs.Image.{imageFields, encode, treeOf, stagingOf, logOf, storeOf, decode}
+use Rattle.model.specs.Store.{dirs, files, validNode, validNodes, validStaged, ascending, wellFormed, hasBackupFiles, firstBackup, hasPendingWork}
+use Rattle.model.specs.Image.{hitFields, imageFields, encode, treeOf, stagingOf, logOf, storeOf, decode}
 use Rattle.model.specs.Step.{removeDir, renameDir, apply, zeroSeparated, tagAndNames, stepField, stepFault}
 use Rattle.model.specs.Plan.{opSteps, undoSteps, restoreFile, restoreDirectory, removeBackupFile, removeBackupsIn, firstNamings, syncExisting, commitFault, commitPlan, committedAt, isNewArtifact, recoverPlan, recoveredAt, recovered}
 use Rattle.model.specs.Record.{transaction, beginTransaction, discard, recordWrite, keyList}
-use Rattle.answers.specs.Answers.{Answer, Pending, begin, rollback, write, commitStore, commit, recoverStore, recover, commitStep, recoverStep, pending, listKeys, decimal, listingLine, listing}
+use Rattle.answers.specs.Answers.{Answer, Pending, begin, rollback, write, commitStore, commit, recoverStore, recover, commitStep, recoverStep, pending, listKeys, findBackup, decimal, listingLine, listing}
 
 -- An answer as its number, its image and its step field; the pending question's as its number and 1 for yes.
 flat : Answer → Bytes
@@ -74,8 +74,8 @@ table =
     (flat (commit (db 7) imageRoom) ++ flat (rollback (db 7) imageRoom))
     (hex "04 04")
     ∷ row "an output one byte too short: 2"
-    (flat (recover (db 7) 19_389) ++ flat (commitStep 0 tenSteps imageRoom 196) ++ flat (listKeys (text "db") (db 7) 8_575))
-    (hex "02 02 02")
+    (flat (recover (db 7) 19_389) ++ flat (commitStep 0 tenSteps imageRoom 196) ++ flat (listKeys (text "db") (db 7) 8_575) ++ flat (findBackup (db 7) 137))
+    (hex "02 02 02 02")
     ∷ row "a byte behind the image: 1, before 2"
     (flat (recover (db 7 ++ hex "00") 0))
     (hex "01")
@@ -85,6 +85,12 @@ table =
     ∷ row "work is pending while a log stands, not in db/a=7; an image that is refused: 1"
     (asked (pending tenSteps) ++ asked (pending (db 7)) ++ asked (pending (hex "10")))
     (hex "00 01 00 00 01 00")
+    ∷ row "02: the backup that stands after 4 steps, db/a.bak=7"
+    (flat (findBackup (stepOn tenSteps 4 .image) hitRoom))
+    (hex "00 10 02 00 64 62 11 09 00 07 00 00 00 61 2E 62 61 6B")
+    ∷ row "02: no backup stands: nothing is written"
+    (flat (findBackup (db 7) hitRoom))
+    (hex "00")
     ∷ row "the listing of the ten-step case cut after 4"
     (listAt 4)
     (text "answer 0\ndb/\ndb/a 7\n")
@@ -102,10 +108,10 @@ unfolding table flat asked db tenSteps stepOn listAt
     lastDot extension stripExtension backupExtension stagingExtension backupName originalName stripTmp isNameByte refusedNames validName lowerByte lower
     fieldTable fieldTags kind values tagged encodePayload makers validValue opOfFields decodePayload
     header entry validHeader firstPayload walk entries readJournal markCommitting appendOperation
-    cmpKey look put del dirs files validNode validNodes validStaged ascending wellFormed hasBackupFiles hasPendingWork
+    cmpKey look put del dirs files validNode validNodes validStaged ascending wellFormed hasBackupFiles firstBackup hasPendingWork
     imageFields encode treeOf stagingOf logOf storeOf decode
     removeDir renameDir apply zeroSeparated tagAndNames stepField stepFault
     opSteps undoSteps restoreFile restoreDirectory removeBackupFile removeBackupsIn firstNamings syncExisting commitFault commitPlan committedAt isNewArtifact recoverPlan recoveredAt recovered
     transaction beginTransaction discard recordWrite keyList
-    begin rollback write commitStore commit recoverStore recover commitStep recoverStep pending listKeys decimal listingLine listing
+    begin rollback write commitStore commit recoverStore recover commitStep recoverStep pending listKeys findBackup decimal listingLine listing
 worked = agree table refl

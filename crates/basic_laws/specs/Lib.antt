@@ -6,3 +6,4 @@ pub mod NameLaws
 pub mod ValidNames
 pub mod FieldLaws
 pub mod Crc32Laws
+pub mod SearchLaws

@@ -49,6 +49,11 @@ abbrev pub anyOf : {A : Type 0} → (A → Bool) → List A → Bool
 anyOf p [] = false
 anyOf p (a ∷ l) = p a || anyOf p l
 
+-- The first element that passes a test, if any.
+abbrev pub firstOf : {A : Type 0} → (A → Bool) → List A → Option A
+firstOf p [] = none
+firstOf p (a ∷ l) = if p a then some a else firstOf p l
+
 abbrev pub isIn : Bytes → List Bytes → Bool
 isIn n l = anyOf (sameBytes n) l
 

@@ -1,2 +1,3 @@
 pub mod Listed
 pub mod Pending
+pub mod Hits

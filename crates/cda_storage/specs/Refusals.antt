@@ -14,9 +14,9 @@ use Rattle.model.specs.Store.{Store, hasPendingWork}
 use Rattle.model.specs.Image.{decode}
 use Rattle.model.specs.Step.{Fault, fails, full, commitNumber}
 use Rattle.model.specs.Plan.{commitFault}
-use Rattle.answers.specs.Answers.{Answer, Pending, refusal, answer, outcome, begin, write, delete, deleteAll, createCollection, deleteCollection, copyCollection, rollback, commit, commitStep, recover, recoverStep, pending, listKeys}
+use Rattle.answers.specs.Answers.{Answer, Pending, refusal, answer, outcome, begin, write, delete, deleteAll, createCollection, deleteCollection, copyCollection, rollback, commit, commitStep, recover, recoverStep, pending, listKeys, findBackup}
 use Rattle.basic_laws.specs.Tests.{All, in-all}
-use Rattle.answer_laws.specs.EntryLaws.{on-commit, on-recover, on-commit-step, on-recover-step, on-list-keys}
+use Rattle.answer_laws.specs.EntryLaws.{on-commit, on-recover, on-commit-step, on-recover-step, on-list-keys, on-find-backup}
 use Rattle.handover.specs.Contract.{handsBack, Gives, StepGives}
 use Rattle.recording.specs.Asking.{asked, entryOf, numbersOf}
 use Rattle.recording.specs.Laws.{entry-is, asked-cases}
@@ -112,6 +112,9 @@ recover-step-answers n b out stepOut =
 pub list-keys-answers : (c : Name) (b : Bytes) (out : ℕ) → Answered (0 ∷ 1 ∷ 2 ∷ 6 ∷ []) (listKeys c b out)
 list-keys-answers c b out =
     on-list-keys (Answered (0 ∷ 1 ∷ 2 ∷ 6 ∷ [])) c b out (refused _ 1 (inr (inl refl)), (refused _ 2 (inr (inr (inl refl))), (refused _ 6 (inr (inr (inr (inl refl)))), tt))) (λ s d. done _ refl)
+
+pub find-backup-answers : (b : Bytes) (out : ℕ) → Answered (0 ∷ 1 ∷ 2 ∷ []) (findBackup b out)
+find-backup-answers b out = on-find-backup (Answered (0 ∷ 1 ∷ 2 ∷ [])) b out (refused _ 1 (inr (inl refl)), (refused _ 2 (inr (inr (inl refl))), tt)) (λ s d. done _ refl)
 
 -- `cda_storage_has_pending_work` answers 0 or 1.
 pub pending-answers : (b : Bytes) → In {A = ℕ} (pending b .number) (0 ∷ 1 ∷ [])

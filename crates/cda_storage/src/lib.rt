@@ -5,7 +5,7 @@ ghost use mathlib.Core.Path.{_≡_};
 ghost use Rattle.basics.specs.Base.{if_then_else_};
 ghost use Rattle.answers.specs.Answers as answers;
 ghost use Rattle.answers.specs.Answers.{begin, write, delete, deleteAll, createCollection, deleteCollection, copyCollection, rollback};
-ghost use Rattle.answers.specs.Answers.{commit, commitStep, recover, recoverStep, listKeys};
+ghost use Rattle.answers.specs.Answers.{commit, commitStep, recover, recoverStep, listKeys, findBackup};
 ghost use Rattle.handover.specs.Contract.{lent, room, Returns, StepReturns, PendingReturns};
 
 mod keys;
@@ -208,4 +208,26 @@ pub extern "C" fn cda_storage_list_keys(
     ensures { λ r. ⌜ Returns (listKeys (lent collection) (lent image) (room out)) r out written ⌝ }
 {
     keys::list(image, collection, out, written)
+}
+
+// The backup that the search meets first, as fields: 0x10 and 0x11 for a file, 0x10 for a directory, none for no backup. Refusals: 1, 2.
+#[no_mangle]
+pub extern "C" fn cda_storage_find_backup(image: &[u8], out: &mut [u8], written: &mut usize) -> u32
+    ensures { λ r. ⌜ Returns (findBackup (lent image) (room out)) r out written ⌝ }
+{
+    let mut tree = [[0u32; 3]; store::ROOM];
+    let mut staging = [[0u32; 3]; store::ROOM];
+    let o = handover::open_image(
+        image,
+        &mut tree,
+        &mut staging,
+        basics::HIT_ROOM <= out.len(),
+    );
+    if o.number != 0 {
+        return o.number;
+    }
+    let s = o.store;
+    let hit = recovery::search::find_backup(image, &tree, s.tree);
+    *written = encode::put_hit(image, hit, out);
+    0
 }

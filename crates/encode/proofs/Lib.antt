@@ -3,3 +3,4 @@ pub mod Counting
 pub mod Placing
 pub mod Tails
 pub mod Image
+pub mod Hits

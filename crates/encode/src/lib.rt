@@ -1,4 +1,4 @@
-// A store's image, written at the front of the lent output: 01, How a store is handed over.
+// A store's image, written at the front of the lent output: 01, How a store is handed over. And what names a backup, in the fields of an image.
 ghost use mathlib.Core.Path.{_≡_};
 ghost use mathlib.Core.Bool.{false};
 ghost use mathlib.Core.List.{_++_, map};
@@ -7,7 +7,7 @@ ghost use Prim.Native.Nat.{_+_, _-_, _≤_, _<_};
 ghost use lib.ListN.{length, take, drop};
 ghost use Rattle.basics.specs.Field.{littleEndian, encodeField, encodeFields};
 ghost use Rattle.model.specs.Log.{header, markCommitting};
-ghost use Rattle.model.specs.Image.{markField, encode};
+ghost use Rattle.model.specs.Image.{hitFields, markField, encode};
 ghost use Rattle.laws.specs.ImageLaws.{listed};
 ghost use Rattle.field.specs.Writing.{written, field};
 ghost use Rattle.spans.specs.Spans.{nameOf, Sound};
@@ -17,9 +17,11 @@ ghost use Rattle.store.specs.Stores.{storeIn, logBytes, storeOf, SoundLog, Soun
 ghost use Rattle.transaction.specs.Operations.{SoundOp};
 ghost use Rattle.wal.specs.Tails.{withTail, SoundTail};
 ghost use Rattle.wal.specs.declared.Tail.the-variants.{Entry};
+ghost use Rattle.recovery.specs.Searches.{hitOf, SoundHit};
 ghost use Rattle.encode.specs.Logs.{fieldAfter, logStart};
 ghost use Rattle.encode.specs.Sizes.{NodeSize, LogSize};
 ghost use Rattle.encode.specs.Encoding.{Puts};
+use recovery::search::BackupHit;
 use spans::NameRef;
 use store::LogRef;
 use store::Node;
@@ -244,4 +246,26 @@ pub fn encode(
     let b = put_nodes(src, staging, s.staging, true, out, a);
     let c = put_tail(src, log, tail, out, b);
     put_mark(s.open_mark, out, c)
+}
+
+// The fields of a hit: 0x10 and 0x11 for a file, 0x10 for a directory, none for no backup. The answer is how many bytes were written.
+pub fn put_hit(src: &[u8], hit: BackupHit, out: &mut [u8]) -> usize
+    requires { ⌜ SoundHit (now src) hit × (length (encodeFields (hitFields (hitOf (now src) hit))) ≤ length (now out)) ⌝ }
+    ensures { λ r. ⌜ Puts (encodeFields (hitFields (hitOf (now (src .entry)) hit))) 0 (now (out .entry)) (now (out .exit)) r ⌝ }
+{
+    match hit {
+        BackupHit::File(x) => {
+            let dir = x.dir;
+            let file = x.file;
+            let at = 3 + spans::length_of(dir);
+            names::put_name_field(src, dir, out, 0, 0x10);
+            put_numbered(src, file, x.number, out, at, 0x11);
+            at + 7 + spans::length_of(file)
+        }
+        BackupHit::Directory(dir) => {
+            names::put_name_field(src, dir, out, 0, 0x10);
+            3 + spans::length_of(dir)
+        }
+        BackupHit::Nothing => 0,
+    }
 }

@@ -17,8 +17,8 @@ use Rattle.basics.specs.Worked.{text, digit, pairs, hex, bit, times, Row, row, 
 use Rattle.model.specs.Operation as operation
 use Rattle.model.specs.Operation.{Op, fieldTable, fieldTags, kind, values, tagged, encodePayload, makers, validValue, opOfFields, decodePayload}
 use Rattle.model.specs.Log.{header, entry, validHeader, firstPayload, walk, entries, readJournal, markCommitting, appendOperation, Journal, absent, recording, committing, journal, Ending, whole, truncated, undecodable, tooMany}
-use Rattle.model.specs.Store.{Store, dirs, files, validNode, validNodes, validStaged, ascending, wellFormed, hasBackupFiles}
-use Rattle.model.specs.Image.{imageFields, encode, treeOf, stagingOf, logOf, storeOf, decode}
+use Rattle.model.specs.Store.{Store, dirs, files, validNode, validNodes, validStaged, ascending, wellFormed, hasBackupFiles, firstBackup}
+use Rattle.model.specs.Image.{hitFields, imageFields, encode, treeOf, stagingOf, logOf, storeOf, decode}
 use Rattle.model.specs.Step.{removeDir, renameDir, apply, zeroSeparated, tagAndNames, stepField, fieldAt, stepFault, commitNumber}
 use Rattle.model.specs.Plan.{opSteps, undoSteps, restoreFile, restoreDirectory, removeBackupFile, removeBackupsIn, firstNamings, syncExisting, commitFault, commitPlan, committedAt, isNewArtifact, recoverFault, recoverPlan, recoveredAt, recovered}
 use Rattle.model.specs.Record.{Outcome, refuse, give, transaction, beginTransaction, discard, recordWrite, otherCase, caseRenamed, recordDelete, recordDeleteAll, recordCreate, recordDeleteCollection, recordCopy, keyList}
@@ -143,6 +143,10 @@ cutAgain s n m = recovers (recoveredAt m (committedAt n s))
 -- The field of step n of commit.
 stepAt : Store → ℕ → Bytes
 stepAt s n = fieldAt n (commitPlan s)
+
+-- What names the backup that a search meets.
+met : Map → Bytes
+met t = encodeFields (hitFields (firstBackup t))
 
 -- An open transaction without operations.
 begun : Map → Store
@@ -332,22 +336,39 @@ recoveries =
     (done (dir "db" ∷ file "db" "..bak" 1 ∷ []))
     ∷ []
 
+searches : List Row
+unfolding dir file db met
+searches =
+    row "02: the first backup file in image order, b/y.bak=2, though the directory a.bak stands before it"
+    (met (dir "a.bak" ∷ file "a.bak" "x" 1 ∷ dir "b" ∷ file "b" "y.bak" 2 ∷ file "b" "z.bak" 3 ∷ dir "c" ∷ file "c" "w.bak" 4 ∷ []))
+    (hex "10 01 00 62 11 09 00 02 00 00 00 79 2E 62 61 6B")
+    ∷ row "02: a backup file inside a directory that is a backup counts as any other"
+    (met (dir "a.bak" ∷ file "a.bak" "x.bak" 1 ∷ dir "b" ∷ file "b" "y.bak" 2 ∷ []))
+    (hex "10 05 00 61 2E 62 61 6B 11 09 00 01 00 00 00 78 2E 62 61 6B")
+    ∷ row "02: no file is one: the first directory with a backup's name, b.bak"
+    (met (dir "a" ∷ file "a" "x" 1 ∷ dir "b.bak" ∷ file "b.bak" "y" 2 ∷ dir "c.bak" ∷ []))
+    (hex "10 05 00 62 2E 62 61 6B")
+    ∷ row "02: no backup stands in db/a=7: nothing is named"
+    (met (db 7))
+    []
+    ∷ []
+
 table : List Row
-unfolding names logs recordings recoveries
-table = names ++ logs ++ recordings ++ recoveries
+unfolding names logs recordings recoveries searches
+table = names ++ logs ++ recordings ++ recoveries ++ searches
 
 -- Every row computes to what is stated.
 worked : map (λ r. r .computed) table ≡ map (λ r. r .stated) table
-unfolding table names logs recordings recoveries
+unfolding table names logs recordings recoveries searches
     text digit pairs hex bit times row equal
-    ending readAs readLog dir file staged appendAll logged plain withLog recorded into toDb db begun outcome done commits recovers cutAt cutAgain stepAt
+    ending readAs readLog dir file staged appendAll logged plain withLog recorded into toDb db begun outcome done commits recovers cutAt cutAgain stepAt met
     tenSteps markedTen twoWrites failingWrite deletedCopied writtenDeleted truncatedWrite
     polynomial generator addFront divide remainder bitsOf ofBits messageBits complementFirst zeros dividend ieeeCrc32 xor crc32 register feedByte shifts shift addPolynomial
     littleEndian fromLittleEndian encodeField encodeFields fieldsFrom decodeFields hasTag
     lastDot extension stripExtension backupExtension stagingExtension backupName originalName stripTmp isNameByte refusedNames validName lowerByte lower
     fieldTable fieldTags kind values tagged encodePayload makers validValue opOfFields decodePayload
     header entry validHeader firstPayload walk entries readJournal markCommitting appendOperation
-    cmpKey look put del dirs files validNode validNodes validStaged ascending wellFormed hasBackupFiles
+    cmpKey look put del dirs files validNode validNodes validStaged ascending wellFormed hasBackupFiles firstBackup
     imageFields encode treeOf stagingOf logOf storeOf decode
     removeDir renameDir apply zeroSeparated tagAndNames stepField stepFault
     opSteps undoSteps restoreFile restoreDirectory removeBackupFile removeBackupsIn firstNamings syncExisting commitFault commitPlan committedAt isNewArtifact recoverPlan recoveredAt recovered

@@ -8,7 +8,7 @@ use lib.Dec.{leb, eqb}
 use Rattle.basics.specs.Limits.{dirLimit, fileLimit, stagingLimit, logLimit, numberLimit}
 use Rattle.basics.specs.Order.{Name, Key, cmpName, cmpKey, caseCmp}
 use Rattle.basics.specs.Map.{Map, Node, look}
-use Rattle.basics.specs.Base.{Bytes, caseOption, ifEmpty, isSome, sameBytes, allOf, anyOf}
+use Rattle.basics.specs.Base.{Bytes, caseOption, ifEmpty, isSome, sameBytes, allOf, anyOf, firstOf}
 use Rattle.basics.specs.Name.{validName, isBackup}
 
 -- In the tree, directory d stands at (d, []) with number 0, and its file f at (d, f) with its content number.
@@ -75,6 +75,30 @@ wellFormed s =
 -- A directory or a file has a backup's name (`has_backup_files`).
 unfoldable pub hasBackupFiles : Map → Bool
 hasBackupFiles t = anyOf (λ n. isBackup (n .0 .0) || isBackup (n .0 .1)) t
+
+-- What the search for a backup meets. 02, item 2: "With a yes it names its hit"; a file by its directory, its name and its number.
+pub data BackupHit : Type 0 where
+  backupFile : Node → BackupHit
+  backupDirectory : Name → BackupHit
+  noBackup : BackupHit
+
+-- Yes or no.
+abbrev pub isHit : BackupHit → Bool
+isHit (backupFile n) = true
+isHit (backupDirectory d) = true
+isHit noBackup = false
+
+-- A file has a backup's name (a directory's own node has no file name); a directory has one, or the directory of a file.
+abbrev pub isBackupFile : Node → Bool
+isBackupFile n = isBackup (n .0 .1)
+
+abbrev pub inBackupDirectory : Node → Bool
+inBackupDirectory n = isBackup (n .0 .0)
+
+-- 02, item 2: "the first backup file in image order, or if no file is one the first directory with a backup's name". That the first node in such
+-- a directory is the directory's own, and that yes or no is that of `hasBackupFiles`, stands in crate laws (BackupLaws).
+unfoldable pub firstBackup : Map → BackupHit
+firstBackup t = caseOption (firstOf isBackupFile t) (caseOption (firstOf inBackupDirectory t) noBackup (λ n. backupDirectory (n .0 .0))) backupFile
 
 -- 01, Modules in port order: "`has_pending_work` (yes or no)": a log, a backup or a staging file stands.
 unfoldable pub hasPendingWork : Store → Bool

@@ -9,7 +9,7 @@ ghost use Rattle.basics.specs.Base.{isSome, anyOf};
 ghost use Rattle.basics.specs.Map.{look};
 ghost use Rattle.basics.specs.Name.{backupName};
 ghost use Rattle.model.specs.Log.{entries, journal, absent, committing};
-ghost use Rattle.model.specs.Store.{hasBackupFiles, hasPendingWork};
+ghost use Rattle.model.specs.Store.{hasPendingWork};
 ghost use Rattle.model.specs.Plan.{inTurn, inSequence, recoverParts, recoverFault, undoSteps, restoreFile, restoreDirectory, restoreBackups, removeBackupFile, removeBackupsIn, removeBackups, removeStagingFiles, removeStandingLog, isNewArtifact};
 ghost use Rattle.spans.specs.Spans.{nameOf, Sound};
 ghost use Rattle.store.specs.Tables.{tableOf, mapOf, SoundTable};
@@ -21,6 +21,9 @@ ghost use Rattle.transaction.specs.Operations.{opOf, SoundOp};
 ghost use Rattle.wal.specs.Logs.{journalOf, endingOf, opsRead, entriesOf, SoundRead};
 ghost use Rattle.recovery.specs.Walks.{isNewFile, clearFile, clearDir, overFiles, undoWrite, undoCreate, undoCopy, undoAll, cleanUp};
 ghost use Rattle.recovery.specs.Recoveries.{logPart, refusalOf, Recovers};
+
+pub mod search;
+
 use spans::BackupName;
 use spans::NameRef;
 use spans::OriginalName;
@@ -58,38 +61,6 @@ fn has_backup_dir(src: &[u8], t: &Nodes, n: usize, dir: NameRef) -> bool
     }
 }
 
-// Whether any backup stands. 01, Listings and file steps: "The search for a backup leaves both walks at the first hit."
-pub fn has_backup_files(src: &[u8], t: &Nodes, n: usize) -> bool
-    requires { ⌜ SoundTable (now src) (tableOf (now t) n) ⌝ }
-    ensures { λ r. ⌜ r ≡ hasBackupFiles (mapOf (now (src .entry)) (tableOf (now (t .entry)) n)) ⌝ }
-{
-    let mut found = false;
-    let mut i: usize = 0;
-    'directories: while i < n {
-        let x = store::node_at(t, i);
-        let dir = x.dir;
-        if spans::is_backup(src, dir) {
-            found = true;
-            break 'directories;
-        }
-        // The nodes of this directory: its own, whose file name is empty, and those of its files.
-        while i < n {
-            let y = store::node_at(t, i);
-            let of = y.dir;
-            let file = y.file;
-            if !spans::same(src, dir, of) {
-                break;
-            }
-            if spans::is_backup(src, file) {
-                found = true;
-                break 'directories;
-            }
-            i += 1;
-        }
-    }
-    found
-}
-
 // Whether a previous run left work to do: 01, Modules in port order, "`has_pending_work` (yes or no)".
 pub fn has_pending_work(src: &[u8], tree: &Nodes, staging: &Nodes, s: Store) -> bool
     requires { ⌜ SoundStore (now src) (storeIn (now tree) (now staging) s) ⌝ }
@@ -99,7 +70,7 @@ pub fn has_pending_work(src: &[u8], tree: &Nodes, staging: &Nodes, s: Store) -> 
     if log.stands {
         return true;
     }
-    if has_backup_files(src, tree, s.tree) {
+    if search::has_backup_files(src, tree, s.tree) {
         return true;
     }
     s.staging > 0
@@ -572,7 +543,7 @@ fn refusal_of(src: &[u8], t: &Nodes, n: usize, w: WalRead) -> u32
     match ending {
         Ending::Whole => 0,
         Ending::Truncated => {
-            if has_backup_files(src, t, n) {
+            if search::has_backup_files(src, t, n) {
                 return 13;
             }
             if has_new_artifacts(src, t, n, w) {

@@ -6,5 +6,7 @@ pub const IMAGE_ROOM: usize = 19_390;
 pub const KEYS_ROOM: usize = 8_576;
 /// Least length of the lent output for a step field.
 pub const STEP_ROOM: usize = 197;
+/// Least length of the lent output for what names a backup (document 02, item 2).
+pub const HIT_ROOM: usize = 138;
 /// Most bytes of a log; an image with a longer one is refused.
 pub const LOG_LIMIT: usize = 6_952;

@@ -6,7 +6,7 @@ use plain::{
     image::{DIR_LIMIT, FILE_LIMIT, LOG_LIMIT, STAGING_LIMIT, unmarked},
     log::{OPERATION_LIMIT, Status},
 };
-use store::{Call, IMAGE_ROOM, KEYS_ROOM, Lent, Plan, STEP_ROOM};
+use store::{Call, HIT_ROOM, IMAGE_ROOM, KEYS_ROOM, Lent, Plan, STEP_ROOM};
 
 pub fn run(panel: &mut Panel) {
     for length in [1, 59, 60, 61, 63, 64, 65, 66] {
@@ -66,6 +66,7 @@ fn calls(panel: &mut Panel, image: &[u8], name: &Name) {
         Call::Rollback,
         Call::HasPendingWork,
         Call::ListKeys { collection: name.clone() },
+        Call::FindBackup,
     ];
     for call in calls {
         panel.ask(&call, image, Lent::AMPLE);
@@ -145,8 +146,10 @@ fn full_commits(panel: &mut Panel) {
 fn lent_lengths(panel: &mut Panel) {
     let lengths = |room: usize| [0, 1, room - 1, room, room + 1, 2 * room];
     let store = "db/a=7 db/B=2 ~s.tmp=9 recording /write/db/a/s.tmp/1 open";
-    for image in [text::read_store(store).encode(), text::read_store(&store.replace("open", "")).encode(), b"\x10".to_vec()] {
-        for out in lengths(IMAGE_ROOM).into_iter().chain(lengths(KEYS_ROOM)) {
+    let hit = format!("{}/{}.bak={}", "d".repeat(64), "f".repeat(60), u32::MAX);
+    let stores = [store, &store.replace("open", ""), &hit].map(|store| text::read_store(store).encode());
+    for image in stores.into_iter().chain([b"\x10".to_vec()]) {
+        for out in [IMAGE_ROOM, KEYS_ROOM, HIT_ROOM].into_iter().flat_map(lengths) {
             let some = Lent { out, step: STEP_ROOM };
             for call in [
                 Call::Begin,
@@ -162,6 +165,7 @@ fn lent_lengths(panel: &mut Panel) {
                 Call::Recover,
                 Call::ListKeys { collection: b"db".to_vec() },
                 Call::ListKeys { collection: b"".to_vec() },
+                Call::FindBackup,
             ] {
                 panel.ask(&call, &image, some);
             }

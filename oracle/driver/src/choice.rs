@@ -8,7 +8,7 @@ use plain::{
     name::{NAME_LIMIT, is_backup, is_valid},
 };
 use std::collections::{BTreeMap, BTreeSet};
-use store::{Answer, Call, IMAGE_ROOM, KEYS_ROOM, Plan, STEP_ROOM, Store, ask};
+use store::{Answer, Call, HIT_ROOM, IMAGE_ROOM, KEYS_ROOM, Plan, STEP_ROOM, Store, ask};
 
 /// No more questions are chosen, nor more bytes of images, nor longer ones without need; no more of a kind are kept to choose from.
 const QUESTIONS: usize = 3_000;
@@ -41,7 +41,7 @@ const HANDED_BACK: usize = 4;
 /// What is looked at in a question and its answer.
 #[derive(Clone, PartialEq, Eq, PartialOrd, Ord)]
 pub struct Kind {
-    /// 1 to 14, as in crates/questions/src/lib.rt.
+    /// 1 to 15, as in crates/questions/src/lib.rt.
     pub entry: u8,
     pub number: u32,
     /// An index of LOGS.
@@ -161,6 +161,7 @@ pub fn entry(call: &Call) -> (u8, Vec<&Name>) {
         Call::Recover => (12, vec![]),
         Call::RecoverStep(_) => (13, vec![]),
         Call::ListKeys { collection } => (14, vec![collection]),
+        Call::FindBackup => (15, vec![]),
     }
 }
 
@@ -236,7 +237,11 @@ fn signs(question: &Question, answer: &Answer, image: &Image) -> [u8; 7] {
         std::cmp::Ordering::Equal => 1,
         std::cmp::Ordering::Greater => 2,
     };
-    let room = if matches!(question.call, Call::ListKeys { .. }) { KEYS_ROOM } else { IMAGE_ROOM };
+    let room = match question.call {
+        Call::ListKeys { .. } => KEYS_ROOM,
+        Call::FindBackup => HIT_ROOM,
+        _ => IMAGE_ROOM,
+    };
     [
         u8::from(image.open),
         u8::from(!image.staging.is_empty()),

@@ -18,7 +18,7 @@ const TEXT: u8 = 0x40;
 const ASKED: u8 = 0x41;
 const ASKED_BY_DOCUMENTS: u8 = 0x42;
 
-const ENTRIES: [&str; 14] = [
+const ENTRIES: [&str; 15] = [
     "begin",
     "write",
     "delete",
@@ -33,6 +33,7 @@ const ENTRIES: [&str; 14] = [
     "recover",
     "recover_step",
     "list_keys",
+    "find_backup",
 ];
 
 /// As `choice::Kind` numbers them, from 1.

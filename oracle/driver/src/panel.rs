@@ -88,6 +88,11 @@ fn is_of_item_4(q: &Question) -> bool {
     carried_out && log.is_some_and(|log| log::operations(&log).0.iter().any(|operation| operation.mark() == Some(true)))
 }
 
+/// What the original doesn't say of a backup that stands: which (document 02, item 2).
+fn names_a_backup(q: &Question, said: &Answer) -> bool {
+    q.call == Call::FindBackup && said.number == 0 && said.out.as_ref().is_some_and(|out| !out.is_empty())
+}
+
 impl Panel {
     pub fn new(with_original: bool) -> Panel {
         let original = with_original.then(Original::new);
@@ -113,7 +118,9 @@ impl Panel {
         }
         match by_original {
             None => Some(By::Documents),
-            Some(answer) if answer.number == NO_OPINION => ADDED.contains(&said.number).then_some(By::Documents),
+            Some(answer) if answer.number == NO_OPINION => {
+                (ADDED.contains(&said.number) || names_a_backup(&question(), said)).then_some(By::Documents)
+            }
             Some(answer) if answer == said => Some(By::Original),
             Some(answer) if *answer == old(said) => Some(By::ButForMarks),
             Some(_) => is_of_item_4(&question()).then_some(By::Item4),

@@ -1,11 +1,11 @@
 //! Every small case: stores of up to two directories with up to two files each, lists of up to two operations, Writes of both kinds and with
-//! either mark, every cut.
+//! either mark, every cut. Of each store, the backup that it has.
 use crate::panel::Panel;
 use crate::text;
 use plain::{Image, Name, Operation, image::Files, log::Status};
 use std::collections::{BTreeMap, HashSet};
 use std::hash::{DefaultHasher, Hash, Hasher};
-use store::Plan;
+use store::{Call, Lent, Plan};
 
 /// The names of a run. Staging files s and t stand, u doesn't.
 pub struct Names {
@@ -20,6 +20,9 @@ pub const WIDE: Names = Names { dirs: &["c", "c.bak", "d.tmp"], files: &["a", "a
 pub fn run(panel: &mut Panel, names: &Names, every: u64, rest: u64) {
     let (stores, lists) = (stores(names), lists(names));
     let total = (stores.len() * lists.len()) as u64;
+    for store in &stores {
+        panel.ask(&Call::FindBackup, &store.encode(), Lent::AMPLE);
+    }
     let mut seen: HashSet<u64> = HashSet::new();
     for case in (rest..total).step_by(every as usize) {
         let (store, list) = (&stores[case as usize / lists.len()], &lists[case as usize % lists.len()]);

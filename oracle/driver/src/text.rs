@@ -173,6 +173,7 @@ pub fn call(call: &Call) -> String {
         Call::Recover => "recover".into(),
         Call::RecoverStep(n) => format!("recover_step {n}"),
         Call::ListKeys { collection } => words("list_keys", &[collection]),
+        Call::FindBackup => "find_backup".into(),
     }
 }
 
@@ -200,6 +201,7 @@ pub fn read_call(words: &mut std::slice::Iter<String>) -> Call {
         "recover" => Call::Recover,
         "recover_step" => Call::RecoverStep(word().parse().expect("a step number")),
         "list_keys" => Call::ListKeys { collection: read_name(word()) },
+        "find_backup" => Call::FindBackup,
         other => panic!("no entry is called {other}"),
     }
 }

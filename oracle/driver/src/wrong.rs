@@ -1,14 +1,19 @@
-//! Useless stores, most of them from document 01's note to the testers, three of document 02's item 4, in the port's place: the panel must
-//! differ on each.
+//! Useless stores, most of them from document 01's note to the testers, three of document 02's item 4 and two of its item 2, in the port's place:
+//! the panel must differ on each.
 use crate::corners;
 use crate::panel::{Panel, Question};
-use plain::{Image, Plain, image::unmarked, log::map_operations};
+use plain::{
+    Image, Plain,
+    image::{Files, unmarked},
+    log::map_operations,
+    name::is_backup,
+};
 use store::{Call, Out, Plan, Store, pass};
 
 /// Spoils an answer of the plain reading: the call, the lent image, the number, the outputs.
 type Spoil = fn(&Call, &[u8], u32, &mut Out, &mut Out) -> u32;
 
-const WRONG: [(&str, Spoil); 14] = [
+const WRONG: [(&str, Spoil); 16] = [
     ("refuses each call", |_, _, _, _, _| 4),
     ("gives one image always", |_, _, number, out, _| {
         if number == 0 {
@@ -68,7 +73,27 @@ const WRONG: [(&str, Spoil); 14] = [
         Call::Recover => Plain.recover(&unmarked(image), out),
         _ => number,
     }),
+    ("finds a directory before a file", |call, image, number, out, _| {
+        found_in(call, image, number, out, |image| {
+            if image.dirs.keys().any(|dir| is_backup(dir)) {
+                image.dirs.values_mut().for_each(Files::clear);
+            }
+        })
+    }),
+    ("finds in the last directory", |call, image, number, out, _| {
+        found_in(call, image, number, out, |image| image.dirs = image.dirs.pop_last().into_iter().collect())
+    }),
 ];
+
+/// The hit of another store than the lent one.
+fn found_in(call: &Call, image: &[u8], number: u32, out: &mut Out, change: fn(&mut Image)) -> u32 {
+    if *call != Call::FindBackup || number != 0 {
+        return number;
+    }
+    let mut image = Image::decode(image).expect("an image");
+    change(&mut image);
+    Plain.find_backup(&image.encode(), out)
+}
 
 /// Gives the Writes of the log that is handed back this mark.
 fn record_marked(call: &Call, number: u32, out: &mut Out, mark: Option<bool>) -> u32 {
@@ -167,5 +192,8 @@ impl Store for Wrong {
     }
     fn list_keys(&self, image: &[u8], collection: &[u8], out: &mut Out) -> u32 {
         self.one(Call::ListKeys { collection: collection.into() }, image, out)
+    }
+    fn find_backup(&self, image: &[u8], out: &mut Out) -> u32 {
+        self.one(Call::FindBackup, image, out)
     }
 }

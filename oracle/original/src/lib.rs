@@ -1,4 +1,4 @@
-//! The original behind the fourteen entries: an image is put on disk, the original's own code works on it, the disk is read
+//! The original behind the fifteen entries: an image is put on disk, the original's own code works on it, the disk is read
 //! back.
 //!
 //! Where document 01 added a rule, the original has no opinion (`NO_OPINION`): numbers 1, 2, 4, 5, 10, 12, and 6 for a name
@@ -26,7 +26,7 @@ use plain::{
 use std::cell::Cell;
 use std::path::Path;
 use std::time::{Duration, Instant};
-use store::{Answer, Call, IMAGE_ROOM, KEYS_ROOM, Lent, NO_OPINION, Out, Plan, STEP_ROOM, Store, ask};
+use store::{Answer, Call, HIT_ROOM, IMAGE_ROOM, KEYS_ROOM, Lent, NO_OPINION, Out, Plan, STEP_ROOM, Store, ask};
 use tokio::block_on;
 
 pub struct Original {
@@ -419,6 +419,19 @@ impl Store for Original {
             put_field(&mut keys, 0x03, &[key.as_bytes()]);
         }
         out.put(&keys);
+        0
+    }
+
+    /// The original doesn't name its hit, so it has an opinion where no backup stands: its search is what is left of `has_pending_work` without
+    /// log and staging files.
+    fn find_backup(&self, image: &[u8], out: &mut Out) -> u32 {
+        let Some(image) = decode(image, out.bytes.len() >= HIT_ROOM) else { return NO_OPINION };
+        let mut pending = 0;
+        self.has_pending_work(&Image { log: None, staging: Default::default(), ..image }.encode(), &mut pending);
+        if pending != 0 {
+            return NO_OPINION;
+        }
+        out.put(&[]);
         0
     }
 

@@ -1,4 +1,4 @@
-//! A plain reading of document 01, and of item 4 of document 02: a store in memory, on ordered maps, with nothing in mind but the text.
+//! A plain reading of document 01, and of items 2 and 4 of document 02: a store in memory, on ordered maps, with nothing in mind but the text.
 pub mod image;
 pub mod log;
 pub mod name;
@@ -12,7 +12,7 @@ pub use name::Name;
 use log::{Ending, OPERATION_LIMIT, Status};
 use name::{backup, is_backup, is_tmp, is_valid};
 use run::{Recovery, Run, Stop};
-use store::{IMAGE_ROOM, KEYS_ROOM, Out, STEP_ROOM, Store};
+use store::{HIT_ROOM, IMAGE_ROOM, KEYS_ROOM, Out, STEP_ROOM, Store};
 
 pub struct Plain;
 
@@ -266,6 +266,24 @@ impl Store for Plain {
             }
         }
         out.put(&keys);
+        0
+    }
+
+    /// 02, item 2: "the first backup file in image order, or if no file is one the first directory with a backup's name"
+    fn find_backup(&self, image: &[u8], out: &mut Out) -> u32 {
+        let image = match decode(image, out.bytes.len() >= HIT_ROOM) {
+            Ok(image) => image,
+            Err(number) => return number,
+        };
+        let files = || image.dirs.iter().flat_map(|(dir, files)| files.iter().map(move |(file, number)| (dir, file, number)));
+        let mut hit = Vec::new();
+        if let Some((dir, file, number)) = files().find(|(_, file, _)| is_backup(file)) {
+            image::put_field(&mut hit, 0x10, &[dir]);
+            image::put_field(&mut hit, 0x11, &[&number.to_le_bytes(), file]);
+        } else if let Some(dir) = image.dirs.keys().find(|dir| is_backup(dir)) {
+            image::put_field(&mut hit, 0x10, &[dir]);
+        }
+        out.put(&hit);
         0
     }
 }

@@ -54,4 +54,7 @@ impl Store for Port {
     fn list_keys(&self, image: &[u8], collection: &[u8], out: &mut Out) -> u32 {
         sys::list_keys(image, collection, lent(out))
     }
+    fn find_backup(&self, image: &[u8], out: &mut Out) -> u32 {
+        sys::find_backup(image, lent(out))
+    }
 }

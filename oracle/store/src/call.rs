@@ -18,6 +18,7 @@ pub enum Call {
     Recover,
     RecoverStep(u64),
     ListKeys { collection: Name },
+    FindBackup,
 }
 
 /// The two entries that carry out file steps.
@@ -112,6 +113,7 @@ pub fn pass<S: Store + ?Sized>(store: &S, call: &Call, image: &[u8], out: &mut O
         Call::Recover => store.recover(image, out),
         Call::RecoverStep(n) => store.recover_step(image, *n, out, step),
         Call::ListKeys { collection } => store.list_keys(image, collection, out),
+        Call::FindBackup => store.find_backup(image, out),
     }
 }
 

@@ -1,4 +1,4 @@
-//! The fourteen exported entries as a trait, so that the port, the original and the plain reading take the same calls, and
+//! The fifteen exported entries as a trait, so that the port, the original and the plain reading take the same calls, and
 //! the one way in which all of them are asked.
 mod call;
 
@@ -10,6 +10,8 @@ pub type Name = Vec<u8>;
 pub const IMAGE_ROOM: usize = 19_390;
 pub const KEYS_ROOM: usize = 8_576;
 pub const STEP_ROOM: usize = 197;
+/// 02, item 2: the fields of a directory and of a file, with names of 64 bytes.
+pub const HIT_ROOM: usize = 138;
 
 /// What the original answers where it has no rule of its own and nothing to say: the number is document 01's alone.
 pub const NO_OPINION: u32 = 99;
@@ -44,6 +46,7 @@ pub trait Store {
     fn recover(&self, image: &[u8], out: &mut Out) -> u32;
     fn recover_step(&self, image: &[u8], n: u64, out: &mut Out, step: &mut Out) -> u32;
     fn list_keys(&self, image: &[u8], collection: &[u8], out: &mut Out) -> u32;
+    fn find_backup(&self, image: &[u8], out: &mut Out) -> u32;
 
     /// The whole answer, and the answers of the step entry for n = 0, 1, .. up to the first refusal, which is 16 past the end.
     fn plan(&self, plan: Plan, image: &[u8]) -> (Answer, Vec<Answer>) {

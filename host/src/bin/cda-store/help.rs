@@ -19,7 +19,7 @@ const TOPICS: [Topic; 10] = [
         name: "list",
         usage: "list DIR",
         line: "print collections, files and their sizes",
-        more: "Sizes are in bytes. Nothing is changed. A last line says if an interrupted update stands.",
+        more: "Sizes are in bytes. Nothing is changed. Last lines say if an interrupted update stands, and which backup is the first.",
     },
     Topic {
         name: "recover",

@@ -34,6 +34,9 @@ pub fn list(store: &Path) -> Result<String, Failure> {
             Err(refusal) => format!("An update was interrupted here; its recovery gives {refusal}. See cda-store recover --help.\n"),
         };
     }
+    if let Some(backup) = image.find_backup()? {
+        let _ = writeln!(text, "The first backup is {backup}.");
+    }
     Ok(text)
 }
 

@@ -1,25 +1,26 @@
--- `has_backup_files`: neither walk has met a backup yet.
+-- `first_backup_file`: neither walk has met a backup yet.
 use borrow.Author.Needs.{needs}
 use native.Mathlib.Omega.{arith}
 use mathlib.Core.Path.{sym, _∙_}
 use Prim.Native.Nat.{_-_}
 use borrow.Author.Tests.{not-true, not-false}
+use Rattle.model.specs.Store.{isBackupFile}
 use Rattle.store.specs.Tables.{tableOf}
-use Rattle.recovery.proofs.Seek.{Seek, Inside, start, node, enter, moved, next, none-left, dir-hit, file-hit}
-use Rattle.recovery.proofs.has_backup_files.Statement.{statement}
-use Rattle.recovery.proofs.has_backup_files.Tie as tie
+use Rattle.recovery.proofs.Seek.{Seek, Inside, start, node, enter, moved, next, none-left, passes}
+use Rattle.recovery.proofs.search.first_backup_file.Statement.{statement}
+use Rattle.recovery.proofs.search.first_backup_file.Tie as tie
 
 abbrev Inv-loop : tie.InvT-loop
-Inv-loop src t n found₀ i₀ dir found i = Inside src (tableOf t n) dir i₀ found i
+Inv-loop src t n i₀ dir i = Inside src (tableOf t n) dir i₀ i
 
 abbrev μ-loop : tie.MeasureT-loop
-μ-loop src t n found₀ i₀ dir found i = n - i
+μ-loop src t n i₀ dir i = n - i
 
 abbrev Inv-directories : tie.InvT-directories
-Inv-directories src t n found₀ i₀ found i = Seek src (tableOf t n) found i
+Inv-directories src t n i₀ i = Seek isBackupFile src (tableOf t n) i
 
 abbrev μ-directories : tie.MeasureT-directories
-μ-directories src t n found₀ i₀ found i = n - i
+μ-directories src t n i₀ i = n - i
 
 directories-holds : tie.Need-directories-holds Inv-loop μ-loop Inv-directories μ-directories
 directories-holds c = start (c .before .pre)
@@ -27,11 +28,8 @@ directories-holds c = start (c .before .pre)
 node-at-requires : tie.Need-node-at-requires Inv-loop μ-loop Inv-directories μ-directories
 node-at-requires c κs = omega (arith, c .before .directories .inv .sound .sized .room)
 
-is-backup-requires : tie.Need-is-backup-requires Inv-loop μ-loop Inv-directories μ-directories
-is-backup-requires c κs = node (c .before .before .before .directories .inv) (c .before .node-at .ensures) (omega arith) .dir
-
 loop-holds : tie.Need-loop-holds Inv-loop μ-loop Inv-directories μ-directories
-loop-holds c = enter (c .before .before .before .before .before .directories .inv) (c .before .before .before .node-at .ensures) (omega arith) (sym (c .before .is-backup .ensures) ∙ c .if1 .left)
+loop-holds c = enter (c .before .before .before .directories .inv) (c .before .node-at .ensures) (omega arith)
 
 directories-less : tie.Need-directories-less Inv-loop μ-loop Inv-directories μ-directories
 directories-less c = omega arith
@@ -46,13 +44,15 @@ same-requires : tie.Need-same-requires Inv-loop μ-loop Inv-directories μ-direc
 same-requires c κs = (c .before .before .before .before .loop .inv .sound, node (c .before .before .before .before .loop .inv .seek) (c .before .before .node-at2 .ensures) (omega arith) .dir)
 
 directories-less-2 : tie.Need-directories-less-2 Inv-loop μ-loop Inv-directories μ-directories
-directories-less-2 c = omega (arith, moved (c .before .before .before .before .before .before .loop .inv) (c .before .before .before .before .node-at2 .ensures) (sym (c .before .same .ensures) ∙ not-true _ (c .if2 .taken)))
+directories-less-2 c = omega (arith, moved (c .before .before .before .before .before .before .loop .inv) (c .before .before .before .before .node-at2 .ensures) (sym (c .before .same .ensures) ∙ not-true _ (c .if1 .taken)))
 
 directories-again-2 : tie.Need-directories-again-2 Inv-loop μ-loop Inv-directories μ-directories
 directories-again-2 c = c .before .before .before .before .before .before .loop .inv .seek
 
-is-backup-requires-2 : tie.Need-is-backup-requires-2 Inv-loop μ-loop Inv-directories μ-directories
-is-backup-requires-2 c κs = node (c .before .before .before .before .before .before .loop .inv .seek) (c .before .before .before .before .node-at2 .ensures) (omega arith) .file
+is-backup-requires : tie.Need-is-backup-requires Inv-loop μ-loop Inv-directories μ-directories
+is-backup-requires c κs =
+    let s = node (c .before .before .before .before .before .before .loop .inv .seek) (c .before .before .before .before .node-at2 .ensures) (omega arith) in
+    search (needs, s)
 
 add-i : tie.Need-add-i Inv-loop μ-loop Inv-directories μ-directories
 add-i c = search needs
@@ -61,19 +61,16 @@ loop-less : tie.Need-loop-less Inv-loop μ-loop Inv-directories μ-directories
 loop-less c = search needs
 
 loop-again : tie.Need-loop-again Inv-loop μ-loop Inv-directories μ-directories
-loop-again c = next (c .before .before .before .before .before .before .before .before .loop .inv) (c .before .before .before .before .before .before .node-at2 .ensures) (omega arith) (sym (c .before .before .before .same .ensures) ∙ not-false _ (c .before .before .if2 .left)) (sym (c .before .is-backup2 .ensures) ∙ c .if3 .left)
+loop-again c = next (c .before .before .before .before .before .before .before .before .loop .inv) (c .before .before .before .before .before .before .node-at2 .ensures) (omega arith) (sym (c .before .is-backup .ensures) ∙ c .if2 .left)
 
 returns : tie.Need-returns Inv-loop μ-loop Inv-directories μ-directories
 returns c = none-left (c .before .directories .inv) (omega arith)
 
 returns-2 : tie.Need-returns-2 Inv-loop μ-loop Inv-directories μ-directories
-returns-2 c = dir-hit (c .before .before .before .before .before .directories .inv) (c .before .before .before .node-at .ensures) (omega arith) (sym (c .before .is-backup .ensures) ∙ c .if1 .taken)
+returns-2 c = passes (c .before .before .before .before .before .before .before .before .loop .inv .seek) (c .before .before .before .before .before .before .node-at2 .ensures) (omega arith) (sym (c .before .is-backup .ensures) ∙ c .if2 .taken)
 
-returns-3 : tie.Need-returns-3 Inv-loop μ-loop Inv-directories μ-directories
-returns-3 c = file-hit (c .before .before .before .before .before .before .before .before .loop .inv .seek) (c .before .before .before .before .before .before .node-at2 .ensures) (omega arith) (sym (c .before .is-backup2 .ensures) ∙ c .if3 .taken)
-
-pub has-backup-files-spec : {M : Type 1} → statement M
-has-backup-files-spec =
+pub first-backup-file-spec : {M : Type 1} → statement M
+first-backup-file-spec =
     tie.close
     (tie.spec
     Inv-loop
@@ -82,7 +79,6 @@ has-backup-files-spec =
     μ-directories
     directories-holds
     node-at-requires
-    is-backup-requires
     loop-holds
     directories-less
     directories-again
@@ -90,10 +86,9 @@ has-backup-files-spec =
     same-requires
     directories-less-2
     directories-again-2
-    is-backup-requires-2
+    is-backup-requires
     add-i
     loop-less
     loop-again
     returns
-    returns-2
-    returns-3)
+    returns-2)

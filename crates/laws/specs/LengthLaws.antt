@@ -14,7 +14,7 @@ use Rattle.basic_laws.specs.MapLaws.{none≢some, some-inj, look-all}
 use Rattle.basics.specs.Base.{Bytes, caseOption, ifEmpty, flatMap}
 use Rattle.basics.specs.Field.{littleEndian, fromLittleEndian, Field, encodeField, encodeFields, fieldsFrom, decodeFields}
 use Rattle.model.specs.Operation.{Op, fieldTags, kind, values, tagged, encodePayload, opOfFields, decodePayload}
-use Rattle.model.specs.Log.{whole, truncated, undecodable, tooMany, entry, walk, entries, firstPayload, stop, after, recording, readJournal, appendOperation}
+use Rattle.model.specs.Log.{Ending, whole, truncated, undecodable, tooMany, headerShort, entry, walk, entries, firstPayload, firstCause, stop, after, recording, readJournal, appendOperation}
 use Rattle.model.specs.Store.{Store}
 use Rattle.model.specs.Image.{nodeField, stagedField, logField, markField, imageFields, encode}
 use Rattle.basic_laws.specs.Tests.{All, nil≢cons}
@@ -24,7 +24,6 @@ use Rattle.laws.specs.TreeLaws.{NodeGood, size, isFile, isDir, one}
 use Rattle.laws.specs.StoreLaws.{Good, StagedGood, LogFits}
 use Rattle.laws.specs.OperationLaws.{ValidOp, decoded-valid, op-forth}
 use Rattle.laws.specs.AppendLaws.{payload-length, not-whole, journal-parts, entry-length}
-use mathlib.Core.Logic.{inl, inr}
 
 -- How long fields are when joined.
 abbrev pub bulk : List Field → ℕ
@@ -111,20 +110,23 @@ decoded-length p o e = go (fieldsFrom 0 p) refl (unfold decodePayload decodeFiel
 -- A log that is whole is no longer than its operations allow.
 walk-length : (k m : ℕ) (l : Bytes) → walk k m l .end ≡ whole → length l ≤ m + 217 * length (walk k m l .ops)
 unfolding walk
-walk-length k (suc m) [] e = not-whole truncated e (inl refl)
+walk-length k (suc m) [] e = not-whole (truncated headerShort) e refl
 walk-length k (suc m) (x ∷ r) e = let h = walk-length k m r e in omega arith
 walk-length k zero [] e = omega arith
-walk-length zero zero (x ∷ r) e = not-whole tooMany e (inr (inr refl))
+walk-length zero zero (x ∷ r) e = not-whole tooMany e refl
 walk-length (suc k) zero (x ∷ r) e = go (λ m z. walk-length k m r z) (firstPayload (x ∷ r)) e
   where
     at : ((m : ℕ) → walk k m r .end ≡ whole → length r ≤ m + 217 * length (walk k m r .ops)) → (p : Bytes) (q : Option Op) → decodePayload p ≡ q → caseOption q (stop undecodable) (λ o. after o (walk k (7 + length p) r)) .end ≡ whole →
         suc (length r) ≤ 0 + 217 * length (caseOption q (stop undecodable) (λ o. after o (walk k (7 + length p) r)) .ops)
-    at ih p none z e = not-whole undecodable e (inr (inl refl))
+    at ih p none z e = not-whole undecodable e refl
     at ih p (some o) z e = let a = ih (7 + length p) e in let b = decoded-length p o z in omega arith
 
-    go : ((m : ℕ) → walk k m r .end ≡ whole → length r ≤ m + 217 * length (walk k m r .ops)) → (q : Option Bytes) → caseOption q (stop truncated) (λ p. caseOption (decodePayload p) (stop undecodable) (λ o. after o (walk k (7 + length p) r))) .end ≡ whole →
-        suc (length r) ≤ 0 + 217 * length (caseOption q (stop truncated) (λ p. caseOption (decodePayload p) (stop undecodable) (λ o. after o (walk k (7 + length p) r))) .ops)
-    go ih none e = not-whole truncated e (inl refl)
+    broken : Ending
+    broken = truncated (firstCause (x ∷ r))
+
+    go : ((m : ℕ) → walk k m r .end ≡ whole → length r ≤ m + 217 * length (walk k m r .ops)) → (q : Option Bytes) → caseOption q (stop broken) (λ p. caseOption (decodePayload p) (stop undecodable) (λ o. after o (walk k (7 + length p) r))) .end ≡ whole →
+        suc (length r) ≤ 0 + 217 * length (caseOption q (stop broken) (λ p. caseOption (decodePayload p) (stop undecodable) (λ o. after o (walk k (7 + length p) r))) .ops)
+    go ih none e = not-whole broken e refl
     go ih (some p) e = at ih p (decodePayload p) refl e
 
 pub appended-length : (l : Bytes) (ops : List Op) (o : Op) → readJournal l ≡ recording ops whole → length ops < 32 → ValidOp o → length (appendOperation o l) ≤ logLimit

@@ -87,7 +87,7 @@ recording-entries l e = go (validHeader l) (getD l 1 0) (entries l) e
 
 whole-ops : (o : List Op) (e : Ending) → (if isWhole e then some o else none) ≡ recordedOps (recording o (endingOf e))
 whole-ops o Whole = refl
-whole-ops o Truncated = refl
+whole-ops o (Truncated c) = refl
 whole-ops o Undecodable = refl
 whole-ops o TooMany = refl
 

@@ -95,7 +95,7 @@ isRecording (committing o e) = false
 
 abbrev pub isWhole : Ending → Bool
 isWhole Whole = true
-isWhole Truncated = false
+isWhole (Truncated c) = false
 isWhole Undecodable = false
 isWhole TooMany = false
 

@@ -88,7 +88,7 @@ fn is_whole(ending: Ending) -> bool
 {
     match ending {
         Ending::Whole => true,
-        Ending::Truncated => false,
+        Ending::Truncated(_) => false,
         Ending::Undecodable => false,
         Ending::TooMany => false,
     }

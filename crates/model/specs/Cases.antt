@@ -16,17 +16,17 @@ use Rattle.basics.specs.Field.{littleEndian, fromLittleEndian, encodeField, enc
 use Rattle.basics.specs.Worked.{text, digit, pairs, hex, bit, times, Row, row, equal, agree}
 use Rattle.model.specs.Operation as operation
 use Rattle.model.specs.Operation.{Op, fieldTable, fieldTags, kind, values, tagged, encodePayload, makers, validValue, opOfFields, decodePayload}
-use Rattle.model.specs.Log.{header, entry, validHeader, firstPayload, walk, entries, readJournal, markCommitting, appendOperation, Journal, absent, recording, committing, journal, Ending, whole, truncated, undecodable, tooMany}
+use Rattle.model.specs.Log.{header, entry, validHeader, firstPayload, walk, entries, readJournal, markCommitting, appendOperation, Journal, absent, recording, committing, journal, Ending, whole, truncated, undecodable, tooMany, Cause, causeNumber, firstCause}
 use Rattle.model.specs.Store.{Store, dirs, files, validNode, validNodes, validStaged, ascending, wellFormed, hasBackupFiles, firstBackup}
 use Rattle.model.specs.Image.{hitFields, imageFields, encode, treeOf, stagingOf, logOf, storeOf, decode}
 use Rattle.model.specs.Step.{removeDir, renameDir, apply, zeroSeparated, tagAndNames, stepField, fieldAt, stepFault, commitNumber}
 use Rattle.model.specs.Plan.{opSteps, undoSteps, restoreFile, restoreDirectory, removeBackupFile, removeBackupsIn, firstNamings, syncExisting, commitFault, commitPlan, committedAt, isNewArtifact, recoverFault, recoverPlan, recoveredAt, recovered}
 use Rattle.model.specs.Record.{Outcome, refuse, give, transaction, beginTransaction, discard, recordWrite, otherCase, caseRenamed, recordDelete, recordDeleteAll, recordCreate, recordDeleteCollection, recordCopy, keyList}
 
--- A log by how it is read: "absent", or status, number of operations, and 0 whole, 1 truncated, 11, 12.
+-- A log by how it is read: "absent", or status, number of operations, and 0 whole, 1 to 3 how it is truncated, 11, 12.
 ending : Ending → ℕ
 ending whole = 0
-ending truncated = 1
+ending (truncated c) = causeNumber c
 ending undecodable = 11
 ending tooMany = 12
 
@@ -204,10 +204,19 @@ logs =
     (hex "00 00 00")
     ∷ row "payload length 0: truncated [P]"
     (readLog (header 0 ++ entry []))
-    (hex "00 00 01")
+    (hex "00 00 02")
     ∷ row "a byte after the last entry: truncated; earlier operations count"
     (readLog (appendOperation (operation.deleteAll (text "d")) (header 1) ++ hex "00"))
     (hex "01 01 01")
+    ∷ row "02: 1 to 7 bytes behind the last entry are 1, entry header too short"
+    (flatMap (λ n. readLog (header 1 ++ times n (hex "00"))) (1 ∷ 2 ∷ 3 ∷ 4 ∷ 5 ∷ 6 ∷ 7 ∷ []))
+    (times 7 (hex "01 00 01"))
+    ∷ row "02: length 0, and one byte past the end, are 2, payload missing"
+    (readLog (header 1 ++ entry []) ++ readLog (header 1 ++ take 9 (entry (text "xy"))))
+    (hex "01 00 02 01 00 02")
+    ∷ row "02: a changed byte is 3, checksum wrong"
+    (readLog (header 1 ++ take 8 (entry (text "x")) ++ text "y"))
+    (hex "01 00 03")
     ∷ row "right checksum, payload that doesn't decode: 11, not truncated"
     (readLog (header 1 ++ entry (text "x")))
     (hex "01 00 0B")
@@ -367,7 +376,7 @@ unfolding table names logs recordings recoveries searches
     littleEndian fromLittleEndian encodeField encodeFields fieldsFrom decodeFields hasTag
     lastDot extension stripExtension backupExtension stagingExtension backupName originalName stripTmp isNameByte refusedNames validName lowerByte lower
     fieldTable fieldTags kind values tagged encodePayload makers validValue opOfFields decodePayload
-    header entry validHeader firstPayload walk entries readJournal markCommitting appendOperation
+    header entry validHeader firstPayload firstCause walk entries readJournal markCommitting appendOperation
     cmpKey look put del dirs files validNode validNodes validStaged ascending wellFormed hasBackupFiles firstBackup
     imageFields encode treeOf stagingOf logOf storeOf decode
     removeDir renameDir apply zeroSeparated tagAndNames stepField stepFault

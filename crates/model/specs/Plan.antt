@@ -9,7 +9,7 @@ use Rattle.basics.specs.Map.{Map, look}
 use Rattle.basics.specs.Base.{caseOption, if_then_else_, ifEmpty, isSome, ifPresent, ifMissing, isIn, anyOf}
 use Rattle.basics.specs.Name.{backupName, originalName, stripTmp}
 use Rattle.model.specs.Operation.{Op, Write, write, delete, deleteAll, createCollection, deleteCollection, copyCollection, target, backup, stood}
-use Rattle.model.specs.Log.{Journal, absent, recording, committing, journal, opsOf, Ending, whole, truncated, undecodable, tooMany}
+use Rattle.model.specs.Log.{Journal, absent, recording, committing, journal, opsOf, Ending, whole, truncated, undecodable, tooMany, endingCause}
 use Rattle.model.specs.Store.{Store, dirs, files, stagingNames, hasBackupFiles}
 use Rattle.model.specs.Step.{Step, rewriteHeader, syncStaging, syncLog, removeLog, syncJournal, syncCollections, makeDirectory, renameFile, moveStaged, renameDirectory, copyFile, removeFile, removeDirectory, removeStaging, syncDirectory, apply, applyAll, Fault, stepFault}
 
@@ -173,9 +173,16 @@ abbrev pub recoverFault : Journal → Map → Option ℕ
 recoverFault absent t = none
 recoverFault (recording o e) t = none
 recoverFault (committing o whole) t = none
-recoverFault (committing o truncated) t = if hasBackupFiles t || anyOf (isNewArtifact t) o then some 13 else none
+recoverFault (committing o (truncated c)) t = if hasBackupFiles t || anyOf (isNewArtifact t) o then some 13 else none
 recoverFault (committing o undecodable) t = some 11
 recoverFault (committing o tooMany) t = some 12
+
+-- 02, item 1: "Recovery also hands that number back when it discards a truncated Committing log, and 0 whenever else it is done; a Recording log
+-- is still discarded unread."
+abbrev pub discardedCause : Journal → ℕ
+discardedCause absent = 0
+discardedCause (recording o e) = 0
+discardedCause (committing o e) = endingCause e
 
 -- A log that counts as absent goes where it stands.
 abbrev pub removeStandingLog : Store → List Step
@@ -185,7 +192,7 @@ removeStandingLog s = ifPresent (s .log) (removeLog ∷ [])
 -- truncated". Only a whole log is undone; a truncated one that is not refused "is discarded".
 abbrev pub undoParts : List Op → Ending → List (Store → List Step)
 undoParts ops whole = inTurn undoSteps (reverse ops) ∷ restoreBackups ∷ []
-undoParts ops truncated = []
+undoParts ops (truncated c) = []
 undoParts ops undecodable = []
 undoParts ops tooMany = []
 

@@ -294,7 +294,7 @@ recover-ready s f = go (journal (s .log)) (journal-valid (s .log)) (log-there (s
         part (inTurn undoSteps (reverse ops)) (restoreBackups ∷ (λ s. removeLog ∷ []) ∷ removeStagingFiles ∷ []) s g
         (part restoreBackups ((λ s. removeLog ∷ []) ∷ removeStagingFiles ∷ []) u r
         (unlogged (applyAll (restoreBackups u) u) (going-fair (restoreBackups u) u r fu) (going-log (restoreBackups u) u r (going-log xs s g l))))
-    go (committing ops truncated) v h = discard (h tt)
+    go (committing ops (truncated c)) v h = discard (h tt)
     go (committing ops undecodable) v h = discard (h tt)
     go (committing ops tooMany) v h = discard (h tt)
 

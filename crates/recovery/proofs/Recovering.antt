@@ -6,7 +6,7 @@ use Rattle.basics.specs.Base.{Bytes}
 use Rattle.model.specs.Log.{Entries, Journal, committing, entries, journal}
 use Rattle.model.specs.Store as model
 use Rattle.model.specs.Step.{apply}
-use Rattle.model.specs.Plan.{inSequence, recoverParts, recoverFault, recoverPlan, withoutMark}
+use Rattle.model.specs.Plan.{inSequence, recoverParts, recoverFault, discardedCause, recoverPlan, withoutMark}
 use Rattle.store.specs.declared.LogRef.{LogRef}
 use Rattle.store.specs.Words.{Words}
 use Rattle.store.specs.declared.Store.{Store}
@@ -46,7 +46,7 @@ module _ (src : Bytes) (tree staging : Words) (s : Store) {u : Store} {limited :
   started : storeOf src (storeIn tree staging (start .store)) ≡ withoutMark (storeOf src (storeIn tree staging s))
   started = ap (storeOf src) (f .store ∙ ap (storeIn tree staging) e)
 
-  module _ (j : Journal) (at : journal (logBytes src (s .log)) ≡ j) where
+  module _ (j : Journal) (at : journal (logBytes src (s .log)) ≡ j) {c : ℕ} (is : c ≡ discardedCause j) where
     -- The plan of what the log is.
     planned : {r : LentRun} → Follows plain src (inSequence (recoverParts j)) (runIn tree staging start) r → Follows plain src recoverPlan (runIn tree staging start) r
     unfolding recoverPlan
@@ -59,8 +59,11 @@ module _ (src : Bytes) (tree staging : Words) (s : Store) {u : Store} {limited :
       whole = λ l. subst (λ (v : model.Store). Whole apply (recoverPlan v) v (runOf src r)) started (unlimited-whole apply (plainly apply (planned p .does)) (f .stopped) (f .limited ∙ l));
     }
 
-    pub recovers : {t g : Words} {r : Run} → 0 ≡ refusalOf (recoverFault j (mapOf src (tableOf tree (s .tree)))) → Follows plain src (inSequence (recoverParts j)) (runIn tree staging start) (runIn t g r) → Recovers src (storeIn tree staging s) limited n t g (record { number = 0; run = r })
-    recovers z p = record { number = z ∙ ap (λ (k : Journal). refusalOf (recoverFault k (mapOf src (tableOf tree (s .tree))))) (sym at); run = λ h. ran p }
+    told : c ≡ discardedCause (journal (logBytes src (s .log)))
+    told = is ∙ ap discardedCause (sym at)
 
-    pub refuses : {t g : Words} {r : Run} (k : ℕ) → k ≡ refusalOf (recoverFault j (mapOf src (tableOf tree (s .tree)))) → (k ≡ 0 → ⊥) → Recovers src (storeIn tree staging s) limited n t g (record { number = k; run = r })
-    refuses k z h = record { number = z ∙ ap (λ (k : Journal). refusalOf (recoverFault k (mapOf src (tableOf tree (s .tree))))) (sym at); run = λ q. absurd (h q) }
+    pub recovers : {t g : Words} {r : Run} → 0 ≡ refusalOf (recoverFault j (mapOf src (tableOf tree (s .tree)))) → Follows plain src (inSequence (recoverParts j)) (runIn tree staging start) (runIn t g r) → Recovers src (storeIn tree staging s) limited n t g (record { number = 0; cause = c; run = r })
+    recovers z p = record { number = z ∙ ap (λ (k : Journal). refusalOf (recoverFault k (mapOf src (tableOf tree (s .tree))))) (sym at); cause = told; run = λ h. ran p }
+
+    pub refuses : {t g : Words} {r : Run} (k : ℕ) → k ≡ refusalOf (recoverFault j (mapOf src (tableOf tree (s .tree)))) → (k ≡ 0 → ⊥) → Recovers src (storeIn tree staging s) limited n t g (record { number = k; cause = c; run = r })
+    refuses k z h = record { number = z ∙ ap (λ (k : Journal). refusalOf (recoverFault k (mapOf src (tableOf tree (s .tree))))) (sym at); cause = told; run = λ q. absurd (h q) }

@@ -8,7 +8,7 @@ use Rattle.basics.specs.Base.{Bytes, caseOption}
 use Rattle.model.specs.Log.{journal}
 use Rattle.model.specs.Store as model
 use Rattle.model.specs.Step.{apply}
-use Rattle.model.specs.Plan.{withoutMark, recoverFault, recoverPlan}
+use Rattle.model.specs.Plan.{withoutMark, recoverFault, discardedCause, recoverPlan}
 use Rattle.store.specs.Words.{Words}
 use Rattle.store.specs.Stores.{LentStore, storeOf}
 use Rattle.store.specs.declared.LogRef.{LogRef}
@@ -34,7 +34,8 @@ pub record Ran (src : Bytes) (s : LentStore) (limited : Bool) (n : ℕ) (r : Len
   pub cut : limited ≡ true → Cut apply (recoverPlan (withoutMark (storeOf src s))) n (withoutMark (storeOf src s)) (runOf src r)
   pub whole : limited ≡ false → Whole apply (recoverPlan (withoutMark (storeOf src s))) (withoutMark (storeOf src s)) (runOf src r)
 
--- 01, Sixteen numbers: 11, 12 and 13, or the plan.
+-- 01, Sixteen numbers: 11, 12 and 13, or the plan; 02, item 1: the cause.
 pub record Recovers (src : Bytes) (s : LentStore) (limited : Bool) (n : ℕ) (tree staging : Words) (r : Recovered) : Type 0 where
   pub number : r .number ≡ recoverNumber (storeOf src s)
+  pub cause : r .cause ≡ discardedCause (journal (storeOf src s .log))
   pub run : r .number ≡ 0 → Ran src s limited n (runIn tree staging (r .run))

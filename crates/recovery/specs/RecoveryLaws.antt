@@ -24,7 +24,7 @@ fault-none : (j : Journal) (t : Map) → refusalOf (recoverFault j t) ≡ 0 → 
 fault-none absent t h = refl
 fault-none (recording o e) t h = refl
 fault-none (committing o whole) t h = refl
-fault-none (committing o truncated) t h = go (hasBackupFiles t || anyOf (isNewArtifact t) o) h
+fault-none (committing o (truncated c)) t h = go (hasBackupFiles t || anyOf (isNewArtifact t) o) h
   where
     go : (b : Bool) → refusalOf (if_then_else_ {A = Option ℕ} b (some 13) none) ≡ 0 → if_then_else_ {A = Option ℕ} b (some 13) none ≡ none
     go true h = absurd (omega arith)

@@ -542,7 +542,7 @@ fn refusal_of(src: &[u8], t: &Nodes, n: usize, w: WalRead) -> u32
     let ending = w.ending;
     match ending {
         Ending::Whole => 0,
-        Ending::Truncated => {
+        Ending::Truncated(_) => {
             if search::has_backup_files(src, t, n) {
                 return 13;
             }
@@ -592,7 +592,7 @@ fn recover_committing(
             let undone = undo_all(src, tree, staging, run, w);
             clean_up(src, tree, staging, undone)
         }
-        Ending::Truncated | Ending::Undecodable | Ending::TooMany => clean_up(
+        Ending::Truncated(_) | Ending::Undecodable | Ending::TooMany => clean_up(
             src,
             tree,
             staging,
@@ -610,9 +610,11 @@ fn without_mark(s: Store) -> Store
     r
 }
 
-// The number that recovery is refused with, 0 for none, and where that is 0 the run that did its steps.
+// The number that recovery is refused with, 0 for none; the cause of a truncated Committing log, 0 for any other; and where it is not refused
+// the run that did its steps.
 pub struct Recovered {
     pub number: u32,
+    pub cause: u32,
     pub run: Run,
 }
 
@@ -634,23 +636,29 @@ pub fn recover(
     match status {
         Status::Absent => Recovered {
             number: 0,
+            cause: 0,
             run: recover_absent(src, tree, staging, run),
         },
         Status::Recording => Recovered {
             number: 0,
+            cause: 0,
             run: clean_up(src, tree, staging, run),
         },
         Status::Committing => {
             let w = read_log(src, log);
+            let ending = w.ending;
+            let cause = wal::ending_cause(ending);
             let number = refusal_of(src, tree, s.tree, w);
             if number != 0 {
                 return Recovered {
                     number: number,
+                    cause: cause,
                     run: run,
                 };
             }
             Recovered {
                 number: 0,
+                cause: cause,
                 run: recover_committing(src, tree, staging, run, w),
             }
         }

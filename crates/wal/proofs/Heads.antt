@@ -12,13 +12,15 @@ use borrow.Author.Tests.{eq-eqb, ne-eqb, le-leb, lt-leb}
 use Rattle.basics.specs.Base.{Bytes, if_then_else_, sameBytes, atLeast}
 use Rattle.basics.specs.Crc32.{crc32}
 use Rattle.basics.specs.Field.{littleEndian, fromLittleEndian}
-use Rattle.model.specs.Log.{firstPayload}
+use Rattle.model.specs.Log.{Cause, headerShort, payloadMissing, checksumWrong, firstPayload, firstCause}
 use Rattle.basic_laws.specs.FieldLaws.{Byte}
 use Rattle.field.specs.Reading.{u32At}
 use Rattle.field.proofs.Fields.{number-there}
 use Rattle.transaction.specs.Operations.{part}
 use Rattle.transaction.proofs.Same.{and-right}
-use Rattle.wal.specs.Logs.{payloadAt, EntryAt}
+use Rattle.wal.specs.Logs.{payloadAt, causeOf, EntryAt}
+use Rattle.wal.specs.declared.Cause as code
+use Rattle.wal.specs.declared.Cause.the-variants.{HeaderShort, PayloadMissing, ChecksumWrong}
 use Rattle.wal.specs.declared.Entry.the-variants.{Payload, Truncated}
 use Rattle.wal.proofs.Checksums.{same-number, enough, too-few}
 
@@ -45,12 +47,17 @@ module _ (log : Bytes) (at : ℕ) where
   unfolding firstPayload whole
   first n e = rw (e, drop-drop 4 at log, drop-drop 8 at log)
 
-  truncated : (n : ℕ) → n ≡ fromLittleEndian (take 4 (drop (at + 4) log)) → whole n ≡ false → EntryAt log at Truncated
-  truncated n e h = record { bounded = tt; same = sym (first n e ∙ rw h) }
+  -- What is missing of it, by the same tests.
+  unfoldable missing : ℕ → Cause
+  missing n = if atLeast 8 (drop at log) then (if leb 1 n && atLeast n (drop (at + 8) log) then checksumWrong else payloadMissing) else headerShort
 
-  pub no-head : length log - at < 8 → EntryAt log at Truncated
-  unfolding whole
-  no-head h = truncated (fromLittleEndian (take 4 (drop (at + 4) log))) refl (rw (too-few 8 (drop at log) (omega (arith, length-drop at log))))
+  truncated : (c : code.Cause) (n : ℕ) → n ≡ fromLittleEndian (take 4 (drop (at + 4) log)) → whole n ≡ false → causeOf c ≡ missing n → EntryAt log at (Truncated c)
+  unfolding missing firstCause
+  truncated c n e h k = record { bounded = tt; same = sym (first n e ∙ rw h); told = k ∙ rw (e, drop-drop 4 at log, drop-drop 8 at log) }
+
+  pub no-head : length log - at < 8 → EntryAt log at (Truncated HeaderShort)
+  unfolding whole missing
+  no-head h = let f = too-few 8 (drop at log) (omega (arith, length-drop at log)) in truncated HeaderShort (fromLittleEndian (take 4 (drop (at + 4) log))) refl (rw f) (rw f)
 
 -- What `entry_at` knows once it has read the length, and once the checksum is computed.
 pub record Headed (log : Bytes) (at n : ℕ) : Type 0 where
@@ -73,13 +80,15 @@ module _ {log : Bytes} {at n : ℕ} (w : Headed log at n) where
   has-head : atLeast 8 (drop at log) ≡ true
   has-head = enough 8 (drop at log) (omega (arith, w .head, length-drop at log))
 
-  pub no-payload : n ≡ 0 → EntryAt log at Truncated
-  unfolding whole
-  no-payload z = truncated log at n size (rw (has-head, z))
+  pub no-payload : n ≡ 0 → EntryAt log at (Truncated PayloadMissing)
+  unfolding whole missing
+  no-payload z = truncated log at PayloadMissing n size (rw (has-head, z)) (rw (has-head, z))
 
-  pub cut-off : length log - (at + 8) < n → EntryAt log at Truncated
-  unfolding whole
-  cut-off h = truncated log at n size (rw (has-head, too-few n (drop (at + 8) log) (omega (arith, length-drop (at + 8) log)), and-right (leb 1 n)))
+  pub cut-off : length log - (at + 8) < n → EntryAt log at (Truncated PayloadMissing)
+  unfolding whole missing
+  cut-off h =
+      let f = too-few n (drop (at + 8) log) (omega (arith, length-drop (at + 8) log)) in
+      truncated log at PayloadMissing n size (rw (has-head, f, and-right (leb 1 n))) (rw (has-head, f, and-right (leb 1 n)))
 
 positive : (n : ℕ) → (n ≡ 0 → ⊥) → 1 ≤ n
 positive zero z = absurd (z refl)
@@ -98,11 +107,16 @@ module _ {log : Bytes} {at n end crc : ℕ} (w : Framed log at n end crc) where
       let s : crc ≡ crc32 (take n (drop (at + 8) log)) = w .right ∙ ap crc32 (sym (part-there log (at + 8) end (omega arith) (omega arith)) ∙ payload) in
       rw (has-head (w .headed), le-leb 1 n (positive n (w .some-bytes)), enough n (drop (at + 8) log) (omega (arith, length-drop (at + 8) log)), ← s) (same-number log at crc (w .bytes) (omega arith) (w .fits))
 
-  pub wrong-crc : (u32At log at ≡ crc → ⊥) → EntryAt log at Truncated
-  wrong-crc q = truncated log at n (size (w .headed)) (checked ∙ ne-eqb (u32At log at) crc q)
+  there : leb 1 n && atLeast n (drop (at + 8) log) ≡ true
+  there = rw (le-leb 1 n (positive n (w .some-bytes)), enough n (drop (at + 8) log) (omega (arith, w .inside, length-drop (at + 8) log)))
+
+  pub wrong-crc : (u32At log at ≡ crc → ⊥) → EntryAt log at (Truncated ChecksumWrong)
+  unfolding missing
+  wrong-crc q = truncated log at ChecksumWrong n (size (w .headed)) (checked ∙ ne-eqb (u32At log at) crc q) (rw (has-head (w .headed), there))
 
   pub is-entry : u32At log at ≡ crc → EntryAt log at (Payload (at + 8) end)
   is-entry q = record {
     bounded = (refl, (omega (arith, w .end-is, positive n (w .some-bytes)), omega (arith, w .end-is, w .inside, w .headed .head)));
     same = ap some payload ∙ sym (first log at n (size (w .headed)) ∙ rw (checked ∙ eq-eqb (u32At log at) crc q));
+    told = tt;
   }

@@ -23,6 +23,7 @@ use Rattle.transaction.proofs.Lists.{map-append, all-set}
 use Rattle.transaction.proofs.Payloads.{part-drop, in-bounds, decoded-there}
 use Rattle.wal.specs.Logs.{journalOf, EntryAt, endingOf, loggedOf, entriesOf, SoundLogged, entriesAt, ReadsLog, WalksLog}
 use Rattle.wal.specs.declared.Status.{Status}
+use Rattle.wal.specs.declared.Cause.{Cause}
 use Rattle.wal.specs.declared.Entry.{Entry}
 use Rattle.wal.specs.declared.Entry.the-variants as entry
 use Rattle.wal.specs.declared.Ending.{Ending}
@@ -47,11 +48,11 @@ module _ (l : Bytes) (at : ℕ) where
     unfolding walk
     walk-more = rw (drop-cons l at 0 h)
 
-    walk-entry : (k : ℕ) → walk (suc k) 0 (drop at l) ≡ caseOption (firstPayload (drop at l)) (stop model.truncated) (λ p. caseOption (decodePayload p) (stop model.undecodable) (λ o. after o (walk k (7 + length p) (drop (suc at) l))))
+    walk-entry : (k : ℕ) → walk (suc k) 0 (drop at l) ≡ caseOption (firstPayload (drop at l)) (stop (model.truncated (model.firstCause (drop at l)))) (λ p. caseOption (decodePayload p) (stop model.undecodable) (λ o. after o (walk k (7 + length p) (drop (suc at) l))))
     unfolding walk
     walk-entry k = rw (drop-cons l at 0 h)
 
-    pub walk-truncated : (k : ℕ) → firstPayload (drop at l) ≡ none → walk (suc k) 0 (drop at l) ≡ stop model.truncated
+    pub walk-truncated : (k : ℕ) → firstPayload (drop at l) ≡ none → walk (suc k) 0 (drop at l) ≡ stop (model.truncated (model.firstCause (drop at l)))
     walk-truncated k e = walk-entry k ∙ rw e
 
     module _ (k : ℕ) (p : Bytes) (e : firstPayload (drop at l) ≡ some p) where
@@ -120,10 +121,10 @@ module _ {src : Bytes} {first end : ℕ} {ops : List Logged} {at n : ℕ} (w : W
         ends f (rw z (walk-more (take end src) at (omega (arith, log-length))))
 
     module _ (h : at < end) (m : n < 32) where
-      pub at-truncated : {e : Entry} {r : WalRead} → EntryAt (take end src) at e → e ≡ entry.Truncated → (r .ops ≡ ops) × ((r .len ≡ n) × (r .ending ≡ code.Truncated)) → WalksLog src first end r
-      at-truncated {e} x z f =
-          let y : EntryAt (take end src) at entry.Truncated = rw z at x in
-          ends f (rw (fuel m) (walk-truncated (take end src) at (omega (arith, log-length)) (32 - (n + 1)) (sym (y .same))))
+      pub at-truncated : {e : Entry} {c : Cause} {r : WalRead} → EntryAt (take end src) at e → e ≡ entry.Truncated c → (r .ops ≡ ops) × ((r .len ≡ n) × (r .ending ≡ code.Truncated c)) → WalksLog src first end r
+      at-truncated {e} {c} x z f =
+          let y : EntryAt (take end src) at (entry.Truncated c) = rw z at x in
+          ends f (rw (fuel m, y .told) (walk-truncated (take end src) at (omega (arith, log-length)) (32 - (n + 1)) (sym (y .same))))
 
       module _ (c : length src ≤ 0xFFFF) {e : Entry} {from to : ℕ} {d : Decoded} (x : EntryAt (take end src) at e) (z : e ≡ entry.Payload from to) (q : Decodes src from to d) where
         found : EntryAt (take end src) at (entry.Payload from to)

@@ -8,12 +8,14 @@ use lib.ListN.{length, take, drop}
 use lib.Dec.{leb}
 use Rattle.basics.specs.Base.{Bytes, if_then_else_}
 use Rattle.model.specs.Operation.{Op}
-use Rattle.model.specs.Log.{Entries, Journal, absent, recording, committing, stop, firstPayload, entries}
+use Rattle.model.specs.Log.{Entries, Journal, absent, recording, committing, stop, firstPayload, firstCause, entries}
 use Rattle.model.specs.Log as model
 use Rattle.basic_laws.specs.Tests.{All}
 use Rattle.transaction.specs.Operations.{opOf, SoundOp, inBounds, part}
 use Rattle.wal.specs.declared.Status.{Status}
 use Rattle.wal.specs.declared.Status.the-variants.{Absent, Recording, Committing}
+use Rattle.wal.specs.declared.Cause.{Cause}
+use Rattle.wal.specs.declared.Cause.the-variants.{HeaderShort, PayloadMissing, ChecksumWrong}
 use Rattle.wal.specs.declared.Entry.{Entry}
 use Rattle.wal.specs.declared.Entry.the-variants as entry
 use Rattle.wal.specs.declared.Ending.{Ending}
@@ -34,21 +36,33 @@ payloadAt log start end = if leb start end && leb end (length log) then part log
 -- The payload whose bounds an answer holds.
 abbrev pub entryOf : Bytes → Entry → Option Bytes
 entryOf log (entry.Payload start end) = some (part log start end)
-entryOf log entry.Truncated = none
+entryOf log (entry.Truncated c) = none
 
 -- A payload stands behind the eight bytes of its entry's head, and is not empty.
 abbrev pub Bounded : Bytes → ℕ → Entry → Type 0
 Bounded log at (entry.Payload start end) = (start ≡ at + 8) × ((start < end) × (end ≤ length log))
-Bounded log at entry.Truncated = Unit {0}
+Bounded log at (entry.Truncated c) = Unit {0}
+
+-- The causes, by the model's names.
+abbrev pub causeOf : Cause → model.Cause
+causeOf HeaderShort = model.headerShort
+causeOf PayloadMissing = model.payloadMissing
+causeOf ChecksumWrong = model.checksumWrong
+
+-- An entry that is not whole says how it is broken.
+abbrev pub Told : Bytes → ℕ → Entry → Type 0
+Told log at (entry.Payload start end) = Unit {0}
+Told log at (entry.Truncated c) = causeOf c ≡ firstCause (drop at log)
 
 -- What `entry_at` answers.
 pub record EntryAt (log : Bytes) (at : ℕ) (e : Entry) : Type 0 where
   pub bounded : Bounded log at e
   pub same : entryOf log e ≡ firstPayload (drop at log)
+  pub told : Told log at e
 
 abbrev pub endingOf : Ending → model.Ending
 endingOf code.Whole = model.whole
-endingOf code.Truncated = model.truncated
+endingOf (code.Truncated c) = model.truncated (causeOf c)
 endingOf code.Undecodable = model.undecodable
 endingOf code.TooMany = model.tooMany
 

@@ -1,10 +1,10 @@
 // The log: wal.rs. 01, How a store is handed over: the header and the entries; Corners, wal.rs.
 ghost use mathlib.Core.Path.{_≡_};
 ghost use Rattle.model.specs.Operation.{encodePayload};
-ghost use Rattle.model.specs.Log.{header, entry, entries, readJournal};
+ghost use Rattle.model.specs.Log.{causeNumber, endingCause, header, entry, entries, readJournal};
 ghost use Rattle.field.specs.Writing.{written};
 ghost use Rattle.transaction.specs.Operations.{opOf, Bounds, WritesOp};
-ghost use Rattle.wal.specs.Logs.{journalOf, payloadAt, EntryAt, ReadsLog, WalksLog};
+ghost use Rattle.wal.specs.Logs.{journalOf, payloadAt, causeOf, endingOf, EntryAt, ReadsLog, WalksLog};
 use spans::NameRef;
 use transaction::Decoded;
 use transaction::Operation;
@@ -26,16 +26,23 @@ pub enum Status {
     Committing,
 }
 
-// An entry: where its payload starts and ends; or it is cut off or broken.
-pub enum Entry {
-    Payload(usize, usize),
-    Truncated,
+// How an entry is broken. 02, item 1: "1 entry header too short, 2 payload missing (length 0 or past the end), 3 checksum wrong."
+pub enum Cause {
+    HeaderShort,
+    PayloadMissing,
+    ChecksumWrong,
 }
 
-// How the walk through the entries ended: at the log's end, at a truncated entry, at an undecodable payload (11), at a byte too many (12).
+// An entry: where its payload starts and ends; or how it is broken.
+pub enum Entry {
+    Payload(usize, usize),
+    Truncated(Cause),
+}
+
+// How the walk through the entries ended: at the log's end, at a truncated entry and how, at an undecodable payload (11), at a byte too many (12).
 pub enum Ending {
     Whole,
-    Truncated,
+    Truncated(Cause),
     Undecodable,
     TooMany,
 }
@@ -121,24 +128,24 @@ pub fn payload(log: &[u8], start: usize, end: usize) -> &[u8]
     &log[start..end]
 }
 
-// The entry that stands at `at`. 01, Corners, wal.rs: what is truncated.
+// The entry that stands at `at`. 01, Corners, wal.rs: what is truncated; 02, item 1: the tests in this order.
 pub fn entry_at(log: &[u8], at: usize) -> Entry
     ensures { λ r. ⌜ EntryAt (now (log .entry)) at r ⌝ }
 {
     if field::left(log.len(), at) < ENTRY_HEADER_SIZE {
-        return Entry::Truncated;
+        return Entry::Truncated(Cause::HeaderShort);
     }
     let start = at + ENTRY_HEADER_SIZE;
     let len = field::u32_at(log, at + 4) as usize;
     if len == 0 {
-        return Entry::Truncated;
+        return Entry::Truncated(Cause::PayloadMissing);
     }
     if field::left(log.len(), start) < len {
-        return Entry::Truncated;
+        return Entry::Truncated(Cause::PayloadMissing);
     }
     let end = start + len;
     if field::u32_at(log, at) != crc32::hash(payload(log, start, end)) {
-        return Entry::Truncated;
+        return Entry::Truncated(Cause::ChecksumWrong);
     }
     Entry::Payload(start, end)
 }
@@ -185,6 +192,29 @@ pub fn entry_from(log: &[u8], at: usize) -> Entry
     Walker::new(log).advance(at).next()
 }
 
+// The number of a cause.
+fn cause_number(cause: Cause) -> u32
+    ensures { λ r. ⌜ r ≡ causeNumber (causeOf cause) ⌝ }
+{
+    match cause {
+        Cause::HeaderShort => 1,
+        Cause::PayloadMissing => 2,
+        Cause::ChecksumWrong => 3,
+    }
+}
+
+// The number of the cause that an ending tells, 0 for none.
+pub fn ending_cause(ending: Ending) -> u32
+    ensures { λ r. ⌜ r ≡ endingCause (endingOf ending) ⌝ }
+{
+    match ending {
+        Ending::Whole => 0,
+        Ending::Truncated(cause) => cause_number(cause),
+        Ending::Undecodable => 0,
+        Ending::TooMany => 0,
+    }
+}
+
 // The answer of a walk.
 fn ended(ops: [Logged; basics::OPERATION_LIMIT], len: usize, ending: Ending) -> WalRead
     ensures { λ r. ⌜ (r .ops ≡ ops) × ((r .len ≡ len) × (r .ending ≡ ending)) ⌝ }
@@ -209,15 +239,20 @@ fn walk_entries(src: &[u8], first: usize, end: usize) -> WalRead
         if end <= at {
             return ended(ops, n, Ending::Whole);
         }
-        let Entry::Payload(from, to) = entry_from(log, at) else {
-            return ended(ops, n, Ending::Truncated);
-        };
-        let Decoded::Is(op) = transaction::decode_operation(src, from, to) else {
-            return ended(ops, n, Ending::Undecodable);
-        };
-        ops[n] = Logged { op: op };
-        at = to;
-        n += 1;
+        let found = entry_from(log, at);
+        match found {
+            Entry::Truncated(cause) => {
+                return ended(ops, n, Ending::Truncated(cause));
+            }
+            Entry::Payload(from, to) => {
+                let Decoded::Is(op) = transaction::decode_operation(src, from, to) else {
+                    return ended(ops, n, Ending::Undecodable);
+                };
+                ops[n] = Logged { op: op };
+                at = to;
+                n += 1;
+            }
+        }
     }
     if at < end {
         return ended(ops, n, Ending::TooMany);

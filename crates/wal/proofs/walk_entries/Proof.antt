@@ -29,17 +29,17 @@ returns c = at-end (c .before .before .before .loop .inv) (omega arith) (omega a
 entry-from-requires : tie.Need-entry-from-requires Inv-loop μ-loop
 entry-from-requires c κs = search needs
 
-enum-known-from : tie.Need-enum-known-from Inv-loop μ-loop
-enum-known-from c = search needs
-
-enum-told : tie.Need-enum-told Inv-loop μ-loop
-enum-told c = search needs
+enum-known-found : tie.Need-enum-known-found Inv-loop μ-loop
+enum-known-found c = search needs
 
 ended-requires-2 : tie.Need-ended-requires-2 Inv-loop μ-loop
 ended-requires-2 c κs = search needs
 
 returns-2 : tie.Need-returns-2 Inv-loop μ-loop
-returns-2 c = at-truncated (c .before .before .before .before .before .before .loop .inv) (omega arith) (omega arith) (omega arith) (c .before .before .before .entry-from .ensures) (c .before .enum-told .given .1) (c .ended2 .ensures)
+returns-2 c = at-truncated (c .before .before .before .before .before .before .before .loop .inv) (omega arith) (omega arith) (omega arith) (c .before .before .before .before .entry-from .ensures) (c .before .before .found .given .1) (c .ended2 .ensures)
+
+enum-known-found-2 : tie.Need-enum-known-found-2 Inv-loop μ-loop
+enum-known-found-2 c = search needs
 
 decode-operation-requires : tie.Need-decode-operation-requires Inv-loop μ-loop
 decode-operation-requires c κs = search needs
@@ -47,14 +47,14 @@ decode-operation-requires c κs = search needs
 enum-known-op : tie.Need-enum-known-op Inv-loop μ-loop
 enum-known-op c = search needs
 
-enum-told-2 : tie.Need-enum-told-2 Inv-loop μ-loop
-enum-told-2 c = search needs
+enum-told : tie.Need-enum-told Inv-loop μ-loop
+enum-told c = search needs
 
 ended-requires-3 : tie.Need-ended-requires-3 Inv-loop μ-loop
 ended-requires-3 c κs = search needs
 
 returns-3 : tie.Need-returns-3 Inv-loop μ-loop
-returns-3 c = at-undecodable (c .before .before .before .before .before .before .before .before .before .before .loop .inv) (omega arith) (omega arith) (omega arith) (omega arith) (c .before .before .before .before .before .before .before .entry-from .ensures) (c .before .before .before .before .before .from .given .1) (c .before .before .before .decode-operation .ensures) (c .before .enum-told2 .given .1) (c .ended3 .ensures)
+returns-3 c = at-undecodable (c .before .before .before .before .before .before .before .before .before .before .loop .inv) (omega arith) (omega arith) (omega arith) (omega arith) (c .before .before .before .before .before .before .before .entry-from .ensures) (c .before .before .before .before .before .found2 .given .1) (c .before .before .before .decode-operation .ensures) (c .before .enum-told .given .1) (c .ended3 .ensures)
 
 mul-ops : tie.Need-mul-ops Inv-loop μ-loop
 mul-ops c = search needs
@@ -69,7 +69,7 @@ loop-less : tie.Need-loop-less Inv-loop μ-loop
 loop-less c = search needs
 
 loop-again : tie.Need-loop-again Inv-loop μ-loop
-loop-again c = at-operation (c .before .before .before .before .before .before .before .before .before .before .loop .inv) (omega arith) (omega arith) (omega arith) (omega arith) (c .before .before .before .before .before .before .before .entry-from .ensures) (c .before .before .before .before .before .from .given .1) (c .before .before .before .decode-operation .ensures) _ (c .before .op .given .1)
+loop-again c = at-operation (c .before .before .before .before .before .before .before .before .before .before .loop .inv) (omega arith) (omega arith) (omega arith) (omega arith) (c .before .before .before .before .before .before .before .entry-from .ensures) (c .before .before .before .before .before .found2 .given .1) (c .before .before .before .decode-operation .ensures) _ (c .before .op .given .1)
 
 ended-requires-4 : tie.Need-ended-requires-4 Inv-loop μ-loop
 ended-requires-4 c κs = search needs
@@ -94,13 +94,13 @@ walk-entries-spec =
     ended-requires
     returns
     entry-from-requires
-    enum-known-from
-    enum-told
+    enum-known-found
     ended-requires-2
     returns-2
+    enum-known-found-2
     decode-operation-requires
     enum-known-op
-    enum-told-2
+    enum-told
     ended-requires-3
     returns-3
     mul-ops

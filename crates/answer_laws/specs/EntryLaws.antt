@@ -61,7 +61,7 @@ recover-numbers : (l : List ℕ) (j : Journal) (t : Map) (n : ℕ) → recoverFa
 recover-numbers l absent t n e = none≢some e
 recover-numbers l (recording o x) t n e = none≢some e
 recover-numbers l (committing o whole) t n e = none≢some e
-recover-numbers l (committing o truncated) t n e = go (hasBackupFiles t || anyOf (isNewArtifact t) o) e
+recover-numbers l (committing o (truncated c)) t n e = go (hasBackupFiles t || anyOf (isNewArtifact t) o) e
   where
     go : (c : Bool) → if_then_else_ c (some 13) none ≡ some n → In n (11 ∷ 12 ∷ 13 ∷ l)
     go true e = inr (inr (inl (sym (some-inj e))))

@@ -1,4 +1,9 @@
 pub mod EntryLaws
+pub mod CauseLaws
 pub mod Bounds
 pub mod Accepted
 pub mod Exceptions
+pub mod DecimalLaws
+pub mod Collections
+pub mod InventoryReader
+pub mod InventoryRoom

@@ -14,7 +14,7 @@ use Rattle.model.specs.Log.{journal}
 use Rattle.model.specs.Store.{Store, firstBackup, hasPendingWork}
 use Rattle.model.specs.Image.{hitFields, encode, decode}
 use Rattle.model.specs.Step.{Step, fieldAt, commitNumber}
-use Rattle.model.specs.Plan.{commitFault, commitPlan, committedAt, recoverFault, recoverPlan, recoveredAt, recovered, withoutMark}
+use Rattle.model.specs.Plan.{commitFault, commitPlan, committedAt, recoverFault, discardedCause, recoverPlan, recoveredAt, recovered, withoutMark}
 use Rattle.model.specs.Record.{Outcome, refuse, give, transaction, beginTransaction, discard, recordWrite, recordDelete, recordDeleteAll, recordCreate, recordDeleteCollection, recordCopy, keyList}
 
 -- The number (0 is done), the bytes written to the output, and those written to the step output.
@@ -92,6 +92,10 @@ recoverStore s = caseOption (recoverFault (journal (s .log)) (s .tree)) (answer 
 -- `cda_storage_recover`: 1, 2, 11, 12, 13.
 unfoldable pub recover : Bytes → ℕ → Answer
 recover b out = onImage b (leb imageRoom out) recoverStore
+
+-- 02, item 1: how the log broke that recovery discards, where its number is 0. The entries do not hand it out yet.
+unfoldable pub recoverCause : Bytes → ℕ
+recoverCause b = caseOption (decode b) 0 λ s. discardedCause (journal (s .log))
 
 -- 01, Sixteen numbers: "16. The step number is past the plan's end."
 abbrev pub stepAnswer : ℕ → List Step → Store → Answer

@@ -21,6 +21,7 @@ use Rattle.model.specs.Step.{removeDir, renameDir, apply, zeroSeparated, tagAnd
 use Rattle.model.specs.Plan.{opSteps, undoSteps, restoreFile, restoreDirectory, removeBackupFile, removeBackupsIn, firstNamings, syncExisting, commitFault, commitPlan, committedAt, isNewArtifact, recoverPlan, recoveredAt, recovered}
 use Rattle.model.specs.Record.{transaction, beginTransaction, discard, recordWrite, keyList}
 use Rattle.answers.specs.Answers.{Answer, Pending, begin, rollback, write, commitStore, commit, recoverStore, recover, commitStep, recoverStep, pending, listKeys, findBackup, decimal, listingLine, listing}
+use Rattle.answers.specs.Inventory.{contents, collections, escaped, quoted, object, fileMember, collectionMember, inventoryText, inventory}
 
 -- An answer as its number, its image and its step field; the pending question's as its number and 1 for yes.
 flat : Answer → Bytes
@@ -97,6 +98,15 @@ table =
     ∷ row "the listing of an image that is refused"
     (listing (hex "10"))
     (text "answer 1\n")
+    ∷ row "the inventory of db/a=7, and of an empty store"
+    (flat (inventory (db 7) 14) ++ flat (inventory [] 2))
+    (0 ∷ text "{\"db\":{\"a\":7}}" ++ 0 ∷ text "{}")
+    ∷ row "the inventory of a directory named by a double quote, its files number 10 and b; staging file, log and open mark are not shown"
+    (flat (inventory (hex "10 01 00 22 11 05 00 0A 00 00 00 22 11 05 00 FF FF FF FF 62 10 01 00 7A 12 05 00 01 00 00 00 73 13 00 00 14 00 00") 99))
+    (0 ∷ text "{\"\\\"\":{\"\\\"\":10,\"b\":4294967295},\"z\":{}}")
+    ∷ row "the inventory with one byte too few: 2; of an image that is refused: 1, before 2"
+    (flat (inventory (db 7) 13) ++ flat (inventory [] 1) ++ flat (inventory (hex "10") 0))
+    (hex "02 02 01")
     ∷ []
 
 -- Every row computes to what is stated.
@@ -114,4 +124,5 @@ unfolding table flat asked db tenSteps stepOn listAt
     opSteps undoSteps restoreFile restoreDirectory removeBackupFile removeBackupsIn firstNamings syncExisting commitFault commitPlan committedAt isNewArtifact recoverPlan recoveredAt recovered
     transaction beginTransaction discard recordWrite keyList
     begin rollback write commitStore commit recoverStore recover commitStep recoverStep pending listKeys findBackup decimal listingLine listing
+    contents collections escaped quoted object fileMember collectionMember inventoryText inventory
 worked = agree table refl

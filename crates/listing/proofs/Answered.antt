@@ -28,10 +28,10 @@ use Rattle.recovery.specs.Recoveries.{Recovers}
 use Rattle.recovery.specs.RecoveryLaws as recovery
 use Rattle.decode.specs.declared.Decoded.{Decoded}
 use Rattle.decode.specs.Decoding.{Decodes}
-use Rattle.listing.specs.Writing.{Writes}
+use Rattle.text.specs.Writing.{Writes}
 use Rattle.listing.specs.Lines.{numberEnd, answerLine, linesOf, textOf}
 use Rattle.listing.specs.Room.{done-number}
-use Rattle.listing.proofs.Decimal.{two-digits}
+use Rattle.answer_laws.specs.DecimalLaws.{two-digits}
 
 -- Recovery's number has at most two digits.
 small : (b : Bytes) → recover b imageRoom .number < 100

@@ -1,4 +1,3 @@
-pub mod Decimal
 pub mod Shapes
 pub mod Counting
 pub mod Placing

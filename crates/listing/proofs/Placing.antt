@@ -13,7 +13,7 @@ use Rattle.store.specs.Words.{blank}
 use Rattle.store.specs.Tables.{Table, nodeOf, mapOf, SoundTable}
 use Rattle.store.proofs.Lists.{drop-zero}
 use Rattle.store.proofs.Read.{sound-read}
-use Rattle.listing.specs.Writing.{writtenCount, Writes}
+use Rattle.text.specs.Writing.{writtenCount, Writes}
 use Rattle.listing.specs.Lines.{answerLine, linesOf, textOf, LineSize, LinesSize}
 use Rattle.listing.proofs.Counting.{lineAt, linesFrom, next-line, next-length, no-line}
 

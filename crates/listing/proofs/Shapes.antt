@@ -15,7 +15,8 @@ use Rattle.spans.specs.Spans.{nameOf, lengthOf}
 use Rattle.spans.proofs.Parts.{length-name}
 use Rattle.store.specs.declared.Node.{Node}
 use Rattle.store.specs.Tables.{nodeOf, SoundNode}
-use Rattle.listing.specs.Lines.{numberEnd, answerLine, Digits, LineSize}
+use Rattle.text.specs.Digits.{Digits}
+use Rattle.listing.specs.Lines.{numberEnd, answerLine, LineSize}
 
 -- A space, a number and a line feed.
 module _ {n k : ℕ} (d : Digits n k) where

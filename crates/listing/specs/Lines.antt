@@ -26,12 +26,6 @@ linesOf t = flatMap listingLine t
 abbrev pub textOf : ℕ → Map → Bytes
 textOf n t = answerLine n ++ linesOf t
 
--- A number has so many digits, and needs no more places.
-pub record Digits (n k : ℕ) : Type 0 where
-  pub bound : k ≤ 10
-  pub same : decimal k n ≡ decimal 10 n
-  pub size : length (decimal k n) ≡ k
-
 abbrev pub lineBound : ℕ
 lineBound = 4_107
 

@@ -4,7 +4,7 @@ use mathlib.Core.Path.{_≡_, refl, sym, ap, _∙_}
 use mathlib.Core.Bool.{Bool, true, false}
 use mathlib.Core.List.{[], _∷_, _++_}
 use mathlib.Core.Option.{Option, none, some}
-use Prim.Native.Nat.{ℕ, zero, suc, _+_, _*_, _/_, _%_, _≤_}
+use Prim.Native.Nat.{ℕ, _+_, _*_, _≤_}
 use native.Mathlib.Omega.{arith}
 use lib.ListN.{length, drop, length-append}
 use lib.Dec.{leb}
@@ -24,20 +24,12 @@ use Rattle.laws.specs.TreeLaws.{NodeGood, size, isFile, isDir}
 use Rattle.laws.specs.StoreLaws.{Tree}
 use Rattle.laws.specs.WellFormed.{recover-keeps, recovered-keeps}
 use Rattle.answer_laws.specs.EntryLaws.{lent-good}
+use Rattle.answer_laws.specs.DecimalLaws.{decimal-length}
 use Rattle.field.proofs.Written.{length-written}
-use Rattle.listing.specs.Writing.{writtenCount, Writes, in-room}
+use Rattle.text.specs.Writing.{writtenCount, Writes, in-room}
 
 abbrev pub listingRoom : ℕ
 listingRoom = 19_113
-
-decimal-length : (k n : ℕ) → length (decimal k n) ≤ k
-unfolding decimal
-decimal-length zero n = omega arith
-decimal-length (suc k) n = go (leb n 9) (decimal-length k (n / 10))
-  where
-    go : (t : Bool) → length (decimal k (n / 10)) ≤ k → length (if t then (0x30 + n) ∷ [] else decimal k (n / 10) ++ (0x30 + n % 10) ∷ []) ≤ suc k
-    go true h = omega arith
-    go false h = omega (arith, length-append (decimal k (n / 10)) ((0x30 + n % 10) ∷ []))
 
 line-length : (d f : Name) (x : ℕ) → length (listingLine ((d, f), x)) ≡ length d + 2 + ifEmpty f 0 (length f + 1 + length (decimal 10 x))
 unfolding listingLine

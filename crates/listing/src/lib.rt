@@ -1,54 +1,20 @@
 // The text of the listing program, written at the front of the lent output: 01, Listings and file steps.
 ghost use mathlib.Core.Path.{_≡_};
-ghost use Prim.Native.Nat.{_+_, _%_, _≤_};
+ghost use Prim.Native.Nat.{_+_, _≤_};
 ghost use lib.ListN.{length};
-ghost use Rattle.answers.specs.Answers.{decimal, listingLine, listing};
+ghost use Rattle.answers.specs.Answers.{listingLine, listing};
 ghost use Rattle.field.specs.Writing.{written};
 ghost use Rattle.store.specs.Tables.{tableOf, nodeOf, mapOf, SoundNode, Sized, SoundTable};
-ghost use Rattle.listing.specs.Writing.{Writes};
-ghost use Rattle.listing.specs.Lines.{numberEnd, answerLine, linesOf, textOf, Digits, LineSize, LinesSize};
+ghost use Rattle.text.specs.Writing.{Writes};
+ghost use Rattle.listing.specs.Lines.{numberEnd, answerLine, linesOf, textOf, LineSize, LinesSize};
 use store::Node;
 use store::Nodes;
-
-// How many digits a number has in decimal.
-fn digits(n: u32) -> usize
-    ensures { λ r. ⌜ Digits n r ⌝ }
-{
-    let mut rest = n;
-    let mut k: usize = 1;
-    while 9 < rest {
-        rest = rest / 10;
-        k += 1;
-    }
-    k
-}
-
-// The last digit of a number.
-fn last_digit(n: u32) -> u8
-    ensures { λ r. ⌜ r ≡ 0x30 + n % 10 ⌝ }
-{
-    0x30 + (n % 10) as u8
-}
-
-// A number in decimal written at `at`, from its last digit to its first.
-fn put_decimal(n: u32, out: &mut [u8], at: usize)
-    requires { ⌜ at + length (decimal 10 n) ≤ length (now out) ⌝ }
-    ensures { λ _. ⌜ now (out .exit) ≡ written at (decimal 10 n) (now (out .entry)) ⌝ }
-{
-    let mut i = digits(n);
-    let mut rest = n;
-    while 0 < i {
-        i -= 1;
-        out[at + i] = last_digit(rest);
-        rest = rest / 10;
-    }
-}
 
 // How many bytes the end of a line has that has a number.
 fn number_size(n: u32) -> usize
     ensures { λ r. ⌜ (r ≤ 12) × (r ≡ length (numberEnd n)) ⌝ }
 {
-    2 + digits(n)
+    2 + text::digits(n)
 }
 
 // A space, a number in decimal and a line feed written at `at`.
@@ -56,9 +22,9 @@ fn put_number(n: u32, out: &mut [u8], at: usize)
     requires { ⌜ at + length (numberEnd n) ≤ length (now out) ⌝ }
     ensures { λ _. ⌜ now (out .exit) ≡ written at (numberEnd n) (now (out .entry)) ⌝ }
 {
-    let k = digits(n);
+    let k = text::digits(n);
     field::put_u8(out, at, b' ');
-    put_decimal(n, out, at + 1);
+    text::put_decimal(n, out, at + 1);
     field::put_u8(out, at + 1 + k, b'\n');
 }
 

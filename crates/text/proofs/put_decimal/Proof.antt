@@ -1,9 +1,9 @@
 -- `put_decimal` meets its contract: the last digit is stored first. The invariant: the first i digits are left to write.
 use native.Mathlib.Omega.{arith}
-use Rattle.listing.proofs.Decimal.{Spelling, spelling, spelled-digit, all-spelled}
+use Rattle.text.proofs.Decimal.{Spelling, spelling, spelled-digit, all-spelled}
 use borrow.Author.Needs.{needs}
-use Rattle.listing.proofs.put_decimal.Statement.{statement}
-use Rattle.listing.proofs.put_decimal.Tie as tie
+use Rattle.text.proofs.put_decimal.Statement.{statement}
+use Rattle.text.proofs.put_decimal.Tie as tie
 
 abbrev Inv-loop : tie.InvT-loop
 Inv-loop n out₀ at i₀ rest₀ out i rest = Spelling n at out₀ out rest i

@@ -2,47 +2,19 @@
 use mathlib.Core.Path.{_≡_, refl, sym, ap, _∙_}
 use mathlib.Core.Bool.{Bool, true, false}
 use mathlib.Core.List.{[], _∷_, _++_, append-nil, append-assoc}
-use Prim.Native.Nat.{ℕ, zero, suc, _+_, _*_, _-_, _/_, _%_, _≤_, _<_}
+use Prim.Native.Nat.{ℕ, zero, suc, _+_, _-_, _/_, _%_, _≤_, _<_}
 use native.Mathlib.Omega.{arith}
 use native.Mathlib.Numerals.{add-one}
 use lib.ListN.{length, take, drop, set, length-append, length-set}
 use lib.Seq.{length-take-le, append-snoc, set-split, take-set-le, drop-at}
 use lib.Dec.{leb}
-use borrow.Author.Tests.{le-leb, lt-leb, leb-true, leb-false}
+use borrow.Author.Tests.{leb-true, leb-false}
 use Rattle.basics.specs.Base.{Bytes}
 use Rattle.answers.specs.Answers.{decimal}
 use Rattle.field.specs.Writing.{written}
 use Rattle.field.proofs.Written.{written-room, written-nil}
-use Rattle.listing.specs.Lines.{Digits}
-
--- No place for a digit; a number of one digit; one of more.
-no-digits : (n : ℕ) → decimal 0 n ≡ []
-unfolding decimal
-no-digits n = refl
-
-one-digit : (k n : ℕ) → n ≤ 9 → decimal (suc k) n ≡ (0x30 + n) ∷ []
-unfolding decimal
-one-digit k n h = rw (le-leb n 9 h)
-
-more-digits : (k n : ℕ) → 9 < n → decimal (suc k) n ≡ decimal k (n / 10) ++ (0x30 + n % 10) ∷ []
-unfolding decimal
-more-digits k n h = rw (lt-leb n 9 h)
-
--- No number below 100 has three digits.
-pub two-digits : (n : ℕ) → n < 100 → decimal 2 n ≡ decimal 10 n
-two-digits n h = go (leb n 9) refl
-  where
-    go : (t : Bool) → leb n 9 ≡ t → decimal 2 n ≡ decimal 10 n
-    go true e = let l : n ≤ 9 = leb-true n 9 e in one-digit 1 n l ∙ sym (one-digit 9 n l)
-    go false e =
-        let l : 9 < n = leb-false n 9 e in
-        let m : n / 10 ≤ 9 = omega arith in
-        more-digits 1 n l ∙ ap (λ (d : Bytes). d ++ (0x30 + n % 10) ∷ []) (one-digit 0 (n / 10) m ∙ sym (one-digit 8 (n / 10) m)) ∙ sym (more-digits 9 n l)
-
--- One more than the greatest number of so many digits.
-abbrev pub tens : ℕ → ℕ
-tens zero = 1
-tens (suc k) = 10 * tens k
+use Rattle.answer_laws.specs.DecimalLaws.{no-digits, one-digit, more-digits, tens}
+use Rattle.text.specs.Digits.{Digits}
 
 -- The loop of `digits`: behind the digits of `rest` stand k - 1 more, and at most `left` are not yet counted.
 pub record Shortening (n rest k : ℕ) : Type 0 where

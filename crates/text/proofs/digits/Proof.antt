@@ -1,9 +1,9 @@
 -- `digits` meets its contract: each turn takes the last digit away.
 use borrow.Author.Needs.{needs}
 use native.Mathlib.Omega.{arith}
-use Rattle.listing.proofs.Decimal.{Shortening, shortening, shortened, in-places, all-digits}
-use Rattle.listing.proofs.digits.Statement.{statement}
-use Rattle.listing.proofs.digits.Tie as tie
+use Rattle.text.proofs.Decimal.{Shortening, shortening, shortened, in-places, all-digits}
+use Rattle.text.proofs.digits.Statement.{statement}
+use Rattle.text.proofs.digits.Tie as tie
 
 abbrev Inv-loop : tie.InvT-loop
 Inv-loop n rest₀ k₀ rest k = Shortening n rest k

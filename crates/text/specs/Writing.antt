@@ -1,4 +1,4 @@
--- What the listing leaves in the lent output.
+-- What a text leaves in the lent output.
 use mathlib.Core.Path.{_≡_, _∙_}
 use mathlib.Core.List.{_++_}
 use Prim.Native.Nat.{ℕ, _≤_}

@@ -343,7 +343,7 @@ fn a_damaged_log_is_named_and_two_ways_are_told() {
             place.fails(1, line, why);
             place.fails(1, line, "cda-store recover --restore");
         }
-        assert!(place.done("list store").ends_with("cda-store recover --help.\n"));
+        assert!(place.done("list store").ends_with("cda-store recover --help.\nThe first backup is db/a.bak.\n"));
 
         let told = place.done("recover --restore store");
         assert!(told.starts_with("   1  remove db/a\n   2  rename db/a.bak to db/a\n   3  remove the log\n"), "{told}");

@@ -85,5 +85,5 @@ fn the_command_tells_it() {
     let (status, told) = run("recover");
     assert!(status == 1 && told.starts_with(&format!("cda-store: {sentence}\n")), "{told}");
     let listed = "db/\ndb/a 3\ndb/a.bak 3\nAn update was interrupted here; its recovery gives ";
-    assert_eq!(run("list"), (0, format!("{listed}{sentence}. See cda-store recover --help.\n")));
+    assert_eq!(run("list"), (0, format!("{listed}{sentence}. See cda-store recover --help.\nThe first backup is db/a.bak.\n")));
 }

@@ -30,8 +30,9 @@ fn it_shows_an_update_its_cuts_and_a_recovery() {
     assert!(text.contains("\n11 cuts: 8 earlier, 3 later.\n"), "{text}");
     assert!(only("cda-store put store db/faults faults.2 --stop-after 5").starts_with("Stopped after step 5; "), "{text}");
     assert!(only("cda-store recover store").ends_with("\nRecovered in 3 steps."), "{text}");
-    let between = "db/\ndb/faults 22\ndb/faults.bak 15\nAn update was interrupted here; cda-store recover ends it.";
-    assert_eq!(answers(&text, "cda-store list store"), ["db/\ndb/faults 15", between, "db/\ndb/faults 15"]);
+    let interrupted = "An update was interrupted here; cda-store recover ends it.\nThe first backup is db/faults.bak.";
+    let between = format!("db/\ndb/faults 22\ndb/faults.bak 15\n{interrupted}");
+    assert_eq!(answers(&text, "cda-store list store"), ["db/\ndb/faults 15", &between, "db/\ndb/faults 15"]);
     assert_eq!(only("cat store/collections/db/faults"), "engine, brakes");
     assert!(text.contains("\n== Read on\nhost/README.md "), "{text}");
     assert_eq!(fs::read_dir(&temporary.0).unwrap().count(), 0, "its folder is removed");

@@ -16,6 +16,7 @@ module _ {image : Bytes} {tree staging : Words} {o : Opened} (w : Opens image tr
   unfolding pending
   pending-refused h = let b = w .broken refl h in record { number = b .1 ∙ rw (b .0); answer = rw (b .0) }
 
-  pub pending-gives : o .number ≡ 0 → {p p' : ℕ} {yes : Bool} → yes ≡ hasPendingWork (storeOf image (storeIn tree staging (o .store))) → p' ≡ (if yes then 1 else 0) → PendingGives (pending image) 0 p p'
+  pub pending-gives : o .number ≡ 0 → {p p' : ℕ} {yes : Bool} → yes ≡ hasPendingWork (storeOf image (storeIn tree staging (o .store))) → p' ≡ (if yes then 1 else 0)
+      → PendingGives (pending image) 0 p p'
   unfolding pending
   pending-gives z e q = record { number = rw (w .held z .accepted); answer = q ∙ rw (w .held z .accepted, e) }

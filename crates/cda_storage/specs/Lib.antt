@@ -3,3 +3,4 @@ pub mod CutRule
 pub mod Again
 pub mod Steps
 pub mod Refusals
+pub mod Demand1

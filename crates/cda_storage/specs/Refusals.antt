@@ -14,9 +14,10 @@ use Rattle.model.specs.Store.{Store, hasPendingWork}
 use Rattle.model.specs.Image.{decode}
 use Rattle.model.specs.Step.{Fault, fails, full, commitNumber}
 use Rattle.model.specs.Plan.{commitFault}
-use Rattle.answers.specs.Answers.{Answer, Pending, refusal, answer, outcome, begin, write, delete, deleteAll, createCollection, deleteCollection, copyCollection, rollback, commit, commitStep, recover, recoverStep, pending, listKeys, findBackup}
+use Rattle.answers.specs.Answers.{Answer, Pending, refusal, answer, outcome}
+use Rattle.answers.specs.Answers.{begin, write, delete, deleteAll, createCollection, deleteCollection, copyCollection, rollback, commit, commitStep, recover, recoverStep, pending, listKeys, findBackup}
 use Rattle.basic_laws.specs.Tests.{All, in-all}
-use Rattle.answer_laws.specs.EntryLaws.{on-commit, on-recover, on-commit-step, on-recover-step, on-list-keys, on-find-backup}
+use Rattle.answer_laws.specs.EntryLaws.{commitStepRefusals, recoverRefusals, recoverStepRefusals, listKeysRefusals, on-commit, on-recover, on-commit-step, on-recover-step, on-list-keys, on-find-backup}
 use Rattle.handover.specs.Contract.{handsBack, Gives, StepGives}
 use Rattle.recording.specs.Asking.{asked, entryOf, numbersOf}
 use Rattle.recording.specs.Laws.{entry-is, asked-cases}
@@ -35,7 +36,8 @@ module _ {l : List ℕ} {a : Answer} (w : Answered l a) where
       let e = w .alone (ap handsBack (sym (g .number)) ∙ h) in
       (g .image ∙ rw e, g .count ∙ rw (ap handsBack (sym (g .number)) ∙ h))
 
-  pub step-untouched : {n : ℕ} {out out' : Bytes} {written written' : ℕ} {step step' : Bytes} {stepWritten stepWritten' : ℕ} → StepGives a n out out' written written' step step' stepWritten stepWritten' → handsBack n ≡ false
+  pub step-untouched : {n : ℕ} {out out' : Bytes} {written written' : ℕ} {step step' : Bytes} {stepWritten stepWritten' : ℕ}
+      → StepGives a n out out' written written' step step' stepWritten stepWritten' → handsBack n ≡ false
       → ((out' ≡ out) × (written' ≡ written)) × ((step' ≡ step) × (stepWritten' ≡ stepWritten))
   step-untouched g h =
       let e = w .alone (ap handsBack (sym (g .given .number)) ∙ h) in
@@ -44,6 +46,9 @@ module _ {l : List ℕ} {a : Answer} (w : Answered l a) where
 refused : (l : List ℕ) (n : ℕ) → In n l → Answered l (refusal n)
 refused l n i = record { numbers = i; alone = λ h. refl }
 
+refusals : (l : List ℕ) → All (λ n. Answered (0 ∷ l) (refusal n)) l
+refusals l = in-all (λ n. Answered (0 ∷ l) (refusal n)) l (λ n i. refused (0 ∷ l) n (inr i))
+
 done : (l : List ℕ) {a : Answer} → a .number ≡ 0 → Answered (0 ∷ l) a
 done l e = record { numbers = inl e; alone = λ h. absurd (false≢true (sym h ∙ ap handsBack e)) }
 
@@ -51,13 +56,13 @@ done l e = record { numbers = inl e; alone = λ h. absurd (false≢true (sym h �
 asked-answers : (op : Asked) (c k f : Name) (b : Bytes) (out : ℕ) → Answered (0 ∷ 1 ∷ 2 ∷ numbersOf op) (entryOf op c k f b out)
 asked-answers op c k f b out = subst (Answered (0 ∷ 1 ∷ 2 ∷ numbersOf op)) (sym (entry-is op c k f b out)) (go (decode b) (leb imageRoom out))
   where
-    each : All (λ n. Answered (0 ∷ 1 ∷ 2 ∷ numbersOf op) (refusal n)) (numbersOf op)
-    each = in-all (λ n. Answered (0 ∷ 1 ∷ 2 ∷ numbersOf op) (refusal n)) (numbersOf op) (λ n i. refused _ n (inr (inr (inr i))))
+    each : All (λ n. Answered (0 ∷ 1 ∷ 2 ∷ numbersOf op) (refusal n)) (1 ∷ 2 ∷ numbersOf op)
+    each = refusals (1 ∷ 2 ∷ numbersOf op)
 
     go : (o : Option Store) (room : Bool) → Answered (0 ∷ 1 ∷ 2 ∷ numbersOf op) (caseOption o (refusal 1) (λ s. if room then outcome (asked op c k f s) else refusal 2))
-    go none room = refused _ 1 (inr (inl refl))
-    go (some s) true = asked-cases (λ o. Answered (0 ∷ 1 ∷ 2 ∷ numbersOf op) (outcome o)) op c k f s each (λ u e. done _ refl)
-    go (some s) false = refused _ 2 (inr (inr (inl refl)))
+    go none room = each .0
+    go (some s) true = asked-cases (λ o. Answered (0 ∷ 1 ∷ 2 ∷ numbersOf op) (outcome o)) op c k f s (each .1 .1) (λ u e. done _ refl)
+    go (some s) false = each .1 .0
 
 pub begin-answers : (b : Bytes) (out : ℕ) → Answered (0 ∷ 1 ∷ 2 ∷ 3 ∷ []) (begin b out)
 begin-answers = asked-answers Begin [] [] []
@@ -95,26 +100,22 @@ commit-answers b out =
 
 pub commit-step-answers : (n : ℕ) (b : Bytes) (out stepOut : ℕ) → Answered (0 ∷ 1 ∷ 2 ∷ 4 ∷ 16 ∷ []) (commitStep n b out stepOut)
 commit-step-answers n b out stepOut =
-    on-commit-step (Answered (0 ∷ 1 ∷ 2 ∷ 4 ∷ 16 ∷ [])) n b out stepOut
-    (refused _ 1 (inr (inl refl)), (refused _ 2 (inr (inr (inl refl))), (refused _ 4 (inr (inr (inr (inl refl)))), (refused _ 16 (inr (inr (inr (inr (inl refl))))), tt)))) (λ s d. done _ refl)
+    on-commit-step (Answered (0 ∷ 1 ∷ 2 ∷ 4 ∷ 16 ∷ [])) n b out stepOut (refusals commitStepRefusals) (λ s d. done _ refl)
 
 pub recover-answers : (b : Bytes) (out : ℕ) → Answered (0 ∷ 1 ∷ 2 ∷ 11 ∷ 12 ∷ 13 ∷ []) (recover b out)
 recover-answers b out =
-    on-recover (Answered (0 ∷ 1 ∷ 2 ∷ 11 ∷ 12 ∷ 13 ∷ [])) b out
-    (refused _ 1 (inr (inl refl)), (refused _ 2 (inr (inr (inl refl))), (refused _ 11 (inr (inr (inr (inl refl)))), (refused _ 12 (inr (inr (inr (inr (inl refl))))), (refused _ 13 (inr (inr (inr (inr (inr (inl refl)))))), tt))))) (λ s d. done _ refl)
+    on-recover (Answered (0 ∷ 1 ∷ 2 ∷ 11 ∷ 12 ∷ 13 ∷ [])) b out (refusals recoverRefusals) (λ s d. done _ refl)
 
 pub recover-step-answers : (n : ℕ) (b : Bytes) (out stepOut : ℕ) → Answered (0 ∷ 1 ∷ 2 ∷ 11 ∷ 12 ∷ 13 ∷ 16 ∷ []) (recoverStep n b out stepOut)
 recover-step-answers n b out stepOut =
-    on-recover-step (Answered (0 ∷ 1 ∷ 2 ∷ 11 ∷ 12 ∷ 13 ∷ 16 ∷ [])) n b out stepOut
-    (refused _ 1 (inr (inl refl)), (refused _ 2 (inr (inr (inl refl))), (refused _ 11 (inr (inr (inr (inl refl)))), (refused _ 12 (inr (inr (inr (inr (inl refl))))), (refused _ 13 (inr (inr (inr (inr (inr (inl refl)))))), (refused _ 16 (inr (inr (inr (inr (inr (inr (inl refl))))))), tt))))))
-    (λ s d. done _ refl)
+    on-recover-step (Answered (0 ∷ 1 ∷ 2 ∷ 11 ∷ 12 ∷ 13 ∷ 16 ∷ [])) n b out stepOut (refusals recoverStepRefusals) (λ s d. done _ refl)
 
 pub list-keys-answers : (c : Name) (b : Bytes) (out : ℕ) → Answered (0 ∷ 1 ∷ 2 ∷ 6 ∷ []) (listKeys c b out)
 list-keys-answers c b out =
-    on-list-keys (Answered (0 ∷ 1 ∷ 2 ∷ 6 ∷ [])) c b out (refused _ 1 (inr (inl refl)), (refused _ 2 (inr (inr (inl refl))), (refused _ 6 (inr (inr (inr (inl refl)))), tt))) (λ s d. done _ refl)
+    on-list-keys (Answered (0 ∷ 1 ∷ 2 ∷ 6 ∷ [])) c b out (refusals listKeysRefusals) (λ s d. done _ refl)
 
 pub find-backup-answers : (b : Bytes) (out : ℕ) → Answered (0 ∷ 1 ∷ 2 ∷ []) (findBackup b out)
-find-backup-answers b out = on-find-backup (Answered (0 ∷ 1 ∷ 2 ∷ [])) b out (refused _ 1 (inr (inl refl)), (refused _ 2 (inr (inr (inl refl))), tt)) (λ s d. done _ refl)
+find-backup-answers b out = on-find-backup (Answered (0 ∷ 1 ∷ 2 ∷ [])) b out (refusals (1 ∷ 2 ∷ [])) (λ s d. done _ refl)
 
 -- `cda_storage_has_pending_work` answers 0 or 1.
 pub pending-answers : (b : Bytes) → In {A = ℕ} (pending b .number) (0 ∷ 1 ∷ [])

@@ -34,17 +34,48 @@ module _ {image : Bytes} {tree staging : Words} {d : Decoded} (w : Decodes image
     held : Held image (storeIn tree staging (d .store))
     held =
         let e = w .accepted ok in
-        let g = lent-good image (storeOf image (storeIn tree staging (d .store))) e in
-        record { sound = w .sound; plain = w .plain; short = omega (arith, ap length (decode-only image (storeOf image (storeIn tree staging (d .store))) e .0), encode-length validNaming (storeOf image (storeIn tree staging (d .store))) g); accepted = e; well = g }
+        let s : model.Store = storeOf image (storeIn tree staging (d .store)) in
+        let g = lent-good image s e in
+        record {
+          sound = w .sound;
+          plain = w .plain;
+          short = omega (arith, ap length (decode-only image s e .0), encode-length validNaming s g);
+          accepted = e;
+          well = g;
+        }
 
     pub opened : {room : Bool} → room ≡ true → Opens image room tree staging (record { number = 0; store = d .store; «tree_end» = d .«tree_end» })
-    opened {room} r = record { held = λ z. held; roomy = λ z. r; alone = λ h. absurd (h refl); broken = λ t h. absurd (h refl); given = λ z next. rw (w .accepted ok, r); refused = λ h next. absurd (h refl); kept = λ z. w .kept ok }
+    opened {room} r = record {
+      held = λ z. held;
+      roomy = λ z. r;
+      alone = λ h. absurd (h refl);
+      broken = λ t h. absurd (h refl);
+      given = λ z next. rw (w .accepted ok, r);
+      refused = λ h next. absurd (h refl);
+      kept = λ z. w .kept ok;
+    }
 
     pub no-room : {room : Bool} → room ≡ false → Opens image room tree staging (record { number = 2; store = d .store; «tree_end» = d .«tree_end» })
-    no-room {room} r = record { held = λ z. absurd (omega arith); roomy = λ z. absurd (omega arith); alone = λ h. refl; broken = λ t h. absurd (false≢true (sym r ∙ t)); given = λ z next. absurd (omega arith); refused = λ h next. rw (w .accepted ok, r); kept = λ z. absurd (omega arith) }
+    no-room {room} r = record {
+      held = λ z. absurd (omega arith);
+      roomy = λ z. absurd (omega arith);
+      alone = λ h. refl;
+      broken = λ t h. absurd (false≢true (sym r ∙ t));
+      given = λ z next. absurd (omega arith);
+      refused = λ h next. rw (w .accepted ok, r);
+      kept = λ z. absurd (omega arith);
+    }
 
   pub broken : d .ok ≡ false → (room : Bool) → Opens image room tree staging (record { number = 1; store = d .store; «tree_end» = d .«tree_end» })
-  broken e room = record { held = λ z. absurd (omega arith); roomy = λ z. absurd (omega arith); alone = λ h. refl; broken = λ t h. (w .refused e, refl); given = λ z next. absurd (omega arith); refused = λ h next. rw (w .refused e); kept = λ z. absurd (omega arith) }
+  broken e room = record {
+    held = λ z. absurd (omega arith);
+    roomy = λ z. absurd (omega arith);
+    alone = λ h. refl;
+    broken = λ t h. (w .refused e, refl);
+    given = λ z next. absurd (omega arith);
+    refused = λ h next. rw (w .refused e);
+    kept = λ z. absurd (omega arith);
+  }
 
 -- A refusal leaves all outputs.
 module _ {n : ℕ} {out : Bytes} {written : ℕ} (h : handsBack n ≡ false) where
@@ -55,7 +86,8 @@ module _ {n : ℕ} {out : Bytes} {written : ℕ} (h : handsBack n ≡ false) whe
   step-left-alone e = record { given = left-alone e; field = rw e; fieldCount = rw (e, h) }
 
 -- An image handed back with a number.
-pub gives : {a : Answer} {n : ℕ} {image out out' : Bytes} {written written' : ℕ} → handsBack n ≡ true → n ≡ a .number → image ≡ a .image → Writes image out out' written' → Gives a n out out' written written'
+pub gives : {a : Answer} {n : ℕ} {image out out' : Bytes} {written written' : ℕ} → handsBack n ≡ true → n ≡ a .number → image ≡ a .image
+    → Writes image out out' written' → Gives a n out out' written written'
 gives {a} {n} h e i w = record { number = e; image = w .same ∙ rw i; count = w .size ∙ rw (sym e, h, i) }
 
 -- What a recording method answered.
@@ -70,7 +102,8 @@ pub stepped-past : (src : Bytes) (s : LentStore) (left : ℕ) (last : Step) (n :
 unfolding stepped
 stepped-past src s left last n h = rw (ne-eqb left 0 h)
 
-pub stepped-at : (src : Bytes) (s : LentStore) (left : ℕ) (last : Step) (n : ℕ) → left ≡ 0 → stepped src s left last n ≡ record { number = 0; image = encode (storeOf src s); step = fieldOf src last n }
+pub stepped-at : (src : Bytes) (s : LentStore) (left : ℕ) (last : Step) (n : ℕ) → left ≡ 0
+    → stepped src s left last n ≡ record { number = 0; image = encode (storeOf src s); step = fieldOf src last n }
 unfolding stepped
 stepped-at src s left last n z = rw z
 
@@ -91,7 +124,8 @@ pub field-of : (src : Bytes) (last : Step) (n : ℕ) → (n ≡ 0 → ⊥) → f
 unfolding fieldOf
 field-of src last n h = rw (ne-eqb n 0 h)
 
-pub field-written : (src : Bytes) (last : Step) (n : ℕ) {out out' : Bytes} {count : ℕ} → (n ≡ 0 → ⊥) → length (fieldOf src last n) ≤ length out → writing.Writes (stepField (stepOf src last)) 0 out out' count → Writes (fieldOf src last n) out out' count
+pub field-written : (src : Bytes) (last : Step) (n : ℕ) {out out' : Bytes} {count : ℕ} → (n ≡ 0 → ⊥) → length (fieldOf src last n) ≤ length out
+    → writing.Writes (stepField (stepOf src last)) 0 out out' count → Writes (fieldOf src last n) out out' count
 field-written src last n {out} h room w =
     let e = field-of src last n h in
     record { same = w .same ∙ written-front (stepField (stepOf src last)) out (subst (λ (b : Bytes). length b ≤ length out) e room) ∙ rw e; size = w .size ∙ ap length (sym e) }

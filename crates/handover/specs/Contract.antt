@@ -44,23 +44,27 @@ pub record PendingGives (a : Pending) (n pending pending' : ℕ) : Type 0 where
 abbrev pub Part : Type 0 → Type 0
 Part X = Both (RefT X) (RefT X)
 
--- What was lent, and how long it is.
+-- What was lent, how long it is, and what is handed back.
 abbrev pub lent : {X : Type 0} → Part X → X
 lent p = now (p .entry)
 
 abbrev pub room : Part Bytes → ℕ
 room p = length (lent p)
 
-abbrev pub Written : Bytes → Part Bytes → Part ℕ → Type 0
-Written bytes out written = Writes bytes (lent out) (now (out .exit)) (now (written .exit))
+abbrev pub after : {X : Type 0} → Part X → X
+after p = now (p .exit)
 
--- What the contracts say: the call returns n and leaves the answer `a` in the parts that were lent to it.
+-- What the contracts say: bytes were written at the front of an output and counted.
+abbrev pub Written : Bytes → Part Bytes → Part ℕ → Type 0
+Written bytes out written = Writes bytes (lent out) (after out) (after written)
+
+-- The call returns n and leaves the answer `a` in the parts that were lent to it.
 abbrev pub Returns : Answer → ℕ → Part Bytes → Part ℕ → Type 0
-Returns a n out written = Gives a n (lent out) (now (out .exit)) (lent written) (now (written .exit))
+Returns a n out written = Gives a n (lent out) (after out) (lent written) (after written)
 
 abbrev pub StepReturns : Answer → ℕ → Part Bytes → Part ℕ → Part Bytes → Part ℕ → Type 0
 StepReturns a n out written step stepWritten =
-    StepGives a n (lent out) (now (out .exit)) (lent written) (now (written .exit)) (lent step) (now (step .exit)) (lent stepWritten) (now (stepWritten .exit))
+    StepGives a n (lent out) (after out) (lent written) (after written) (lent step) (after step) (lent stepWritten) (after stepWritten)
 
 abbrev pub PendingReturns : Pending → ℕ → Part ℕ → Type 0
-PendingReturns a n pending = PendingGives a n (lent pending) (now (pending .exit))
+PendingReturns a n pending = PendingGives a n (lent pending) (after pending)

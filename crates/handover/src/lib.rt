@@ -7,7 +7,7 @@ ghost use Rattle.store.specs.Stores.{storeIn, storeOf};
 ghost use Rattle.wal.specs.Tails.{withTail};
 ghost use Rattle.steps.specs.Steps.{SoundStep};
 ghost use Rattle.local_storage.specs.Recording.{outcomeOf};
-ghost use Rattle.handover.specs.Contract.{lent, Returns, StepReturns, Written};
+ghost use Rattle.handover.specs.Contract.{lent, after, Returns, StepReturns, Written};
 ghost use Rattle.handover.specs.Opening.{Opens, ImageStands, AnswerStands, fieldOf, StepStands, stepped};
 use local_storage::Recorded;
 use steps::Step;
@@ -24,7 +24,7 @@ pub struct Opened {
 
 // 01, Sixteen numbers: "1. The image breaks its layout or a limit. 2. The lent output has under" 19,390 bytes (02, item 4).
 pub fn open_image(image: &[u8], tree: &mut Nodes, staging: &mut Nodes, room: bool) -> Opened
-    ensures { λ r. ⌜ Opens (lent image) room (now (tree .exit)) (now (staging .exit)) r ⌝ }
+    ensures { λ r. ⌜ Opens (lent image) room (after tree) (after staging) r ⌝ }
 {
     let d = decode::decode(image, tree, staging);
     let ok = d.ok;

@@ -6,7 +6,7 @@ ghost use lib.ListN.{length};
 ghost use Rattle.basics.specs.Limits.{imageRoom};
 ghost use Rattle.basics.specs.Base.{if_then_else_};
 ghost use Rattle.store.specs.Stores.{storeIn};
-ghost use Rattle.handover.specs.Contract.{lent, room, Returns};
+ghost use Rattle.handover.specs.Contract.{lent, after, room, Returns};
 ghost use Rattle.recording.specs.Asking.{entryOf, leavesTree, Asks, Performs};
 ghost use Rattle.recording.specs.Buffers.{Buffered};
 use handover::Opened;
@@ -68,7 +68,7 @@ fn answer(
     other: &[u8],
 ) -> Recorded
     requires { ⌜ Asks (now src) (storeIn (now tree) (now staging) s) a b d (now collection) (now key) (now other) ⌝ }
-    ensures { λ r. ⌜ Performs op (lent src) s (lent tree) (lent staging) (lent collection) (lent key) (lent other) (now (tree .exit)) (now (staging .exit)) r ⌝ }
+    ensures { λ r. ⌜ Performs op (lent src) s (lent tree) (lent staging) (lent collection) (lent key) (lent other) (after tree) (after staging) r ⌝ }
 {
     let storage = LocalStorage { store: s };
     let keyed = decode::both(a.valid, b.valid);

@@ -67,19 +67,23 @@ module _ (p : Planned) (image : Bytes) (len : ℕ) {tree staging : Words} {o : O
             omega (arith, leb-true imageRoom len (w .roomy z));
       }
 
-      pub handed : {out out' : Bytes} {written written' : ℕ} → Writes (encode (storeOf image (storeIn tree' staging' (r .store)))) out out' written' → Gives (planEntry p image len) (r .number) out out' written written'
+      pub handed : {out out' : Bytes} {written written' : ℕ} → Writes (encode (storeOf image (storeIn tree' staging' (r .store)))) out out' written'
+          → Gives (planEntry p image len) (r .number) out out' written written'
       handed = gives (c .told refl f) (sym (ap (λ (a : Answer). a .number) given)) (sym (ap (λ (a : Answer). a .image) given))
 
 -- Its first n steps.
-module _ (p : Planned) (n : ℕ) (image : Bytes) (out stepOut : ℕ) {room : Bool} (b : room ≡ (leb imageRoom out && leb stepRoom stepOut)) {tree staging : Words} {o : Opened} (w : Opens image room tree staging o) where
+module _ (p : Planned) (n : ℕ) (image : Bytes) (out stepOut : ℕ) {room : Bool} (b : room ≡ (leb imageRoom out && leb stepRoom stepOut))
+    {tree staging : Words} {o : Opened} (w : Opens image room tree staging o) where
   entry-is : planStepEntry p n image out stepOut ≡ onImage image room (planAt p n)
   entry-is = plan-step-is p n image out stepOut ∙ rw b
 
-  pub steps-not-opened : (o .number ≡ 0 → ⊥) → {lent : Bytes} {written : ℕ} {step : Bytes} {stepWritten : ℕ} → StepGives (planStepEntry p n image out stepOut) (o .number) lent lent written written step step stepWritten stepWritten
+  pub steps-not-opened : (o .number ≡ 0 → ⊥) → {lent : Bytes} {written : ℕ} {step : Bytes} {stepWritten : ℕ}
+      → StepGives (planStepEntry p n image out stepOut) (o .number) lent lent written written step step stepWritten stepWritten
   steps-not-opened h = step-left-alone (w .alone h) (entry-is ∙ w .refused h (planAt p n))
 
   module _ (z : o .number ≡ 0) {tree' staging' : Words} {r : Ran} (c : Runs p image (storeIn tree staging (o .store)) true n tree' staging' r) where
-    pub no-steps-back : r .back ≡ false → {lent : Bytes} {written : ℕ} {step : Bytes} {stepWritten : ℕ} → StepGives (planStepEntry p n image out stepOut) (r .number) lent lent written written step step stepWritten stepWritten
+    pub no-steps-back : r .back ≡ false → {lent : Bytes} {written : ℕ} {step : Bytes} {stepWritten : ℕ}
+        → StepGives (planStepEntry p n image out stepOut) (r .number) lent lent written written step step stepWritten stepWritten
     no-steps-back f = step-left-alone (c .alone f) (entry-is ∙ w .given z (planAt p n) ∙ c .cut refl ∙ rw f)
 
     module _ (f : r .back ≡ true) where
@@ -103,7 +107,8 @@ module _ (p : Planned) (n : ℕ) (image : Bytes) (out stepOut : ℕ) {room : Boo
             stepRoom = λ y. let x = ap (λ (a : Answer). length (a .step)) (at y) in omega (arith, bounded .step, leb-true stepRoom stepOut (t .1));
           }
 
-      pub steps-handed : {k : ℕ} {lent lent' : Bytes} {written written' : ℕ} {step step' : Bytes} {stepWritten stepWritten' : ℕ} → StepGives left k lent lent' written written' step step' stepWritten stepWritten'
+      pub steps-handed : {k : ℕ} {lent lent' : Bytes} {written written' : ℕ} {step step' : Bytes} {stepWritten stepWritten' : ℕ}
+          → StepGives left k lent lent' written written' step step' stepWritten stepWritten'
           → StepGives (planStepEntry p n image out stepOut) k lent lent' written written' step step' stepWritten stepWritten'
       steps-handed {k} {lent} {lent'} {written} {written'} {step} {step'} {stepWritten} {stepWritten'} g =
           subst (λ (a : Answer). StepGives a k lent lent' written written' step step' stepWritten stepWritten') (sym steps-given) g

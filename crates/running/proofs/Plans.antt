@@ -62,7 +62,8 @@ step-same src s left last n plan m e i f = sym (go (eqb left 0) refl)
     field zero q h = refl
     field (suc k) q h = rw (ne-eqb (suc k) 0 (λ x. omega arith)) (sym (subst (λ (j : ℕ). fieldAt j plan ≡ stepField (stepOf src last)) q (f k q h)))
 
-    go : (b : Bool) → eqb left 0 ≡ b → (if b then record { number = 0; image = encode (storeOf src s); step = if eqb n 0 then [] else stepField (stepOf src last) } else refusal 16) ≡ stepAnswer n plan m
+    go : (b : Bool) → eqb left 0 ≡ b →
+        (if b then record { number = 0; image = encode (storeOf src s); step = if eqb n 0 then [] else stepField (stepOf src last) } else refusal 16) ≡ stepAnswer n plan m
     go true q =
         let t = e ∙ q in
         let d = field n refl (leb-true n (length plan) t) in
@@ -70,13 +71,15 @@ step-same src s left last n plan m e i f = sym (go (eqb left 0) refl)
     go false q = rw (e ∙ q)
 
 -- An answer where a transaction is found, and where recovery does not refuse.
-by-found : (t : Option (List Op)) (b : Bool) (k : ℕ) (a x : Answer) → b ≡ isSome t → (b ≡ false → k ≡ 4) → (b ≡ true → a ≡ x) → caseOption t (refusal 4) (λ ops. a) ≡ (if b then x else refusal k)
+by-found : (t : Option (List Op)) (b : Bool) (k : ℕ) (a x : Answer) → b ≡ isSome t → (b ≡ false → k ≡ 4) → (b ≡ true → a ≡ x)
+    → caseOption t (refusal 4) (λ ops. a) ≡ (if b then x else refusal k)
 by-found none true k a x e f g = absurd (false≢true (sym e))
 by-found none false k a x e f g = ap refusal (sym (f refl))
 by-found (some ops) true k a x e f g = g refl
 by-found (some ops) false k a x e f g = absurd (false≢true e)
 
-by-fault : (q : Option ℕ) (k : ℕ) (a x : Answer) → ((k ≡ 0 → ⊥) → q ≡ some k) → (k ≡ 0 → q ≡ none) → (k ≡ 0 → a ≡ x) → caseOption q a refusal ≡ (if eqb k 0 then x else refusal k)
+by-fault : (q : Option ℕ) (k : ℕ) (a x : Answer) → ((k ≡ 0 → ⊥) → q ≡ some k) → (k ≡ 0 → q ≡ none) → (k ≡ 0 → a ≡ x)
+    → caseOption q a refusal ≡ (if eqb k 0 then x else refusal k)
 by-fault q k a x f g h = go (eqb k 0) refl
   where
     go : (b : Bool) → eqb k 0 ≡ b → caseOption q a refusal ≡ (if b then x else refusal k)

@@ -1,7 +1,7 @@
 // One road for every entry that runs a plan: the image is read, the plan is run, wholly or by its first n steps, and what it leaves is handed back.
 ghost use mathlib.Core.Path.{_≡_};
 ghost use Rattle.store.specs.Stores.{storeIn};
-ghost use Rattle.handover.specs.Contract.{lent, room, Returns, StepReturns};
+ghost use Rattle.handover.specs.Contract.{lent, after, room, Returns, StepReturns};
 ghost use Rattle.handover.specs.Opening.{Held};
 ghost use Rattle.running.specs.Planning.{planEntry, planStepEntry, Runs};
 use local_storage::LocalStorage;
@@ -36,7 +36,7 @@ fn run(
     n: u64,
 ) -> Ran
     requires { ⌜ Held (now image) (storeIn (now tree) (now staging) s) ⌝ }
-    ensures { λ r. ⌜ Runs p (lent image) (storeIn (lent tree) (lent staging) s) limited n (now (tree .exit)) (now (staging .exit)) r ⌝ }
+    ensures { λ r. ⌜ Runs p (lent image) (storeIn (lent tree) (lent staging) s) limited n (after tree) (after staging) r ⌝ }
 {
     match p {
         Planned::Commit => {

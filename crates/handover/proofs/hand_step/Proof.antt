@@ -19,8 +19,9 @@ hand-image-requires c κs =
 
 hand-field-requires : tie.Need-hand-field-requires
 hand-field-requires c κs =
-    let z = c .before .before .before .before .before .before .before .before .before .before .before in
-    (z .pre .lastSound, z .pre .stepRoom (c .before .before .before .before .before .before .before .if1 .left))
+    let i = c .before .before .before .before .before .before .before in
+    let z = i .before .before .before .before in
+    (z .pre .lastSound, z .pre .stepRoom (i .if1 .left))
 
 same-length : tie.Need-same-length
 same-length c = search needs
@@ -30,8 +31,11 @@ same-length-2 c = search needs
 
 returns-2 : tie.Need-returns-2
 returns-2 c =
-    let z = c .before .before .before .before .before .before .before .before .before .before .before .before .before .before in
-    step-gives (stepped-at (z .args .src .now) (storeIn (z .args .tree .now) (z .args .staging .now) (z .args .s)) (z .args .left) (z .args .last) (z .args .n) (c .before .before .before .before .before .before .before .before .before .before .if1 .left)) (c .before .before .before .before .before .before .before .hand-image .ensures) (c .before .before .hand-field .ensures)
+    let m = c .before .before .before .before .before .before .before in
+    let i = m .before .before .before in
+    let z = i .before .before .before .before in
+    let s = storeIn (z .args .tree .now) (z .args .staging .now) (z .args .s) in
+    step-gives (stepped-at (z .args .src .now) s (z .args .left) (z .args .last) (z .args .n) (i .if1 .left)) (m .hand-image .ensures) (c .before .before .hand-field .ensures)
 
 pub hand-step-spec : {M : Type 1} → statement M
 hand-step-spec =

@@ -85,7 +85,8 @@ returns-2 c =
 returns-3 : tie.Need-returns-3
 returns-3 c =
     let z = c .before .before .before .before .before .before .before .before .before .before in
-    rw (c .before .before .before .enum-told2 .given .1) (c .delete .ensures (z .args .collection .now) (z .args .key .now) (given-key (z .pre) (c .before .before .before .before .before .both .ensures)))
+    let g = given-key (z .pre) (c .before .before .before .before .before .both .ensures) in
+    rw (c .before .before .before .enum-told2 .given .1) (c .delete .ensures (z .args .collection .now) (z .args .key .now) g)
 
 returns-4 : tie.Need-returns-4
 returns-4 c =

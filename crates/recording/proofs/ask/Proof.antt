@@ -21,8 +21,11 @@ slice-aggregate-ask-in c = search needs
 
 ask-in-requires : tie.Need-ask-in-requires
 ask-in-requires c κs =
-    let small = c .before .before .before .before .before .if2 .taken in
-    record { opens = c .before .before .before .before .before .before .before .before .open-image .ensures; done = c .before .before .before .before .before .before .if1 .left; roomy = has-room (slice-aggregate-ask-in (c .before .before .before .before)) (omega arith) (omega arith) }
+    let s = c .before .before .before .before in
+    let t = s .before in
+    let i = t .before in
+    let small = t .if2 .taken in
+    record { opens = i .before .before .open-image .ensures; done = i .if1 .left; roomy = has-room (slice-aggregate-ask-in s) (omega arith) (omega arith) }
 
 same-length : tie.Need-same-length
 same-length c = search needs
@@ -35,9 +38,11 @@ slice-aggregate-ask-in-2 c = search needs
 
 ask-in-requires-2 : tie.Need-ask-in-requires-2
 ask-in-requires-2 c κs =
-    let o = c .before .before .before .before .before .before .before .before .open-image .ensures in
-    let h = c .before .before .before .before .before .before .if1 .left in
-    record { opens = o; done = h; roomy = has-room (slice-aggregate-ask-in-2 (c .before .before .before .before)) (omega (arith, o .held h .short)) (omega arith) }
+    let s = c .before .before .before .before in
+    let i = s .before .before in
+    let o = i .before .before .open-image .ensures in
+    let h = i .if1 .left in
+    record { opens = o; done = h; roomy = has-room (slice-aggregate-ask-in-2 s) (omega (arith, o .held h .short)) (omega arith) }
 
 same-length-2 : tie.Need-same-length-2
 same-length-2 c = search needs

@@ -21,9 +21,12 @@ lend-key-requires c κs = search needs
 
 lend-name-requires-2 : tie.Need-lend-name-requires-2
 lend-name-requires-2 c κs =
-    let q = c .before .before .before .lend-key .ensures in
-    let m = c .before .before .before .before .before .before .before .lend-name .ensures in
-    lend-room (lent-next (lent-next (copied (c .before .before .before .before .before .before .before .before .before .before .before .before .before .before .before .before .before .before .before .pre .roomy) (c .before .before .before .before .before .before .before .before .before .before .before .put-bytes .ensures)) m) q) (omega (arith, m .ends, q .ends))
+    let q = c .before .before .before in
+    let m = q .before .before .before .before in
+    let p = m .before .before .before .before in
+    let x = m .lend-name .ensures in
+    let y = q .lend-key .ensures in
+    lend-room (lent-next (lent-next (copied (p .before .before .before .before .before .before .before .before .pre .roomy) (p .put-bytes .ensures)) x) y) (omega (arith, x .ends, y .ends))
 
 answer-requires : tie.Need-answer-requires
 answer-requires c κs =

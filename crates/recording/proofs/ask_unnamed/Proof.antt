@@ -24,28 +24,36 @@ slice-aggregate-nothing c = search needs
 
 answer-requires : tie.Need-answer-requires
 answer-requires c κs =
-    let h = c .before .before .before .before .before .before .before .open-image .ensures .held (c .before .before .before .before .before .if1 .left) in
-    asks (no-names (alone (h .short)) (c .before .before .before .before .not-valid .ensures .0)) h
+    let n = c .before .before .before .before in
+    let i = n .before in
+    let h = i .before .before .open-image .ensures .held (i .if1 .left) in
+    asks (no-names (alone (h .short)) (n .not-valid .ensures .0)) h
 
 kept-requires : tie.Need-kept-requires
 kept-requires c κs = search needs
 
 hand-on-requires : tie.Need-hand-on-requires
 hand-on-requires c κs =
-    let z = c .before .before .before .before .before .before .before .before .before .before .before .before .before .before .before .before .before .before in
-    let o = c .before .before .before .before .before .before .before .before .before .before .before .before .before .open-image .ensures in
-    let h = c .before .before .before .before .before .before .before .before .before .before .before .if1 .left in
-    hands-on (z .args .op) [] [] [] (z .args .image .now) (length (z .args .out .now)) o h (alone (o .held h .short)) (c .before .before .before .before .before .answer .ensures) (c .before .before .kept .ensures)
+    let a = c .before .before .before .before .before in
+    let i = a .before .before .before .before .before .before in
+    let o = i .before .before in
+    let z = o .before .before .before .before .before in
+    let h = i .if1 .left in
+    let w = o .open-image .ensures in
+    hands-on (z .args .op) [] [] [] (z .args .image .now) (length (z .args .out .now)) w h (alone (w .held h .short)) (a .answer .ensures) (c .before .before .kept .ensures)
 
 same-length : tie.Need-same-length
 same-length c = search needs
 
 returns-2 : tie.Need-returns-2
 returns-2 c =
-    let z = c .before .before .before .before .before .before .before .before .before .before .before .before .before .before .before .before .before .before .before .before .before in
-    let o = c .before .before .before .before .before .before .before .before .before .before .before .before .before .before .before .before .open-image .ensures in
-    let h = c .before .before .before .before .before .before .before .before .before .before .before .before .before .before .if1 .left in
-    handed (z .args .op) [] [] [] (z .args .image .now) (length (z .args .out .now)) o h (alone (o .held h .short)) (c .before .before .before .before .before .before .before .before .answer .ensures) (c .before .before .hand-on .ensures)
+    let a = c .before .before .before .before .before .before .before .before in
+    let i = a .before .before .before .before .before .before in
+    let o = i .before .before in
+    let z = o .before .before .before .before .before in
+    let h = i .if1 .left in
+    let w = o .open-image .ensures in
+    handed (z .args .op) [] [] [] (z .args .image .now) (length (z .args .out .now)) w h (alone (w .held h .short)) (a .answer .ensures) (c .before .before .hand-on .ensures)
 
 pub ask-unnamed-spec : {M : Type 1} → statement M
 ask-unnamed-spec =

@@ -17,10 +17,14 @@ recover-requires : tie.Need-recover-requires
 recover-requires c κs = recoverable (c .before .before .before .before .before .pre)
 
 returns : tie.Need-returns
-returns c = rw (c .before .before .before .before .before .enum-told .given .1) (commit-runs (c .before .before .commit .ensures))
+returns c =
+    let r = c .before .before in
+    rw (r .before .before .before .enum-told .given .1) (commit-runs (r .commit .ensures))
 
 returns-2 : tie.Need-returns-2
-returns-2 c = rw (c .before .before .before .before .before .before .enum-told2 .given .1) (recover-runs (c .before .before .before .before .before .before .before .before .before .pre) (c .before .before .before .recover .ensures))
+returns-2 c =
+    let r = c .before .before .before in
+    rw (r .before .before .before .enum-told2 .given .1) (recover-runs (r .before .before .before .before .before .before .pre) (r .recover .ensures))
 
 pub run-spec : {M : Type 1} → statement M
 run-spec =

@@ -22,10 +22,14 @@ run-requires c κs = c .before .before .before .before .before .open-image .ensu
 
 hand-step-requires : tie.Need-hand-step-requires
 hand-step-requires c κs =
-    let q = c .before .before .before .before .before .before .before .before in
-    let z = q .before .before .before .before .before .before .before .before .before .before .before .before .before in
+    let t = c .before .before .before .before .before .before .before in
+    let r = t .before in
+    let i = r .before .before .before .before in
+    let o = i .before .before in
+    let b = o .before .before .before in
+    let z = b .before .before .before .before in
     step-stands (z .args .p) (z .args .n) (z .args .image .now) (length (z .args .out .now)) (length (z .args .step .now))
-    (q .before .before .before .before .before .before .before .before .before .both .ensures) (q .before .before .before .before .before .before .open-image .ensures) (q .before .before .before .before .if1 .left) (q .run .ensures) (c .before .before .before .before .before .before .before .if2 .taken)
+    (b .both .ensures) (o .open-image .ensures) (i .if1 .left) (r .run .ensures) (t .if2 .taken)
 
 same-length : tie.Need-same-length
 same-length c = search needs
@@ -35,17 +39,24 @@ same-length-2 c = search needs
 
 returns-2 : tie.Need-returns-2
 returns-2 c =
-    let q = c .before .before .before .before .before .before .before .before .before .before .before .before .before in
-    let z = q .before .before .before .before .before .before .before .before .before .before .before .before .before in
+    let t = c .before .before .before .before .before .before .before .before .before .before .before .before in
+    let r = t .before in
+    let i = r .before .before .before .before in
+    let o = i .before .before in
+    let b = o .before .before .before in
+    let z = b .before .before .before .before in
     steps-handed (z .args .p) (z .args .n) (z .args .image .now) (length (z .args .out .now)) (length (z .args .step .now))
-    (q .before .before .before .before .before .before .before .before .before .both .ensures) (q .before .before .before .before .before .before .open-image .ensures) (q .before .before .before .before .if1 .left) (q .run .ensures) (c .before .before .before .before .before .before .before .before .before .before .before .before .if2 .taken) (c .before .before .before .before .hand-step .ensures)
+    (b .both .ensures) (o .open-image .ensures) (i .if1 .left) (r .run .ensures) (t .if2 .taken) (c .before .before .before .before .hand-step .ensures)
 
 returns-3 : tie.Need-returns-3
 returns-3 c =
-    let q = c .before in
-    let z = q .before .before .before .before .before .before .before .before .before .before .before .before .before in
+    let r = c .before in
+    let i = r .before .before .before .before in
+    let o = i .before .before in
+    let b = o .before .before .before in
+    let z = b .before .before .before .before in
     no-steps-back (z .args .p) (z .args .n) (z .args .image .now) (length (z .args .out .now)) (length (z .args .step .now))
-    (q .before .before .before .before .before .before .before .before .before .both .ensures) (q .before .before .before .before .before .before .open-image .ensures) (q .before .before .before .before .if1 .left) (q .run .ensures) (c .if2 .left)
+    (b .both .ensures) (o .open-image .ensures) (i .if1 .left) (r .run .ensures) (c .if2 .left)
 
 pub run-steps-spec : {M : Type 1} → statement M
 run-steps-spec =

@@ -18,25 +18,32 @@ run-requires c κs = c .before .before .before .before .before .open-image .ensu
 
 hand-image-requires : tie.Need-hand-image-requires
 hand-image-requires c κs =
-    let q = c .before .before .before .before .before .before in
-    let z = q .before .before .before .before .before .before .before .before .before .before .before in
-    image-stands (z .args .p) (z .args .image .now) (length (z .args .out .now)) (q .before .before .before .before .before .before .open-image .ensures) (q .before .before .before .before .if1 .left) (q .run .ensures) (c .before .before .before .before .before .if2 .taken)
+    let t = c .before .before .before .before .before in
+    let r = t .before in
+    let i = r .before .before .before .before in
+    let o = i .before .before in
+    let z = o .before .before .before .before .before in
+    image-stands (z .args .p) (z .args .image .now) (length (z .args .out .now)) (o .open-image .ensures) (i .if1 .left) (r .run .ensures) (t .if2 .taken)
 
 same-length : tie.Need-same-length
 same-length c = search needs
 
 returns-2 : tie.Need-returns-2
 returns-2 c =
-    let q = c .before .before .before .before .before .before .before .before .before in
-    let z = q .before .before .before .before .before .before .before .before .before .before .before in
-    handed (z .args .p) (z .args .image .now) (length (z .args .out .now)) (q .before .before .before .before .before .before .open-image .ensures) (q .before .before .before .before .if1 .left) (q .run .ensures) (c .before .before .before .before .before .before .before .before .if2 .taken)
-    (c .before .before .hand-image .ensures)
+    let t = c .before .before .before .before .before .before .before .before in
+    let r = t .before in
+    let i = r .before .before .before .before in
+    let o = i .before .before in
+    let z = o .before .before .before .before .before in
+    handed (z .args .p) (z .args .image .now) (length (z .args .out .now)) (o .open-image .ensures) (i .if1 .left) (r .run .ensures) (t .if2 .taken) (c .before .before .hand-image .ensures)
 
 returns-3 : tie.Need-returns-3
 returns-3 c =
-    let q = c .before in
-    let z = q .before .before .before .before .before .before .before .before .before .before .before in
-    nothing-back (z .args .p) (z .args .image .now) (length (z .args .out .now)) (q .before .before .before .before .before .before .open-image .ensures) (q .before .before .before .before .if1 .left) (q .run .ensures) (c .if2 .left)
+    let r = c .before in
+    let i = r .before .before .before .before in
+    let o = i .before .before in
+    let z = o .before .before .before .before .before in
+    nothing-back (z .args .p) (z .args .image .now) (length (z .args .out .now)) (o .open-image .ensures) (i .if1 .left) (r .run .ensures) (c .if2 .left)
 
 pub run-whole-spec : {M : Type 1} → statement M
 run-whole-spec =

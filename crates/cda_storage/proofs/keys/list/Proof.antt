@@ -32,9 +32,11 @@ slice-aggregate-list-in-2 c = search needs
 
 list-in-requires-2 : tie.Need-list-in-requires-2
 list-in-requires-2 c κs =
-    let o = c .before .before .before .before .before .before .before .before .open-image .ensures in
-    let h = c .before .before .before .before .before .before .if1 .left in
-    record { opens = o; done = h; roomy = has-room (slice-aggregate-list-in-2 (c .before .before .before .before)) (omega (arith, o .held h .short)) (omega arith) }
+    let s = c .before .before .before .before in
+    let i = s .before .before in
+    let o = i .before .before .open-image .ensures in
+    let h = i .if1 .left in
+    record { opens = o; done = h; roomy = has-room (slice-aggregate-list-in-2 s) (omega (arith, o .held h .short)) (omega arith) }
 
 same-length-2 : tie.Need-same-length-2
 same-length-2 c = search needs

@@ -15,12 +15,14 @@ lend-name-requires c κs = search needs
 
 list-keys-requires : tie.Need-list-keys-requires
 list-keys-requires c κs =
-    let n = c .before .before .before .before .before .before in
+    let t = c .before .before .before in
+    let n = t .before .before .before in
     let p = n .before .before .before .before in
     let z = p .before .before .before .before .before .before in
     let g = n .lend-name .ensures in
     let l = lent-next (copied (z .pre .roomy) (p .put-bytes .ensures)) g in
-    keys-ask (z .args .collection .now) (z .args .image .now) (length (z .args .out .now)) (z .pre .opens) (z .pre .done) (stands (below g)) (l .begins) (c .before .before .before .if1 .taken)
+    keys-ask (z .args .collection .now) (z .args .image .now) (length (z .args .out .now)) (z .pre .opens) (z .pre .done)
+    (stands (below g)) (l .begins) (t .if1 .taken)
 
 same-length : tie.Need-same-length
 same-length c = search needs
@@ -30,13 +32,14 @@ same-length-2 c = search needs
 
 returns : tie.Need-returns
 returns c =
-    let n = c .before .before .before .before .before .before .before .before .before in
+    let t = c .before .before .before .before .before .before in
+    let n = t .before .before .before in
     let p = n .before .before .before .before in
     let z = p .before .before .before .before .before .before in
     let g = n .lend-name .ensures in
     let l = lent-next (copied (z .pre .roomy) (p .put-bytes .ensures)) g in
-    keys-listed (z .args .collection .now) (z .args .image .now) (length (z .args .out .now)) (z .pre .opens) (z .pre .done) (stands (below g)) (l .begins) (c .before .before .before .before .before .before .if1 .taken)
-    refl (c .before .before .list-keys .ensures)
+    keys-listed (z .args .collection .now) (z .args .image .now) (length (z .args .out .now)) (z .pre .opens) (z .pre .done)
+    (stands (below g)) (l .begins) (t .if1 .taken) refl (c .before .before .list-keys .ensures)
 
 same-length-3 : tie.Need-same-length-3
 same-length-3 c = search needs
@@ -45,8 +48,8 @@ returns-2 : tie.Need-returns-2
 returns-2 c =
     let n = c .before .before .before in
     let z = n .before .before .before .before .before .before .before .before .before .before in
-    keys-invalid (z .args .collection .now) (z .args .image .now) (length (z .args .out .now)) (z .pre .opens) (z .pre .done) (stands (below (n .lend-name .ensures)))
-    (c .if1 .left)
+    keys-invalid (z .args .collection .now) (z .args .image .now) (length (z .args .out .now)) (z .pre .opens) (z .pre .done)
+    (stands (below (n .lend-name .ensures))) (c .if1 .left)
 
 pub list-in-spec : {M : Type 1} → statement M
 list-in-spec =

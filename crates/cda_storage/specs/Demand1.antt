@@ -1,0 +1,78 @@
+-- Demand 1 over calls of the exported entries, in one statement: whatever a call is lent, it answers with one of the numbers named here, and after a
+-- refusal every lent buffer and counter is as it was. 0, and 14 and 15, which commit alone gives, hand back the image that the contract says.
+use mathlib.Core.Path.{_≡_, sym, ap, subst, _∙_}
+use mathlib.Core.Bool.{Bool, false}
+use mathlib.Core.List.{List, [], _∷_}
+use Prim.Native.Nat.{ℕ}
+use lib.ListN.{length}
+use lib.Dec.{eqb}
+use Rattle.basics.specs.Order.{Name}
+use Rattle.basics.specs.Base.{Bytes, In}
+use Rattle.answers.specs.Answers.{Answer, begin, write, delete, deleteAll, createCollection, deleteCollection, copyCollection, rollback}
+use Rattle.answers.specs.Answers.{commit, commitStep, recover, recoverStep, pending, listKeys, findBackup}
+use Rattle.handover.specs.Contract.{handsBack, Gives, StepGives, PendingGives}
+use Rattle.cda_storage.specs.Refusals as refusals
+use Rattle.cda_storage.specs.Refusals.{Answered}
+
+-- A call with one output: its number is one of these, and after a refusal the output and its counter are as they were.
+pub record Keeps (l : List ℕ) (n : ℕ) (out out' : Bytes) (written written' : ℕ) : Type 0 where
+  pub number : In n l
+  pub left : handsBack n ≡ false → (out' ≡ out) × (written' ≡ written)
+
+-- Every call of an entry that answers a, by the length of the output that it is lent; of a step entry, which is lent two.
+abbrev pub Refuses : List ℕ → (ℕ → Answer) → Type 0
+Refuses l a = (n : ℕ) (out out' : Bytes) (written written' : ℕ) → Gives (a (length out)) n out out' written written' → Keeps l n out out' written written'
+
+abbrev pub StepRefuses : List ℕ → (ℕ → ℕ → Answer) → Type 0
+StepRefuses l a =
+    (n : ℕ) (out out' : Bytes) (written written' : ℕ) (step step' : Bytes) (stepWritten stepWritten' : ℕ)
+    → StepGives (a (length out) (length step)) n out out' written written' step step' stepWritten stepWritten'
+    → Keeps l n out out' written written' × (handsBack n ≡ false → (step' ≡ step) × (stepWritten' ≡ stepWritten))
+
+-- The numbers of each entry: 01, Sixteen numbers.
+pub record Demand1 : Type 0 where
+  pub onBegin : (b : Bytes) → Refuses (0 ∷ 1 ∷ 2 ∷ 3 ∷ []) (begin b)
+  pub onWrite : (c k staged : Name) (x : ℕ) (b : Bytes) → Refuses (0 ∷ 1 ∷ 2 ∷ 4 ∷ 5 ∷ 6 ∷ 10 ∷ []) (write c k staged x b)
+  pub onDelete : (c k : Name) (b : Bytes) → Refuses (0 ∷ 1 ∷ 2 ∷ 4 ∷ 5 ∷ 6 ∷ 8 ∷ []) (delete c k b)
+  pub onDeleteAll : (c : Name) (b : Bytes) → Refuses (0 ∷ 1 ∷ 2 ∷ 4 ∷ 5 ∷ 6 ∷ []) (deleteAll c b)
+  pub onCreateCollection : (c : Name) (b : Bytes) → Refuses (0 ∷ 1 ∷ 2 ∷ 4 ∷ 5 ∷ 6 ∷ 9 ∷ []) (createCollection c b)
+  pub onDeleteCollection : (c : Name) (b : Bytes) → Refuses (0 ∷ 1 ∷ 2 ∷ 4 ∷ 5 ∷ 6 ∷ 7 ∷ []) (deleteCollection c b)
+  pub onCopyCollection : (a c : Name) (b : Bytes) → Refuses (0 ∷ 1 ∷ 2 ∷ 4 ∷ 5 ∷ 6 ∷ 7 ∷ []) (copyCollection a c b)
+  pub onRollback : (b : Bytes) → Refuses (0 ∷ 1 ∷ 2 ∷ 4 ∷ []) (rollback b)
+  pub onCommit : (b : Bytes) → Refuses (0 ∷ 1 ∷ 2 ∷ 4 ∷ 14 ∷ 15 ∷ []) (commit b)
+  pub onCommitStep : (n : ℕ) (b : Bytes) → StepRefuses (0 ∷ 1 ∷ 2 ∷ 4 ∷ 16 ∷ []) (commitStep n b)
+  pub onRecover : (b : Bytes) → Refuses (0 ∷ 1 ∷ 2 ∷ 11 ∷ 12 ∷ 13 ∷ []) (recover b)
+  pub onRecoverStep : (n : ℕ) (b : Bytes) → StepRefuses (0 ∷ 1 ∷ 2 ∷ 11 ∷ 12 ∷ 13 ∷ 16 ∷ []) (recoverStep n b)
+  pub onListKeys : (c : Name) (b : Bytes) → Refuses (0 ∷ 1 ∷ 2 ∷ 6 ∷ []) (listKeys c b)
+  pub onFindBackup : (b : Bytes) → Refuses (0 ∷ 1 ∷ 2 ∷ []) (findBackup b)
+  pub onPending : (b : Bytes) (n p p' : ℕ) → PendingGives (pending b) n p p' → In n (0 ∷ 1 ∷ []) × (eqb n 0 ≡ false → p' ≡ p)
+
+keeps : {l : List ℕ} {a : Answer} → Answered l a → {n : ℕ} {out out' : Bytes} {written written' : ℕ} → Gives a n out out' written written' → Keeps l n out out' written written'
+keeps {l} w g = record { number = subst (λ (n : ℕ). In n l) (sym (g .number)) (w .numbers); left = refusals.untouched w g }
+
+step-keeps : {l : List ℕ} {a : Answer} → Answered l a → {n : ℕ} {out out' : Bytes} {written written' : ℕ} {step step' : Bytes} {stepWritten stepWritten' : ℕ}
+    → StepGives a n out out' written written' step step' stepWritten stepWritten'
+    → Keeps l n out out' written written' × (handsBack n ≡ false → (step' ≡ step) × (stepWritten' ≡ stepWritten))
+step-keeps w g = (keeps w (g .given), λ h. refusals.step-untouched w g h .1)
+
+pub demand-1 : Demand1
+demand-1 = record {
+  onBegin = λ b k out out' w w' g. keeps (refusals.begin-answers b _) g;
+  onWrite = λ c key staged x b k out out' w w' g. keeps (refusals.write-answers c key staged x b _) g;
+  onDelete = λ c key b k out out' w w' g. keeps (refusals.delete-answers c key b _) g;
+  onDeleteAll = λ c b k out out' w w' g. keeps (refusals.delete-all-answers c b _) g;
+  onCreateCollection = λ c b k out out' w w' g. keeps (refusals.create-collection-answers c b _) g;
+  onDeleteCollection = λ c b k out out' w w' g. keeps (refusals.delete-collection-answers c b _) g;
+  onCopyCollection = λ a c b k out out' w w' g. keeps (refusals.copy-collection-answers a c b _) g;
+  onRollback = λ b k out out' w w' g. keeps (refusals.rollback-answers b _) g;
+  onCommit = λ b k out out' w w' g. keeps (refusals.commit-answers b _) g;
+  onCommitStep = λ n b k out out' w w' step step' sw sw' g. step-keeps (refusals.commit-step-answers n b _ _) g;
+  onRecover = λ b k out out' w w' g. keeps (refusals.recover-answers b _) g;
+  onRecoverStep = λ n b k out out' w w' step step' sw sw' g. step-keeps (refusals.recover-step-answers n b _ _) g;
+  onListKeys = λ c b k out out' w w' g. keeps (refusals.list-keys-answers c b _) g;
+  onFindBackup = λ b k out out' w w' g. keeps (refusals.find-backup-answers b _) g;
+  onPending = λ b k p p' g. (
+    subst (λ (n : ℕ). In n (0 ∷ 1 ∷ [])) (sym (g .number)) (refusals.pending-answers b),
+    λ h. g .answer ∙ rw (ap (λ (n : ℕ). eqb n 0) (sym (g .number)) ∙ h),
+  );
+}

@@ -1,4 +1,4 @@
-// Runs each of the fifteen entries at a full store, on a thread with a stack of 128 KiB, and times it. Built and run by ./entries-run.
+// Runs each of the sixteen entries at a full store, on a thread with a stack of 128 KiB, and times it. Built and run by ./entries-run.
 #include "cda_storage.h"
 #include <pthread.h>
 #include <stdint.h>
@@ -192,6 +192,7 @@ static void entries(size_t n) {
     TIMED("from field to field of the same image", walk(&open), 0);
     TIMED("has_pending_work", cda_storage_has_pending_work(IN(open), &pending), 0);
     TIMED("find_backup, none", cda_storage_find_backup(IN(open), OUT), 0);
+    TIMED("inventory", cda_storage_inventory(IN(open), OUT), 0);
     want("pending", pending, 1);
     TIMED("rollback of 32 Writes", cda_storage_rollback(IN(open), OUT), 0);
 

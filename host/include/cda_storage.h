@@ -9,11 +9,13 @@
 extern "C" {
 #endif
 
-/* Least lengths of the lent outputs (an image, a key list, a step field, what names a backup), and the most bytes of a log. */
+/* Least lengths of the lent outputs (an image, a key list, a step field, what names a backup), one that every inventory fits, and the most bytes of a
+   log. */
 #define CDA_STORAGE_IMAGE_ROOM 19390
 #define CDA_STORAGE_KEYS_ROOM 8576
 #define CDA_STORAGE_STEP_ROOM 197
 #define CDA_STORAGE_HIT_ROOM 138
+#define CDA_STORAGE_INVENTORY_ROOM 20178
 #define CDA_STORAGE_LOG_LIMIT 6952
 
 /* What the functions return: 0, or a refusal, which leaves outputs and counters as they were (but for 14 and 15 of a commit). */
@@ -141,6 +143,11 @@ uint32_t cda_storage_list_keys(
 
 /* The first backup file in the order of the image, as the fields 0x10 of its directory and 0x11; if no file is one, the first directory with a backup's name, as its field 0x10; nothing if no backup stands. */
 uint32_t cda_storage_find_backup(
+    const uint8_t *image, size_t image_len,
+    uint8_t *out, size_t out_len, size_t *out_written);
+
+/* The collections as one object of JSON (RFC 8259) without spaces or line ends: each directory's name with an object of its files' names and content numbers. Refusal 2 means that this text is longer than the output; CDA_STORAGE_INVENTORY_ROOM bytes are always enough. */
+uint32_t cda_storage_inventory(
     const uint8_t *image, size_t image_len,
     uint8_t *out, size_t out_len, size_t *out_written);
 

@@ -1,7 +1,7 @@
-//! The fifteen entries of the port as methods of [`Image`]. They are pure: an image goes in, an answer comes out, and no file
+//! The sixteen entries of the port as methods of [`Image`]. They are pure: an image goes in, an answer comes out, and no file
 //! is touched.
 use crate::{Refusal, field, image::Image, step::Step};
-use cda_storage_sys::{self as sys, HIT_ROOM, IMAGE_ROOM, KEYS_ROOM, Output, STEP_ROOM};
+use cda_storage_sys::{self as sys, HIT_ROOM, IMAGE_ROOM, INVENTORY_ROOM, KEYS_ROOM, Output, STEP_ROOM};
 use std::{error::Error, fmt};
 
 /// A commit that was refused. 14 and 15 also hand back the rolled-back image.
@@ -176,6 +176,14 @@ impl Image {
             Some((name, number)) => Backup::File { collection, name, number },
             None => Backup::Directory(collection),
         }))
+    }
+
+    /// The collections as one object of JSON (RFC 8259) without spaces or line ends: each directory's name with an object of its files'
+    /// names and content numbers, in the order of the image. Staging files, log and open mark are not shown.
+    pub fn inventory(&self) -> Result<String, Refusal> {
+        let (number, bytes) = lend(INVENTORY_ROOM, |out| sys::inventory(self.bytes(), out));
+        refused(number)?;
+        Ok(String::from_utf8(bytes).expect("names are ASCII"))
     }
 
     /// The image after n steps of the commit, and step n (none for n = 0).

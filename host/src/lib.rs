@@ -1,7 +1,7 @@
 //! The collection store of a depot diagnostic box: the proved port, and a store on real directories over it.
 //!
 //! The port takes a store image, as bytes, and hands back a number, an image, and the file steps to carry out. [`Image`] has
-//! its fifteen entries as methods; [`FileStore`] keeps a store on a directory and carries out the steps.
+//! its sixteen entries as methods; [`FileStore`] keeps a store on a directory and carries out the steps.
 //!
 //! ```
 //! # let root = std::env::temp_dir().join(format!("cda-store-{}", std::process::id()));

@@ -1,5 +1,5 @@
 //! The two lists, read, and what is made of them: the declarations in Rust and the header in C.
-use crate::rooms::{HIT_ROOM, IMAGE_ROOM, KEYS_ROOM, LOG_LIMIT, STEP_ROOM};
+use crate::rooms::{HIT_ROOM, IMAGE_ROOM, INVENTORY_ROOM, KEYS_ROOM, LOG_LIMIT, STEP_ROOM};
 
 /// A parameter: how C and Rust declare it, and how the safe function takes it and hands it on. `#` stands for its name.
 struct Kind {
@@ -85,7 +85,8 @@ const TOP: &str = "/* Made from host/sys/entries.txt and refusals.txt by `cargo 
 extern \"C\" {
 #endif
 
-/* Least lengths of the lent outputs (an image, a key list, a step field, what names a backup), and the most bytes of a log. */
+/* Least lengths of the lent outputs (an image, a key list, a step field, what names a backup), one that every inventory fits, and the most bytes of a
+   log. */
 ";
 
 const NUMBERS: &str = "
@@ -98,7 +99,7 @@ enum cda_storage_number {
 pub fn header(entries: &str, refusals: &str) -> String {
     let mut text = TOP.to_string();
     let rooms = [("IMAGE_ROOM", IMAGE_ROOM), ("KEYS_ROOM", KEYS_ROOM), ("STEP_ROOM", STEP_ROOM), ("HIT_ROOM", HIT_ROOM)];
-    for (what, bytes) in rooms.into_iter().chain([("LOG_LIMIT", LOG_LIMIT)]) {
+    for (what, bytes) in rooms.into_iter().chain([("INVENTORY_ROOM", INVENTORY_ROOM), ("LOG_LIMIT", LOG_LIMIT)]) {
         text += &format!("#define CDA_STORAGE_{what} {bytes}\n");
     }
     text += NUMBERS;

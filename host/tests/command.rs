@@ -1,18 +1,19 @@
 //! The command `cda-store`, run as a process.
 mod common;
 
-use cda_store::{Contents, FileStore};
+use cda_store::{Contents, FileStore, Files};
 use common::{COMMITTING, Folder, OLD_WRITE, RECORDING, crc32, ten_steps};
 use std::{
     collections::BTreeMap,
     fs,
+    io::{ErrorKind, Write},
     path::PathBuf,
-    process::{Command, Output},
+    process::{Command, Output, Stdio},
     thread,
     time::Duration,
 };
 
-const COMMANDS: [&str; 10] = ["list", "recover", "put", "delete", "copy", "create", "drop", "clear", "apply", "cuts"];
+const COMMANDS: [&str; 11] = ["list", "inventory", "recover", "put", "delete", "copy", "create", "drop", "clear", "apply", "cuts"];
 
 /// Document 01's ten-step case.
 const TEN_STEPS: &str = "\
@@ -432,4 +433,63 @@ fn open_elements(xml: &str) -> Vec<String> {
         }
     }
     open
+}
+
+#[test]
+fn an_inventory_is_printed() {
+    let place = Place::with_a();
+    assert_eq!(place.done("inventory store"), "{\"db\":{\"a\":1}}\n");
+    place.said("put store db/a new --stop-after 5");
+    assert_eq!(place.done("inventory store"), "{\"db\":{\"a\":1,\"a.bak\":2}}\n", "backups too");
+    fs::write(place.0.0.join("image"), ten_steps().bytes()).unwrap();
+    assert_eq!(place.done("inventory image"), "{\"db\":{\"a\":7}}\n");
+    fs::write(place.0.0.join("image"), b"\x10").unwrap();
+    place.fails(1, "inventory image", "refusal 1");
+    place.fails(2, "inventory nowhere", "nowhere");
+    place.fails(64, "inventory", "inventory takes a directory");
+    place.fails(64, "inventory store more", "inventory takes a directory or an image alone");
+}
+
+/// What python3 reads of an inventory, a line for each directory and each file; none where there is no python3.
+fn read_by_python(place: &Place, line: &str) -> Option<String> {
+    const READ: &str = "import json, sys
+for directory, files in json.load(sys.stdin, object_pairs_hook=list):
+    print(directory + '/')
+    for name, number in files:
+        print(directory + '/' + name, number)";
+    let text = place.done(line);
+    let mut python = match Command::new("python3").args(["-c", READ]).stdin(Stdio::piped()).stdout(Stdio::piped()).spawn() {
+        Err(error) if error.kind() == ErrorKind::NotFound => {
+            eprintln!("skipped, python3 is not there: what its reader of JSON makes of an inventory");
+            return None;
+        }
+        started => started.unwrap(),
+    };
+    python.stdin.take().unwrap().write_all(text.as_bytes()).unwrap();
+    let output = python.wait_with_output().unwrap();
+    assert!(output.status.success(), "python3 reads {text}");
+    Some(String::from_utf8(output.stdout).unwrap())
+}
+
+#[test]
+fn python_reads_an_inventory_as_the_store_that_it_is_of() {
+    let place = Place::new();
+    let bytes = || (0x21..=0x7Eu8).filter(|byte| !b"./\\".contains(byte)).map(char::from);
+    let files: Files = bytes().map(String::from).zip([1, 10, 4_294_967_295].into_iter().cycle()).collect();
+    let quoted: Files = ["\"", "\"\"", "\":{\"", "},", "a\"b"].map(String::from).into_iter().zip(7..).collect();
+    let directories = [("db".into(), files), ("\"".into(), quoted), ("{}".into(), Files::new()), ("\",\"".into(), Files::new())];
+    let contents = Contents { directories: directories.into(), ..Contents::default() };
+    fs::write(place.0.0.join("image"), contents.image().unwrap().bytes()).unwrap();
+    let mut lines = String::new();
+    for (directory, files) in &contents.directories {
+        lines += &format!("{directory}/\n");
+        lines.extend(files.iter().map(|(file, number)| format!("{directory}/{file} {number}\n")));
+    }
+    if let Some(read) = read_by_python(&place, "inventory image") {
+        assert_eq!(read, lines);
+    }
+    place.done("put store db/a\"b old \"/\" new");
+    if let Some(read) = read_by_python(&place, "inventory store") {
+        assert_eq!(read, "\"/\n\"/\" 1\ndb/\ndb/a\"b 2\n");
+    }
 }

@@ -1,7 +1,7 @@
 //! The entries on images, every refusal, and every step in words.
 mod common;
 
-use cda_storage_sys::{self as sys, HIT_ROOM, IMAGE_ROOM, LOG_LIMIT, Output};
+use cda_storage_sys::{self as sys, HIT_ROOM, IMAGE_ROOM, INVENTORY_ROOM, LOG_LIMIT, Output};
 use cda_store::{Backup, Contents, Files, Image, Refusal, Step, Write};
 use common::{OLD_WRITE, RECORDING, crc32, ten_steps};
 use std::collections::BTreeMap;
@@ -254,4 +254,33 @@ fn the_first_backup_is_named() {
     assert_eq!(found(&[("db", &[("a", 7)])]), None);
     let (mut room, mut written) = ([0; HIT_ROOM - 1], 0);
     assert_eq!(sys::find_backup(b"", Output { bytes: &mut room, written: &mut written }), Refusal::OutputTooShort.number());
+}
+
+#[test]
+fn an_inventory_is_one_object() {
+    let text = |files: &[(&str, &[(&str, u32)])]| store(files).image().unwrap().inventory().unwrap();
+    assert_eq!(text(&[("db", &[("a", 7)])]), r#"{"db":{"a":7}}"#);
+    assert_eq!(text(&[]), "{}");
+    assert_eq!(text(&[("\"", &[("a\"b", 1), ("c", u32::MAX)]), ("db.bak", &[])]), r#"{"\"":{"a\"b":1,"c":4294967295},"db.bak":{}}"#);
+    assert_eq!(ten_steps().inventory().unwrap(), r#"{"db":{"a":7}}"#, "staging file, log and open mark are not shown");
+}
+
+#[test]
+fn an_inventory_is_refused_where_its_text_is_longer_than_the_output() {
+    let image = store(&[("db", &[("a", 7)])]).image().unwrap();
+    let (mut room, mut written) = ([b'.'; 15], 99);
+    assert_eq!(sys::inventory(image.bytes(), Output { bytes: &mut room[..13], written: &mut written }), Refusal::OutputTooShort.number());
+    assert_eq!((&room[..], written), (&b"..............."[..], 99));
+    assert_eq!(sys::inventory(image.bytes(), Output { bytes: &mut room, written: &mut written }), 0);
+    assert_eq!((&room[..], written), (&br#"{"db":{"a":7}}."#[..], 14));
+    assert_eq!(sys::inventory(b"\x10", Output { bytes: &mut [], written: &mut written }), Refusal::InvalidImage.number());
+}
+
+#[test]
+fn the_longest_inventory_has_room() {
+    // Names of 64 bytes, as many double quotes in them as can be: one name of quotes alone, the others with one byte more.
+    let names = |count: u8| (0..count).map(|i| format!("{}{}", "\"".repeat(63), if i == 0 { '"' } else { char::from(b'a' + i) }));
+    let files: Files = names(8).map(|name| (name, u32::MAX)).collect();
+    let full = Contents { directories: names(16).map(|name| (name, files.clone())).collect(), ..Contents::default() };
+    assert_eq!(full.image().unwrap().inventory().unwrap().len(), INVENTORY_ROOM);
 }

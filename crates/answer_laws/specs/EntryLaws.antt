@@ -21,6 +21,7 @@ use Rattle.model.specs.Step.{Step, Fault, fails, full, commitNumber, fieldAt}
 use Rattle.model.specs.Plan.{commitFault, commitPlan, committedAt, isNewArtifact, recoverFault, recoverPlan, recoveredAt, recovered, withoutMark}
 use Rattle.model.specs.Record.{Outcome, refuse, give, transaction, keyList}
 use Rattle.answers.specs.Answers.{Answer, refusal, answer, outcome, onImage, imageEntry, commitStore, commit, recoverStore, recover, stepAnswer, commitStep, recoverStep, listKeys, findBackup}
+use Rattle.answers.specs.Inventory.{inventoryText, inRoom, inventory}
 use Rattle.basic_laws.specs.MapLaws.{none≢some, some-inj}
 use Rattle.basic_laws.specs.Tests.{All, all-in}
 use Rattle.laws.specs.ImageLaws.{decode-only}
@@ -138,3 +139,9 @@ module _ (P : Answer → Type 0) where
   pub on-find-backup : (b : Bytes) (out : ℕ) → Refusals findBackupRefusals → ((s : Store) → decode b ≡ some s → P (record { number = 0; image = encodeFields (hitFields (firstBackup (s .tree))); step = [] })) → P (findBackup b out)
   unfolding findBackup
   on-find-backup b out r h = on-image b (leb hitRoom out) (λ s. record { number = 0; image = encodeFields (hitFields (firstBackup (s .tree))); step = [] }) (r .0, (r .1 .0, tt)) h
+
+  -- The inventory.
+  pub on-inventory : (b : Bytes) (out : ℕ) → Refusals (1 ∷ 2 ∷ []) → ((s : Store) → decode b ≡ some s → P (record { number = 0; image = inventoryText (s .tree); step = [] })) → P (inventory b out)
+  unfolding inventory
+  on-inventory b out r h = on-image b true (λ s. inRoom (inventoryText (s .tree)) out) r λ s d.
+      on-test (leb (length (inventoryText (s .tree))) out) (record { number = 0; image = inventoryText (s .tree); step = [] }) (refusal 2) (h s d) (r .1 .0)

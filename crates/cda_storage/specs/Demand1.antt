@@ -10,6 +10,7 @@ use Rattle.basics.specs.Order.{Name}
 use Rattle.basics.specs.Base.{Bytes, In}
 use Rattle.answers.specs.Answers.{Answer, begin, write, delete, deleteAll, createCollection, deleteCollection, copyCollection, rollback}
 use Rattle.answers.specs.Answers.{commit, commitStep, recover, recoverStep, pending, listKeys, findBackup}
+use Rattle.answers.specs.Inventory.{inventory}
 use Rattle.handover.specs.Contract.{handsBack, Gives, StepGives, PendingGives}
 use Rattle.cda_storage.specs.Refusals as refusals
 use Rattle.cda_storage.specs.Refusals.{Answered}
@@ -45,6 +46,7 @@ pub record Demand1 : Type 0 where
   pub onRecoverStep : (n : ℕ) (b : Bytes) → StepRefuses (0 ∷ 1 ∷ 2 ∷ 11 ∷ 12 ∷ 13 ∷ 16 ∷ []) (recoverStep n b)
   pub onListKeys : (c : Name) (b : Bytes) → Refuses (0 ∷ 1 ∷ 2 ∷ 6 ∷ []) (listKeys c b)
   pub onFindBackup : (b : Bytes) → Refuses (0 ∷ 1 ∷ 2 ∷ []) (findBackup b)
+  pub onInventory : (b : Bytes) → Refuses (0 ∷ 1 ∷ 2 ∷ []) (inventory b)
   pub onPending : (b : Bytes) (n p p' : ℕ) → PendingGives (pending b) n p p' → In n (0 ∷ 1 ∷ []) × (eqb n 0 ≡ false → p' ≡ p)
 
 keeps : {l : List ℕ} {a : Answer} → Answered l a → {n : ℕ} {out out' : Bytes} {written written' : ℕ} → Gives a n out out' written written' → Keeps l n out out' written written'
@@ -71,6 +73,7 @@ demand-1 = record {
   onRecoverStep = λ n b k out out' w w' step step' sw sw' g. step-keeps (refusals.recover-step-answers n b _ _) g;
   onListKeys = λ c b k out out' w w' g. keeps (refusals.list-keys-answers c b _) g;
   onFindBackup = λ b k out out' w w' g. keeps (refusals.find-backup-answers b _) g;
+  onInventory = λ b k out out' w w' g. keeps (refusals.inventory-answers b _) g;
   onPending = λ b k p p' g. (
     subst (λ (n : ℕ). In n (0 ∷ 1 ∷ [])) (sym (g .number)) (refusals.pending-answers b),
     λ h. g .answer ∙ rw (ap (λ (n : ℕ). eqb n 0) (sym (g .number)) ∙ h),

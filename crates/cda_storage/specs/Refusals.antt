@@ -16,8 +16,10 @@ use Rattle.model.specs.Step.{Fault, fails, full, commitNumber}
 use Rattle.model.specs.Plan.{commitFault}
 use Rattle.answers.specs.Answers.{Answer, Pending, refusal, answer, outcome}
 use Rattle.answers.specs.Answers.{begin, write, delete, deleteAll, createCollection, deleteCollection, copyCollection, rollback, commit, commitStep, recover, recoverStep, pending, listKeys, findBackup}
+use Rattle.answers.specs.Inventory.{inventory}
 use Rattle.basic_laws.specs.Tests.{All, in-all}
-use Rattle.answer_laws.specs.EntryLaws.{commitStepRefusals, recoverRefusals, recoverStepRefusals, listKeysRefusals, on-commit, on-recover, on-commit-step, on-recover-step, on-list-keys, on-find-backup}
+use Rattle.answer_laws.specs.EntryLaws.{commitStepRefusals, recoverRefusals, recoverStepRefusals, listKeysRefusals}
+use Rattle.answer_laws.specs.EntryLaws.{on-commit, on-recover, on-commit-step, on-recover-step, on-list-keys, on-find-backup, on-inventory}
 use Rattle.handover.specs.Contract.{handsBack, Gives, StepGives}
 use Rattle.recording.specs.Asking.{asked, entryOf, numbersOf}
 use Rattle.recording.specs.Laws.{entry-is, asked-cases}
@@ -116,6 +118,9 @@ list-keys-answers c b out =
 
 pub find-backup-answers : (b : Bytes) (out : ℕ) → Answered (0 ∷ 1 ∷ 2 ∷ []) (findBackup b out)
 find-backup-answers b out = on-find-backup (Answered (0 ∷ 1 ∷ 2 ∷ [])) b out (refusals (1 ∷ 2 ∷ [])) (λ s d. done _ refl)
+
+pub inventory-answers : (b : Bytes) (out : ℕ) → Answered (0 ∷ 1 ∷ 2 ∷ []) (inventory b out)
+inventory-answers b out = on-inventory (Answered (0 ∷ 1 ∷ 2 ∷ [])) b out (refusals (1 ∷ 2 ∷ [])) (λ s d. done _ refl)
 
 -- `cda_storage_has_pending_work` answers 0 or 1.
 pub pending-answers : (b : Bytes) → In {A = ℕ} (pending b .number) (0 ∷ 1 ∷ [])

@@ -6,6 +6,7 @@ ghost use Rattle.basics.specs.Base.{if_then_else_};
 ghost use Rattle.answers.specs.Answers as answers;
 ghost use Rattle.answers.specs.Answers.{begin, write, delete, deleteAll, createCollection, deleteCollection, copyCollection, rollback};
 ghost use Rattle.answers.specs.Answers.{commit, commitStep, recover, recoverStep, listKeys, findBackup};
+ghost use Rattle.answers.specs.Inventory as inventories;
 ghost use Rattle.handover.specs.Contract.{lent, room, Returns, StepReturns, PendingReturns};
 
 mod keys;
@@ -229,5 +230,25 @@ pub extern "C" fn cda_storage_find_backup(image: &[u8], out: &mut [u8], written:
     let s = o.store;
     let hit = recovery::search::find_backup(image, &tree, s.tree);
     *written = encode::put_hit(image, hit, out);
+    0
+}
+
+// The collections, their files and content numbers as JSON. Refusals: 1, 2, which here means that the text is longer than the output.
+#[no_mangle]
+pub extern "C" fn cda_storage_inventory(image: &[u8], out: &mut [u8], written: &mut usize) -> u32
+    ensures { λ r. ⌜ Returns (inventories.inventory (lent image) (room out)) r out written ⌝ }
+{
+    let mut tree = [[0u32; 3]; store::ROOM];
+    let mut staging = [[0u32; 3]; store::ROOM];
+    let o = handover::open_image(image, &mut tree, &mut staging, true);
+    if o.number != 0 {
+        return o.number;
+    }
+    let s = o.store;
+    let n = inventory::put_inventory(image, &tree, s.tree, out);
+    if n == 0 {
+        return 2;
+    }
+    *written = n;
     0
 }

@@ -10,7 +10,8 @@ fn one(tag: u8, buf: &[u8; 65536], len: usize) {
             let mut out = [0u8; questions::ROOM];
             let mut step = [0u8; questions::STEP_ROOM];
             let answer = questions::ask(value, &mut out, &mut step);
-            show::answer(answer, &out, &step);
+            let call = questions::byte(value, questions::CALL);
+            show::answer(call, answer, &out, &step);
         }
         _ => show::put(b"unreadable\n"),
     }

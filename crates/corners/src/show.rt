@@ -1,5 +1,5 @@
 // An answer as a line: its number, its step field, its pending word, and the fields of its output as words. A directory is `db/`, a file
-// `db/a=7`, a staging file `~s.tmp=9`, the log `log:` and its bytes, the open mark `open`, a key itself.
+// `db/a=7`, a staging file `~s.tmp=9`, the log `log:` and its bytes, the open mark `open`, a key itself. An inventory is its text.
 use questions::Answer;
 
 pub fn put(s: &[u8]) {
@@ -102,7 +102,18 @@ fn put_step(s: &[u8]) {
     put(b"]");
 }
 
-pub fn answer(a: Answer, out: &[u8], step: &[u8]) {
+fn put_output(call: u8, s: &[u8]) {
+    if call == questions::INVENTORY {
+        put(b"  ");
+        put(s);
+        return;
+    }
+    put(b"  '");
+    put_fields(s);
+    put(b"'");
+}
+
+pub fn answer(call: u8, a: Answer, out: &[u8], step: &[u8]) {
     put_number(a.number as u64);
     if a.step_written != questions::UNTOUCHED {
         put_step(wal::payload(step, 0, a.step_written));
@@ -112,9 +123,7 @@ pub fn answer(a: Answer, out: &[u8], step: &[u8]) {
         put_number(a.pending as u64);
     }
     if a.written != questions::UNTOUCHED {
-        put(b"  '");
-        put_fields(wal::payload(out, 0, a.written));
-        put(b"'");
+        put_output(call, wal::payload(out, 0, a.written));
     }
     if !a.clean {
         put(b"  and touched bytes behind");

@@ -5,10 +5,11 @@
 // for the kinds and marks of Writes; 0x42, one whose answer documents 01 and 02 alone decide. A question is itself a sequence of fields:
 //
 //     0x01  the call, one byte: 1 begin, 2 write, 3 delete, 4 delete_all, 5 create_collection, 6 delete_collection, 7 copy_collection,
-//           8 rollback, 9 commit, 10 commit_step, 11 has_pending_work, 12 recover, 13 recover_step, 14 list_keys, 15 find_backup
+//           8 rollback, 9 commit, 10 commit_step, 11 has_pending_work, 12 recover, 13 recover_step, 14 list_keys, 15 find_backup,
+//           16 inventory
 //     0x02  collection, source or name; 0x03 key; 0x04 staging name; 0x05 destination
 //     0x06  content number in four bytes, or step number in eight
-//     0x07  lengths of the lent outputs, four bytes each: image, keys or backup, step field; ample where absent
+//     0x07  lengths of the lent outputs, four bytes each: image, keys, backup or text, step field; ample where absent
 //     0x08  image
 //
 // and, where the answer is to be compared, what was answered:
@@ -27,6 +28,9 @@ pub const ASKED: u8 = 0x41;
 pub const ASKED_BY_DOCUMENTS: u8 = 0x42;
 
 pub const CALL: u8 = 0x01;
+
+// The call whose answer is a text, not fields.
+pub const INVENTORY: u8 = 16;
 
 const NAME: u8 = 0x02;
 
@@ -217,6 +221,7 @@ fn run(call: u8, q: &[u8], out: &mut [u8], written: &mut usize) -> u32 {
         12 => cda_storage::cda_storage_recover(image, out, written),
         14 => cda_storage::cda_storage_list_keys(image, name, out, written),
         15 => cda_storage::cda_storage_find_backup(image, out, written),
+        INVENTORY => cda_storage::cda_storage_inventory(image, out, written),
         _ => record(call, q, out, written),
     }
 }

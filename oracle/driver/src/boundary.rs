@@ -6,7 +6,7 @@ use plain::{
     image::{DIR_LIMIT, FILE_LIMIT, LOG_LIMIT, STAGING_LIMIT, unmarked},
     log::{OPERATION_LIMIT, Status},
 };
-use store::{Call, HIT_ROOM, IMAGE_ROOM, KEYS_ROOM, Lent, Plan, STEP_ROOM};
+use store::{Call, HIT_ROOM, IMAGE_ROOM, INVENTORY_ROOM, KEYS_ROOM, Lent, Plan, STEP_ROOM};
 
 pub fn run(panel: &mut Panel) {
     for length in [1, 59, 60, 61, 63, 64, 65, 66] {
@@ -18,6 +18,7 @@ pub fn run(panel: &mut Panel) {
     full_commits(panel);
     lent_lengths(panel);
     largest(panel);
+    inventories(panel);
     step_numbers(panel);
     panel.summary("boundary");
 }
@@ -67,6 +68,7 @@ fn calls(panel: &mut Panel, image: &[u8], name: &Name) {
         Call::HasPendingWork,
         Call::ListKeys { collection: name.clone() },
         Call::FindBackup,
+        Call::Inventory,
     ];
     for call in calls {
         panel.ask(&call, image, Lent::AMPLE);
@@ -166,6 +168,7 @@ fn lent_lengths(panel: &mut Panel) {
                 Call::ListKeys { collection: b"db".to_vec() },
                 Call::ListKeys { collection: b"".to_vec() },
                 Call::FindBackup,
+                Call::Inventory,
             ] {
                 panel.ask(&call, &image, some);
             }
@@ -207,6 +210,21 @@ fn largest(panel: &mut Panel) {
             let one_dir = (0..FILE_LIMIT).map(|i| (name('K', i, 64), 1)).collect();
             let keys = Image { dirs: [(b"db".to_vec(), one_dir)].into(), ..image };
             panel.ask(&Call::ListKeys { collection: b"db".to_vec() }, &keys.encode(), Lent { out: KEYS_ROOM, step: 0 });
+        }
+    }
+}
+
+/// Inventories with room, without, and with more: the shortest, one of names that a reader must not break at, the longest.
+fn inventories(panel: &mut Panel) {
+    let names = |count: u8| (0..count).map(|i| if i == 0 { vec![b'"'; 64] } else { [vec![b'"'; 63], vec![b'a' + i]].concat() });
+    let files = || names(8).map(|file| (file, u32::MAX)).collect();
+    let longest = Image { dirs: names(16).map(|dir| (dir, files())).collect(), ..Image::default() };
+    let stores = ["", "db/ \"/ {}/{\"=1 a/b:=10 a/c,\"},=999 ~s=1 recording open"].map(text::read_store);
+    for image in stores.into_iter().chain([longest]) {
+        let text = panel.ask(&Call::Inventory, &image.encode(), Lent { out: INVENTORY_ROOM, step: 0 }).out.expect("a text").len();
+        assert_eq!(text == INVENTORY_ROOM, image.dirs.len() == DIR_LIMIT);
+        for out in [0, 1, text - 1, text, text + 1] {
+            panel.ask(&Call::Inventory, &image.encode(), Lent { out, step: 0 });
         }
     }
 }

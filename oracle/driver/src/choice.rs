@@ -41,7 +41,7 @@ const HANDED_BACK: usize = 4;
 /// What is looked at in a question and its answer.
 #[derive(Clone, PartialEq, Eq, PartialOrd, Ord)]
 pub struct Kind {
-    /// 1 to 15, as in crates/questions/src/lib.rt.
+    /// 1 to 16, as in crates/questions/src/lib.rt.
     pub entry: u8,
     pub number: u32,
     /// An index of LOGS.
@@ -53,7 +53,7 @@ pub struct Kind {
     /// What the names are like.
     names: Vec<u8>,
     /// What else is in the image, whether the answer changes it, how much is lent.
-    signs: [u8; 7],
+    signs: [u8; 8],
     /// Whether document 02, item 4 answers otherwise than where the Writes are of kind 1.
     by_item_4: bool,
 }
@@ -162,6 +162,7 @@ pub fn entry(call: &Call) -> (u8, Vec<&Name>) {
         Call::RecoverStep(_) => (13, vec![]),
         Call::ListKeys { collection } => (14, vec![collection]),
         Call::FindBackup => (15, vec![]),
+        Call::Inventory => (16, vec![]),
     }
 }
 
@@ -231,7 +232,7 @@ fn name_kind(name: &[u8]) -> u8 {
     }
 }
 
-fn signs(question: &Question, answer: &Answer, image: &Image) -> [u8; 7] {
+fn signs(question: &Question, answer: &Answer, image: &Image) -> [u8; 8] {
     let lent = |length: usize, room: usize| match length.cmp(&room) {
         std::cmp::Ordering::Less => 0,
         std::cmp::Ordering::Equal => 1,
@@ -240,6 +241,8 @@ fn signs(question: &Question, answer: &Answer, image: &Image) -> [u8; 7] {
     let room = match question.call {
         Call::ListKeys { .. } => KEYS_ROOM,
         Call::FindBackup => HIT_ROOM,
+        // Its own text, where that has room.
+        Call::Inventory => answer.out.as_ref().map_or(usize::MAX, Vec::len),
         _ => IMAGE_ROOM,
     };
     [
@@ -250,5 +253,6 @@ fn signs(question: &Question, answer: &Answer, image: &Image) -> [u8; 7] {
         answer.out.as_ref().map_or(0, |out| if *out == question.image { 1 } else { 2 }),
         lent(question.lent.out, room),
         lent(question.lent.step, STEP_ROOM),
+        u8::from(question.call == Call::Inventory && question.image.contains(&b'"')),
     ]
 }

@@ -43,6 +43,7 @@ pub fn run(panel: &mut Panel, every: usize) {
         panel.plan(Plan::Commit, image);
         panel.ask(&Call::HasPendingWork, image, Lent::AMPLE);
         panel.ask(&Call::FindBackup, image, Lent::AMPLE);
+        panel.ask(&Call::Inventory, image, Lent::AMPLE);
         panel.ask(&Call::ListKeys { collection: b"db".into() }, image, Lent::AMPLE);
         panel.ask(&Call::Delete { collection: b"db".into(), key: b"a".into() }, image, Lent::AMPLE);
         panel.progress("damaged", i as u64, total);

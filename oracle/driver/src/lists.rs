@@ -18,7 +18,7 @@ const TEXT: u8 = 0x40;
 const ASKED: u8 = 0x41;
 const ASKED_BY_DOCUMENTS: u8 = 0x42;
 
-const ENTRIES: [&str; 15] = [
+const ENTRIES: [&str; 16] = [
     "begin",
     "write",
     "delete",
@@ -34,6 +34,7 @@ const ENTRIES: [&str; 15] = [
     "recover_step",
     "list_keys",
     "find_backup",
+    "inventory",
 ];
 
 /// As `choice::Kind` numbers them, from 1.
@@ -130,7 +131,7 @@ fn corners_list(panel: &Panel, table: &str) -> (Vec<u8>, String) {
                 let label = format!("    {label} | {}", said_by(by));
                 put_field(&mut list, TEXT, &[label.as_bytes()]);
                 put_field(&mut list, tag(by), &[&fields(question)]);
-                printed += &format!("{label}{}\n", shown(&answer));
+                printed += &format!("{label}{}\n", shown(&question.call, &answer));
                 continue;
             }
         };
@@ -142,11 +143,14 @@ fn corners_list(panel: &Panel, table: &str) -> (Vec<u8>, String) {
 }
 
 /// An answer as the program prints it.
-fn shown(answer: &Answer) -> String {
+fn shown(call: &Call, answer: &Answer) -> String {
     let mut words = vec![answer.number.to_string()];
     words.extend(answer.step.as_ref().map(|step| format!("[{}]", text::field(step))));
     words.extend(answer.pending.map(|pending| format!("pending {pending}")));
-    words.extend(answer.out.as_ref().map(|out| format!("'{}'", shown_fields(out))));
+    words.extend(answer.out.as_ref().map(|out| match call {
+        Call::Inventory => String::from_utf8_lossy(out).into_owned(),
+        _ => format!("'{}'", shown_fields(out)),
+    }));
     words.join("  ")
 }
 

@@ -88,9 +88,10 @@ fn is_of_item_4(q: &Question) -> bool {
     carried_out && log.is_some_and(|log| log::operations(&log).0.iter().any(|operation| operation.mark() == Some(true)))
 }
 
-/// What the original doesn't say of a backup that stands: which (document 02, item 2).
-fn names_a_backup(q: &Question, said: &Answer) -> bool {
-    q.call == Call::FindBackup && said.number == 0 && said.out.as_ref().is_some_and(|out| !out.is_empty())
+/// What the original doesn't say: which backup stands (document 02, item 2), and an inventory (item 9).
+fn is_added(q: &Question, said: &Answer) -> bool {
+    let told = said.number == 0 && said.out.as_ref().is_some_and(|out| !out.is_empty());
+    told && matches!(q.call, Call::FindBackup | Call::Inventory)
 }
 
 impl Panel {
@@ -119,7 +120,7 @@ impl Panel {
         match by_original {
             None => Some(By::Documents),
             Some(answer) if answer.number == NO_OPINION => {
-                (ADDED.contains(&said.number) || names_a_backup(&question(), said)).then_some(By::Documents)
+                (ADDED.contains(&said.number) || is_added(&question(), said)).then_some(By::Documents)
             }
             Some(answer) if answer == said => Some(By::Original),
             Some(answer) if *answer == old(said) => Some(By::ButForMarks),

@@ -46,7 +46,7 @@ fn transaction(panel: &mut Panel, rng: &mut Rng) {
         let image = Image::decode(&bytes).unwrap_or_default();
         let call = if turn == 0 { Call::Begin } else { generate::call(rng, &image) };
         let answer = panel.ask(&call, &bytes, Lent::AMPLE);
-        if let (Some(next), false) = (answer.out, matches!(call, Call::ListKeys { .. } | Call::FindBackup)) {
+        if let (Some(next), false) = (answer.out, matches!(call, Call::ListKeys { .. } | Call::FindBackup | Call::Inventory)) {
             bytes = next;
         }
     }

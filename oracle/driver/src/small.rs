@@ -1,5 +1,5 @@
 //! Every small case: stores of up to two directories with up to two files each, lists of up to two operations, Writes of both kinds and with
-//! either mark, every cut. Of each store, the backup that it has.
+//! either mark, every cut. Of each store, the backup that it has and its inventory.
 use crate::panel::Panel;
 use crate::text;
 use plain::{Image, Name, Operation, image::Files, log::Status};
@@ -22,6 +22,7 @@ pub fn run(panel: &mut Panel, names: &Names, every: u64, rest: u64) {
     let total = (stores.len() * lists.len()) as u64;
     for store in &stores {
         panel.ask(&Call::FindBackup, &store.encode(), Lent::AMPLE);
+        panel.ask(&Call::Inventory, &store.encode(), Lent::AMPLE);
     }
     let mut seen: HashSet<u64> = HashSet::new();
     for case in (rest..total).step_by(every as usize) {

@@ -174,6 +174,7 @@ pub fn call(call: &Call) -> String {
         Call::RecoverStep(n) => format!("recover_step {n}"),
         Call::ListKeys { collection } => words("list_keys", &[collection]),
         Call::FindBackup => "find_backup".into(),
+        Call::Inventory => "inventory".into(),
     }
 }
 
@@ -202,6 +203,7 @@ pub fn read_call(words: &mut std::slice::Iter<String>) -> Call {
         "recover_step" => Call::RecoverStep(word().parse().expect("a step number")),
         "list_keys" => Call::ListKeys { collection: read_name(word()) },
         "find_backup" => Call::FindBackup,
+        "inventory" => Call::Inventory,
         other => panic!("no entry is called {other}"),
     }
 }
@@ -233,6 +235,7 @@ pub fn answer(c: &Call, a: &Answer) -> String {
     words.extend(a.pending.map(|p| format!("pending {p}")));
     words.extend(a.out.as_ref().map(|out| match c {
         Call::ListKeys { .. } => format!("keys {}", hex(out)),
+        Call::Inventory => String::from_utf8_lossy(out).into_owned(),
         _ => format!("'{}'", image(out)),
     }));
     words.extend(a.stray.as_ref().map(|s| format!("STRAY {s}")));

@@ -1,5 +1,5 @@
-//! Useless stores, most of them from document 01's note to the testers, three of document 02's item 4 and two of its item 2, in the port's place:
-//! the panel must differ on each.
+//! Useless stores, most of them from document 01's note to the testers, three of document 02's item 4 and two each of its items 2 and 9, in the
+//! port's place: the panel must differ on each.
 use crate::corners;
 use crate::panel::{Panel, Question};
 use plain::{
@@ -13,7 +13,7 @@ use store::{Call, Out, Plan, Store, pass};
 /// Spoils an answer of the plain reading: the call, the lent image, the number, the outputs.
 type Spoil = fn(&Call, &[u8], u32, &mut Out, &mut Out) -> u32;
 
-const WRONG: [(&str, Spoil); 16] = [
+const WRONG: [(&str, Spoil); 18] = [
     ("refuses each call", |_, _, _, _, _| 4),
     ("gives one image always", |_, _, number, out, _| {
         if number == 0 {
@@ -82,6 +82,22 @@ const WRONG: [(&str, Spoil); 16] = [
     }),
     ("finds in the last directory", |call, image, number, out, _| {
         found_in(call, image, number, out, |image| image.dirs = image.dirs.pop_last().into_iter().collect())
+    }),
+    ("a quote in a name ends it", |call, _, number, out, _| {
+        if *call == Call::Inventory && number == 0 {
+            let text = String::from_utf8_lossy(&out.bytes[..out.written]).replace('\\', "");
+            out.put(text.as_bytes());
+        }
+        number
+    }),
+    ("an inventory without room is cut off", |call, image, number, out, _| {
+        if *call != Call::Inventory || number != 2 {
+            return number;
+        }
+        let mut bytes = vec![0; store::INVENTORY_ROOM];
+        Plain.inventory(image, &mut Out { bytes: &mut bytes, written: 0 });
+        out.put(&bytes[..out.bytes.len()]);
+        0
     }),
 ];
 
@@ -195,5 +211,8 @@ impl Store for Wrong {
     }
     fn find_backup(&self, image: &[u8], out: &mut Out) -> u32 {
         self.one(Call::FindBackup, image, out)
+    }
+    fn inventory(&self, image: &[u8], out: &mut Out) -> u32 {
+        self.one(Call::Inventory, image, out)
     }
 }

@@ -1,4 +1,4 @@
-//! The original behind the fifteen entries: an image is put on disk, the original's own code works on it, the disk is read
+//! The original behind the sixteen entries: an image is put on disk, the original's own code works on it, the disk is read
 //! back.
 //!
 //! Where document 01 added a rule, the original has no opinion (`NO_OPINION`): numbers 1, 2, 4, 5, 10, 12, and 6 for a name
@@ -433,6 +433,11 @@ impl Store for Original {
         }
         out.put(&[]);
         0
+    }
+
+    /// The original makes none.
+    fn inventory(&self, _: &[u8], _: &mut Out) -> u32 {
+        NO_OPINION
     }
 
     /// All answers by one run.

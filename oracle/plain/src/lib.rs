@@ -1,4 +1,4 @@
-//! A plain reading of document 01, and of items 2 and 4 of document 02: a store in memory, on ordered maps, with nothing in mind but the text.
+//! A plain reading of document 01, and of items 2, 4 and 9 of document 02: a store in memory, on ordered maps, with nothing in mind but the text.
 pub mod image;
 pub mod log;
 pub mod name;
@@ -12,6 +12,7 @@ pub use name::Name;
 use log::{Ending, OPERATION_LIMIT, Status};
 use name::{backup, is_backup, is_tmp, is_valid};
 use run::{Recovery, Run, Stop};
+use std::collections::BTreeMap;
 use store::{HIT_ROOM, IMAGE_ROOM, KEYS_ROOM, Out, STEP_ROOM, Store};
 
 pub struct Plain;
@@ -120,6 +121,17 @@ fn step_answer(image: Image, n: u64, out: &mut Out, step: &mut Out, go: impl FnO
 
 fn step_room(out: &Out, step: &Out) -> bool {
     out.bytes.len() >= IMAGE_ROOM && step.bytes.len() >= STEP_ROOM
+}
+
+/// A name in an inventory. 02, item 9: "A double quote in a name is written with a backslash before it; no other byte of a name needs escaping."
+fn quoted(name: &Name) -> String {
+    format!("\"{}\"", String::from_utf8_lossy(name).replace('"', "\\\""))
+}
+
+/// "as one object without spaces or line ends"
+fn object<T>(members: &BTreeMap<Name, T>, value: impl Fn(&T) -> String) -> String {
+    let members: Vec<String> = members.iter().map(|(name, member)| format!("{}:{}", quoted(name), value(member))).collect();
+    format!("{{{}}}", members.join(","))
 }
 
 impl Store for Plain {
@@ -284,6 +296,18 @@ impl Store for Plain {
             image::put_field(&mut hit, 0x10, &[dir]);
         }
         out.put(&hit);
+        0
+    }
+
+    /// 02, item 9: "each directory name with an object of its file names and content numbers in decimal, both in image order"
+    fn inventory(&self, image: &[u8], out: &mut Out) -> u32 {
+        let Some(image) = Image::decode(image) else { return 1 };
+        let text = object(&image.dirs, |files| object(files, u32::to_string));
+        // "Refusal 2 here means that the text is longer than the lent output"
+        if text.len() > out.bytes.len() {
+            return 2;
+        }
+        out.put(text.as_bytes());
         0
     }
 }

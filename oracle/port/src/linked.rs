@@ -57,4 +57,7 @@ impl Store for Port {
     fn find_backup(&self, image: &[u8], out: &mut Out) -> u32 {
         sys::find_backup(image, lent(out))
     }
+    fn inventory(&self, image: &[u8], out: &mut Out) -> u32 {
+        sys::inventory(image, lent(out))
+    }
 }

@@ -19,6 +19,7 @@ pub enum Call {
     RecoverStep(u64),
     ListKeys { collection: Name },
     FindBackup,
+    Inventory,
 }
 
 /// The two entries that carry out file steps.
@@ -114,6 +115,7 @@ pub fn pass<S: Store + ?Sized>(store: &S, call: &Call, image: &[u8], out: &mut O
         Call::RecoverStep(n) => store.recover_step(image, *n, out, step),
         Call::ListKeys { collection } => store.list_keys(image, collection, out),
         Call::FindBackup => store.find_backup(image, out),
+        Call::Inventory => store.inventory(image, out),
     }
 }
 

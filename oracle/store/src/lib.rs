@@ -1,4 +1,4 @@
-//! The fifteen exported entries as a trait, so that the port, the original and the plain reading take the same calls, and
+//! The sixteen exported entries as a trait, so that the port, the original and the plain reading take the same calls, and
 //! the one way in which all of them are asked.
 mod call;
 
@@ -12,6 +12,8 @@ pub const KEYS_ROOM: usize = 8_576;
 pub const STEP_ROOM: usize = 197;
 /// 02, item 2: the fields of a directory and of a file, with names of 64 bytes.
 pub const HIT_ROOM: usize = 138;
+/// 02, item 9: the longest inventory, of 16 directories and 128 files with names of 64 bytes, as many double quotes in them as can be.
+pub const INVENTORY_ROOM: usize = 20_178;
 
 /// What the original answers where it has no rule of its own and nothing to say: the number is document 01's alone.
 pub const NO_OPINION: u32 = 99;
@@ -47,6 +49,7 @@ pub trait Store {
     fn recover_step(&self, image: &[u8], n: u64, out: &mut Out, step: &mut Out) -> u32;
     fn list_keys(&self, image: &[u8], collection: &[u8], out: &mut Out) -> u32;
     fn find_backup(&self, image: &[u8], out: &mut Out) -> u32;
+    fn inventory(&self, image: &[u8], out: &mut Out) -> u32;
 
     /// The whole answer, and the answers of the step entry for n = 0, 1, .. up to the first refusal, which is 16 past the end.
     fn plan(&self, plan: Plan, image: &[u8]) -> (Answer, Vec<Answer>) {

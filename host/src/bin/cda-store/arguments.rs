@@ -6,6 +6,7 @@ use std::{ffi::OsString, path::PathBuf};
 pub enum Command {
     Tell(String),
     List { store: PathBuf },
+    Inventory { store: PathBuf },
     Recover { store: PathBuf, way: Way },
     Update { store: PathBuf, operations: Vec<Operation>, stop_after: Option<u64> },
     Cuts { store: PathBuf, operations: Vec<Operation>, picture: Option<PathBuf> },
@@ -54,7 +55,9 @@ pub fn read(words: &[OsString]) -> Result<Command, Failure> {
     let words: Vec<OsString> = words.collect();
     match name.as_str() {
         "list" | "recover" if !words.is_empty() => Err(Failure::Usage(format!("{name} takes a directory alone"))),
+        "inventory" if !words.is_empty() => Err(Failure::Usage("inventory takes a directory or an image alone".into())),
         "list" => Ok(Command::List { store }),
+        "inventory" => Ok(Command::Inventory { store }),
         "recover" => Ok(Command::Recover { store, way }),
         "cuts" => {
             let read = |(name, words): (&OsString, &[OsString])| Operation::read(&name.to_string_lossy(), words);

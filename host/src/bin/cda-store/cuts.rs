@@ -4,10 +4,11 @@ use crate::{
     failure::Failure,
     operation::Operation,
     progress::Progress,
+    update,
     why::{Scene, Why},
 };
-use cda_store::{Contents, Files, Image, Reader, Refusal, Step, Stepped, StoreError};
-use std::{collections::BTreeMap, fs, path::Path};
+use cda_store::{Contents, Files, Image, Refusal, Step, Stepped, StoreError};
+use std::{collections::BTreeMap, path::Path};
 
 /// All cuts of a transaction, from the one before its first step.
 pub struct Cuts {
@@ -74,7 +75,7 @@ impl Outcome {
 /// stands open there.
 pub fn transaction(store: &Path, operations: &[Operation]) -> Result<Image, Failure> {
     let is_image = store.is_file();
-    let image = if is_image { Image::new(fs::read(store).map_err(Failure::at(store))?)? } else { Reader::open(store)?.image()? };
+    let image = update::image(store)?;
     if operations.is_empty() {
         let contents = image.contents();
         let open = contents.open || !is_image;

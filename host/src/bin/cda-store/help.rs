@@ -14,12 +14,20 @@ const UPDATE: &str = "The operations are one transaction. An update that was int
 of this one would leave.
   --stop-after N   For tests: the process ends behind step N of the commit, as if it were killed there, with status 3.";
 
-const TOPICS: [Topic; 10] = [
+const TOPICS: [Topic; 11] = [
     Topic {
         name: "list",
         usage: "list DIR",
         line: "print collections, files and their sizes",
         more: "Sizes are in bytes. Nothing is changed. Last lines say if an interrupted update stands, and which backup is the first.",
+    },
+    Topic {
+        name: "inventory",
+        usage: "inventory DIR|IMAGE",
+        line: "print collections and files as JSON",
+        more: "One object: each collection's name with an object of its files' names and content numbers, such as {\"db\":{\"a\":7}}. Nothing is changed.
+An image file (document 01, 'How a store is handed over') has these numbers; the files of DIR are numbered from 1 in their order. Backups are
+shown too; staging files and the log of an interrupted update are not.",
     },
     Topic {
         name: "recover",
@@ -76,7 +84,7 @@ const STATUS: &str =
 
 /// Whether a command records operations and commits them.
 pub fn is_update(name: &str) -> bool {
-    !["list", "recover", "cuts"].contains(&name)
+    !["list", "inventory", "recover", "cuts"].contains(&name)
 }
 
 /// The help of a command, if there is one of that name.
@@ -90,7 +98,7 @@ pub fn of(name: &str) -> Result<String, Failure> {
 pub fn overview() -> String {
     let mut text = "Usage: cda-store COMMAND ..\n\nA store of collections on a directory, updated by transactions.\n\n".to_string();
     for topic in &TOPICS {
-        let _ = writeln!(text, "  {:8} {}", topic.name, topic.line);
+        let _ = writeln!(text, "  {:9} {}", topic.name, topic.line);
     }
     text + "\ncda-store COMMAND --help says more, cda-store --version which version this is. Words behind -- are no options.
 DIR must exist; a store needs nothing in it.\n\n"

@@ -62,6 +62,7 @@ fn run(command: Command) -> Result<String, Failure> {
     match command {
         Command::Tell(text) => Ok(text),
         Command::List { store } => update::list(&store),
+        Command::Inventory { store } => Ok(update::image(&store)?.inventory()? + "\n"),
         Command::Recover { store, way } => update::recover(&store, way),
         Command::Update { store, operations, stop_after } => update::update(&store, &operations, stop_after),
         Command::Cuts { store, operations, picture } => {

@@ -1,6 +1,6 @@
 //! Listing, recovery and transactions on a directory.
 use crate::{arguments::Way, failure::Failure, operation::Operation, progress::Progress};
-use cda_store::{Event, FileStore, Plan, Reader};
+use cda_store::{Event, FileStore, Image, Plan, Reader};
 use std::{
     fmt::Write as _,
     fs,
@@ -12,6 +12,14 @@ use std::{
 
 /// The exit status after `--stop-after`.
 const STOPPED: i32 = 3;
+
+/// The store as an image: that of a directory, or the one that a file holds.
+pub fn image(store: &Path) -> Result<Image, Failure> {
+    if store.is_file() {
+        return Ok(Image::new(fs::read(store).map_err(Failure::at(store))?)?);
+    }
+    Ok(Reader::open(store)?.image()?)
+}
 
 /// What stands in the store, with sizes. Nothing is changed.
 pub fn list(store: &Path) -> Result<String, Failure> {

@@ -20,7 +20,8 @@ use Rattle.model.specs.Image.{hitFields, imageFields, encode, treeOf, stagingOf
 use Rattle.model.specs.Step.{removeDir, renameDir, apply, zeroSeparated, tagAndNames, stepField, stepFault}
 use Rattle.model.specs.Plan.{opSteps, undoSteps, restoreFile, restoreDirectory, removeBackupFile, removeBackupsIn, firstNamings, syncExisting, commitFault, commitPlan, committedAt, isNewArtifact, recoverPlan, recoveredAt, recovered}
 use Rattle.model.specs.Record.{transaction, beginTransaction, discard, recordWrite, keyList}
-use Rattle.answers.specs.Answers.{Answer, Pending, begin, rollback, write, commitStore, commit, recoverStore, recover, Broke, recoverCause, logCause, commitStep, recoverStep, pending, listKeys, findBackup, decimal, listingLine, listing}
+use Rattle.answers.specs.Answers.{Answer, Pending, begin, rollback, write, commitStore, commit, recoverStore, recover, commitStep, recoverStep}
+use Rattle.answers.specs.Answers.{Broke, recoverCause, logCause, pending, listKeys, findBackup, decimal, listingLine, listing}
 use Rattle.answers.specs.Inventory.{contents, collections, escaped, quoted, object, fileMember, collectionMember, inventoryText, inventory}
 
 -- An answer as its number, its image and its step field; the pending question's as its number and 1 for yes; a number and how the log broke.

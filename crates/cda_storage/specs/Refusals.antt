@@ -11,13 +11,15 @@ use lib.Dec.{leb}
 use Rattle.basics.specs.Limits.{imageRoom, logLimit}
 use Rattle.basics.specs.Order.{Name}
 use Rattle.basics.specs.Base.{Bytes, caseOption, if_then_else_, In}
-use Rattle.model.specs.Log.{Journal, absent, recording, committing, journal, Ending, whole, truncated, undecodable, tooMany, headerShort, payloadMissing, checksumWrong, endingCause, validHeader, entries}
+use Rattle.model.specs.Log.{Journal, absent, recording, committing, journal, validHeader, entries}
+use Rattle.model.specs.Log.{Ending, whole, truncated, undecodable, tooMany, headerShort, payloadMissing, checksumWrong, endingCause}
 use Rattle.model.specs.Store.{Store, hasPendingWork}
 use Rattle.model.specs.Image.{decode}
 use Rattle.model.specs.Step.{Fault, fails, full, commitNumber}
 use Rattle.model.specs.Plan.{commitFault, discardedCause}
 use Rattle.answers.specs.Answers.{Answer, Pending, Broke, refusal, answer, outcome, readingNumber}
-use Rattle.answers.specs.Answers.{begin, write, delete, deleteAll, createCollection, deleteCollection, copyCollection, rollback, commit, commitStep, recover, recoverCause, recoverStep, pending, listKeys, findBackup, logCause}
+use Rattle.answers.specs.Answers.{begin, write, delete, deleteAll, createCollection, deleteCollection, copyCollection, rollback}
+use Rattle.answers.specs.Answers.{commit, commitStep, recover, recoverCause, recoverStep, pending, listKeys, findBackup, logCause}
 use Rattle.basic_laws.specs.Tests.{All, in-all}
 use Rattle.answer_laws.specs.EntryLaws.{commitStepRefusals, recoverRefusals, recoverStepRefusals, listKeysRefusals, on-commit, on-recover, on-commit-step, on-recover-step, on-list-keys, on-find-backup}
 use Rattle.handover.specs.Contract.{handsBack, Gives, StepGives}
@@ -159,7 +161,7 @@ recover-tells b out = record { numbers = recover-answers b out .numbers; one = g
 
 pub log-cause-tells : (l : Bytes) → Told (0 ∷ 1 ∷ 11 ∷ 12 ∷ 21 ∷ []) (logCause l)
 unfolding logCause
-log-cause-tells l = go (leb (length l) logLimit) (validHeader l)
+log-cause-tells l = go (leb (length l) logLimit) (validHeader l) (entries l .end)
   where
     reading : (e : Ending) → In {A = ℕ} (readingNumber e) (0 ∷ 1 ∷ 11 ∷ 12 ∷ 21 ∷ [])
     reading whole = inl refl
@@ -167,7 +169,8 @@ log-cause-tells l = go (leb (length l) logLimit) (validHeader l)
     reading undecodable = inr (inr (inl refl))
     reading tooMany = inr (inr (inr (inl refl)))
 
-    go : (a b : Bool) → Told (0 ∷ 1 ∷ 11 ∷ 12 ∷ 21 ∷ []) (if a then (if b then record { number = readingNumber (entries l .end); cause = endingCause (entries l .end) } else record { number = 21; cause = 0 }) else record { number = 1; cause = 0 })
-    go true true = record { numbers = reading (entries l .end); one = ending-causes (entries l .end) }
-    go true false = record { numbers = inr (inr (inr (inr (inl refl)))); one = inl refl }
-    go false b = record { numbers = inr (inl refl); one = inl refl }
+    go : (a b : Bool) (e : Ending) → Told (0 ∷ 1 ∷ 11 ∷ 12 ∷ 21 ∷ [])
+        (if a then (if b then record { number = readingNumber e; cause = endingCause e } else record { number = 21; cause = 0 }) else record { number = 1; cause = 0 })
+    go true true e = record { numbers = reading e; one = ending-causes e }
+    go true false e = record { numbers = inr (inr (inr (inr (inl refl)))); one = inl refl }
+    go false b e = record { numbers = inr (inl refl); one = inl refl }

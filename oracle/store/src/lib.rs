@@ -1,4 +1,4 @@
-//! The fifteen exported entries as a trait, so that the port, the original and the plain reading take the same calls, and
+//! The sixteen exported entries as a trait, so that the port, the original and the plain reading take the same calls, and
 //! the one way in which all of them are asked.
 mod call;
 
@@ -43,10 +43,11 @@ pub trait Store {
     fn commit_step(&self, image: &[u8], n: u64, out: &mut Out, step: &mut Out) -> u32;
     fn rollback(&self, image: &[u8], out: &mut Out) -> u32;
     fn has_pending_work(&self, image: &[u8], pending: &mut u32) -> u32;
-    fn recover(&self, image: &[u8], out: &mut Out) -> u32;
+    fn recover(&self, image: &[u8], out: &mut Out, cause: &mut u32) -> u32;
     fn recover_step(&self, image: &[u8], n: u64, out: &mut Out, step: &mut Out) -> u32;
     fn list_keys(&self, image: &[u8], collection: &[u8], out: &mut Out) -> u32;
     fn find_backup(&self, image: &[u8], out: &mut Out) -> u32;
+    fn log_cause(&self, log: &[u8], cause: &mut u32) -> u32;
 
     /// The whole answer, and the answers of the step entry for n = 0, 1, .. up to the first refusal, which is 16 past the end.
     fn plan(&self, plan: Plan, image: &[u8]) -> (Answer, Vec<Answer>) {

@@ -1,4 +1,4 @@
-// Runs each of the sixteen entries at a full store, on a thread with a stack of 128 KiB, and times it. Built and run by ./entries-run.
+// Runs each of the entries at a full store, on a thread with a stack of 128 KiB, and times it. Built and run by ./entries-run.
 #include "cda_storage.h"
 #include <pthread.h>
 #include <stdint.h>
@@ -24,6 +24,7 @@ typedef struct {
 static Image base, open, cut, out, done;
 static uint8_t step[CDA_STORAGE_STEP_ROOM];
 static size_t step_len;
+static uint32_t cause;
 
 // Every name has this many bytes, all but the last two the same.
 static size_t size;
@@ -117,6 +118,13 @@ static uint32_t walk(const Image *image) {
     return at != end;
 }
 
+// The log of an image that has one, and its length.
+static Lent log_of(const Image *image, size_t *length) {
+    Lent at = image->bytes;
+    while (*length = at[1] + 256 * at[2], *at != 0x13) at += 3 + *length;
+    return at + 3;
+}
+
 static void same(const char *what, const Image *a, const Image *b) {
     if (a->len == b->len && !memcmp(a->bytes, b->bytes, a->len)) return;
     printf("%s: another image\n", what);
@@ -145,7 +153,7 @@ static void committed(int files, uint32_t answer) {
         for (uint64_t n = 0; n <= plan; n++) {
             want("commit_step", cda_storage_commit_step(IN(open), n, OUT, STEP), 0);
             cut = out;
-            BEST(best, few, "recover", cda_storage_recover(IN(cut), OUT), 0)
+            BEST(best, few, "recover", cda_storage_recover(IN(cut), OUT, &cause), 0)
             if (pass == 0 || best < bests[n]) bests[n] = best;
             if (n == 0) same("recovery of cut 0", &out, &base);
             if (n == plan) same("recovery after the last step", &out, &done);
@@ -155,7 +163,7 @@ static void committed(int files, uint32_t answer) {
     want("commit_step", cda_storage_commit_step(IN(open), at, OUT, STEP), 0);
     cut = out;
     snprintf(what, sizeof what, "recover, slowest cut of that commit, n = %ju", (uintmax_t)at);
-    TIMED(what, cda_storage_recover(IN(cut), OUT), 0);
+    TIMED(what, cda_storage_recover(IN(cut), OUT, &cause), 0);
     done = out;
     for (plan = 0; cda_storage_recover_step(IN(cut), plan + 1, OUT, STEP) == 0;) plan++;
     snprintf(what, sizeof what, "recover_step at that cut, n = %ju, the plan's length", (uintmax_t)plan);
@@ -194,6 +202,10 @@ static void entries(size_t n) {
     TIMED("find_backup, none", cda_storage_find_backup(IN(open), OUT), 0);
     TIMED("inventory", cda_storage_inventory(IN(open), OUT), 0);
     want("pending", pending, 1);
+    size_t length;
+    Lent log = log_of(&open, &length);
+    TIMED("log_cause of 32 Writes", cda_storage_log_cause(log, length, &cause), 0);
+    want("cause", cause, 0);
     TIMED("rollback of 32 Writes", cda_storage_rollback(IN(open), OUT), 0);
 
     lay(128, 0, 32);

@@ -18,7 +18,7 @@ extern "C" {
 #define CDA_STORAGE_INVENTORY_ROOM 20178
 #define CDA_STORAGE_LOG_LIMIT 6952
 
-/* What the functions return: 0, or a refusal, which leaves outputs and counters as they were (but for 14 and 15 of a commit). */
+/* What the functions return: 0, or a refusal, which leaves outputs, counters and causes as they were (but for 14 and 15 of a commit). */
 enum cda_storage_number {
     CDA_STORAGE_DONE = 0,
     /* the image breaks its layout or a limit */
@@ -52,7 +52,21 @@ enum cda_storage_number {
     /* a step of the commit needs a 17th directory or a 129th file; the transaction was rolled back */
     CDA_STORAGE_STORE_FULL = 15,
     /* the step number is past the plan's end */
-    CDA_STORAGE_PAST_THE_END = 16
+    CDA_STORAGE_PAST_THE_END = 16,
+    /* the log has no valid header, or is truncated where a whole one is asked for */
+    CDA_STORAGE_NO_WHOLE_LOG = 21
+};
+
+/* How a log broke, as a function tells it that returned 0: the first entry that is not whole. 1 and 2 suggest that writing stopped, as on a full
+   flash, 3 that written bytes changed, as on a worn one. */
+enum cda_storage_cause {
+    CDA_STORAGE_NOT_BROKEN = 0,
+    /* under 8 bytes are left for the entry's checksum and length */
+    CDA_STORAGE_HEADER_SHORT = 1,
+    /* the entry's length is 0 or goes past the end */
+    CDA_STORAGE_PAYLOAD_MISSING = 2,
+    /* the entry's checksum is not that of its payload */
+    CDA_STORAGE_CHECKSUM_WRONG = 3
 };
 
 /* Begins a transaction: a fresh Recording log and the open mark. */
@@ -123,10 +137,11 @@ uint32_t cda_storage_has_pending_work(
     const uint8_t *image, size_t image_len,
     uint32_t *pending);
 
-/* Recovers what an interrupted transaction left, whole. */
+/* Recovers what an interrupted transaction left, whole. The cause says how the log broke, if a truncated Committing one was discarded; else it is 0. */
 uint32_t cda_storage_recover(
     const uint8_t *image, size_t image_len,
-    uint8_t *out, size_t out_len, size_t *out_written);
+    uint8_t *out, size_t out_len, size_t *out_written,
+    uint32_t *cause);
 
 /* The image after n steps of the recovery, and field n (none for n = 0). */
 uint32_t cda_storage_recover_step(
@@ -145,6 +160,11 @@ uint32_t cda_storage_list_keys(
 uint32_t cda_storage_find_backup(
     const uint8_t *image, size_t image_len,
     uint8_t *out, size_t out_len, size_t *out_written);
+
+/* Reads a log, the bytes of journal/transaction.wal, and says how it broke; the cause is 0 if it is whole. Returns 1 for one over CDA_STORAGE_LOG_LIMIT bytes, 21 for one without a valid header, and 11 and 12 whatever its status. */
+uint32_t cda_storage_log_cause(
+    const uint8_t *log, size_t log_len,
+    uint32_t *cause);
 
 /* The collections as one object of JSON (RFC 8259) without spaces or line ends: each directory's name with an object of its files' names and content numbers. Refusal 2 means that this text is longer than the output; CDA_STORAGE_INVENTORY_ROOM bytes are always enough. */
 uint32_t cda_storage_inventory(

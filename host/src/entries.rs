@@ -1,6 +1,6 @@
-//! The sixteen entries of the port as methods of [`Image`]. They are pure: an image goes in, an answer comes out, and no file
-//! is touched.
-use crate::{Refusal, field, image::Image, step::Step};
+//! The entries of the port as methods of [`Image`]. They are pure: an image goes in, an answer comes out, and no file is
+//! touched. The one that reads a log is behind [`Log`](crate::Log).
+use crate::{Refusal, field, image::Image, log::Cause, step::Step};
 use cda_storage_sys::{self as sys, HIT_ROOM, IMAGE_ROOM, INVENTORY_ROOM, KEYS_ROOM, Output, STEP_ROOM};
 use std::{error::Error, fmt};
 
@@ -20,6 +20,15 @@ impl fmt::Display for CommitError {
 }
 
 impl Error for CommitError {}
+
+/// What a recovery leaves.
+#[derive(Clone, PartialEq, Eq, Debug)]
+pub struct Recovered {
+    /// The image.
+    pub image: Image,
+    /// How the log broke, if a truncated Committing one was discarded.
+    pub cause: Option<Cause>,
+}
 
 /// A backup that stands.
 #[derive(Clone, PartialEq, Eq, Hash, Debug)]
@@ -154,8 +163,10 @@ impl Image {
     }
 
     /// Recovers what an interrupted transaction left, whole.
-    pub fn recover(&self) -> Result<Image, Refusal> {
-        answer(|out| sys::recover(self.bytes(), out))
+    pub fn recover(&self) -> Result<Recovered, Refusal> {
+        let mut cause = 0;
+        let image = answer(|out| sys::recover(self.bytes(), out, &mut cause))?;
+        Ok(Recovered { image, cause: Cause::from_number(cause) })
     }
 
     /// The keys of a collection, lowered, in the order of the files' names; none if the collection is missing.
@@ -243,9 +254,9 @@ fn answer(call: impl FnOnce(Output) -> u32) -> Result<Image, Refusal> {
 }
 
 /// A number as a result.
-fn refused(number: u32) -> Result<(), Refusal> {
+pub(crate) fn refused(number: u32) -> Result<(), Refusal> {
     match number {
         0 => Ok(()),
-        _ => Err(Refusal::from_number(number).expect("the port gives numbers from 0 to 16")),
+        _ => Err(Refusal::from_number(number).expect("the port gives 0 and the numbers of refusals")),
     }
 }

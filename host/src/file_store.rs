@@ -14,9 +14,9 @@ pub use transaction::Transaction;
 use crate::{
     Refusal,
     calls::{self, Calls, Lock, System},
-    entries::{Plan, Stepped},
+    entries::{Plan, Recovered, Stepped},
     image::{Contents, Image},
-    log,
+    log::{self, Cause},
     step::Step,
 };
 use layout::{ASIDE, Layout};
@@ -79,6 +79,7 @@ pub struct FileStore {
     layout: Layout,
     _lock: Option<File>,
     state: Cell<State>,
+    discarded: Cell<Option<Cause>>,
     observer: RefCell<Observer>,
 }
 
@@ -153,7 +154,7 @@ impl FileStore {
         let [_, committing] = log::empty()?;
         let mut image = Contents { log: committing, ..contents }.image()?;
         // A collection that is put back can hold backups itself: then the log stays for another turn.
-        while image.recover()?.has_pending_work()? {
+        while image.recover()?.image.has_pending_work()? {
             image = store.run_to_the_log(&image)?;
         }
         store.recover(&image)?;
@@ -190,7 +191,13 @@ impl FileStore {
         let layout = Layout::new(root, calls);
         let lock = lock::lock(&layout, Lock::Exclusive)?;
         let (state, observer) = (Cell::new(State::Idle), RefCell::new(Box::new(observer) as Observer));
-        Ok(FileStore { layout, _lock: lock, state, observer })
+        Ok(FileStore { layout, _lock: lock, state, discarded: Cell::new(None), observer })
+    }
+
+    /// How the log broke that the recovery discarded which opened this store: the interrupted update had a truncated log, and had done nothing
+    /// yet. None where recovery had no such log.
+    pub fn discarded(&self) -> Option<Cause> {
+        self.discarded.get()
     }
 
     /// Begins a transaction. [`Refusal::TransactionBusy`] if one is open. A failed file call stops the store.
@@ -253,6 +260,8 @@ impl FileStore {
         if !image.has_pending_work()? {
             return Ok(());
         }
+        let Recovered { cause, .. } = image.recover()?;
+        self.discarded.set(cause);
         if image.contents().log.is_none() {
             self.stop_at_error(self.layout.sync_standing(&self.layout.journal()))?;
         }

@@ -1,7 +1,7 @@
 //! A store image: document 01, 'How a store is handed over'.
 use crate::{
     Refusal, field,
-    log::{self, Write},
+    log::{self, Log, Write},
 };
 use std::collections::BTreeMap;
 
@@ -63,7 +63,7 @@ impl Contents {
     pub fn has_damaged_log(&self) -> Result<bool, Refusal> {
         let Some(log) = &self.log else { return Ok(false) };
         let backups = Contents { directories: self.directories.clone(), ..Contents::default() };
-        Ok(backups.image()?.has_pending_work()? && !log::is_taken(log)?)
+        Ok(backups.image()?.has_pending_work()? && !log::is_taken(log))
     }
 
     /// Whether a collection holds a file.
@@ -79,10 +79,9 @@ impl Contents {
         names.find(|(name, _)| !self.staging.contains_key(name)).expect("fewer files than numbers")
     }
 
-    /// The Writes of an open transaction, in the order of its log; none where it holds anything else. The log must be one that
-    /// the port takes for a transaction's: it is not tested here.
+    /// The Writes of the log, in its order; none where it holds anything else, or is not whole.
     pub fn writes(&self) -> Option<Vec<Write>> {
-        log::writes(self.log.as_ref()?)
+        Log::read(self.log.as_ref()?).ok()?.writes()
     }
 
     fn encode(&self) -> Vec<u8> {

@@ -1,7 +1,7 @@
 //! The collection store of a depot diagnostic box: the proved port, and a store on real directories over it.
 //!
 //! The port takes a store image, as bytes, and hands back a number, an image, and the file steps to carry out. [`Image`] has
-//! its sixteen entries as methods; [`FileStore`] keeps a store on a directory and carries out the steps.
+//! its entries as methods, [`Log`] the one that reads a log; [`FileStore`] keeps a store on a directory and carries out the steps.
 //!
 //! ```
 //! # let root = std::env::temp_dir().join(format!("cda-store-{}", std::process::id()));
@@ -28,8 +28,8 @@ mod log;
 mod step;
 
 pub use cda_storage_sys::Refusal;
-pub use entries::{Backup, CommitError, Plan, Stepped, Steps};
+pub use entries::{Backup, CommitError, Plan, Recovered, Stepped, Steps};
 pub use file_store::{Event, FileStore, Reader, StoreError, Transaction, scan};
 pub use image::{Contents, Files, Image};
-pub use log::Write;
+pub use log::{Cause, Log, Logged, Status, Write};
 pub use step::Step;

@@ -19,7 +19,8 @@ const OUTPUT: Kind = Kind {
 };
 const U32: Kind = Kind { c: "uint32_t #", raw: "#: u32", safe: "#: u32", given: "#" };
 const U64: Kind = Kind { c: "uint64_t #", raw: "#: u64", safe: "#: u64", given: "#" };
-const FLAG: Kind = Kind { c: "uint32_t *#", raw: "#: *mut u32", safe: "#: &mut u32", given: "#" };
+/// Where a flag or a cause goes.
+const WORD: Kind = Kind { c: "uint32_t *#", raw: "#: *mut u32", safe: "#: &mut u32", given: "#" };
 
 fn kind(word: &str) -> Kind {
     match word {
@@ -27,7 +28,7 @@ fn kind(word: &str) -> Kind {
         "output" => OUTPUT,
         "u32" => U32,
         "u64" => U64,
-        "flag" => FLAG,
+        "flag" | "cause" => WORD,
         _ => panic!("{word} is no kind of parameter"),
     }
 }
@@ -66,11 +67,11 @@ pub fn refusals(list: &str) -> String {
         table += &format!("    (Refusal::{name}, {name:?}, {what:?}),\n");
     }
     format!(
-        "/// Why the port refused a call: document 01, 'Sixteen numbers, in checking order'. Each variant's number is the port's.
+        "/// Why the port refused a call: document 01, 'Sixteen numbers, in checking order', and document 02. Each variant's number is the port's.
 #[derive(Clone, Copy, PartialEq, Eq, PartialOrd, Ord, Hash, Debug)]
 #[repr(u32)]
 pub enum Refusal {{\n{variants}}}\n
-const TABLE: [(Refusal, &str, &str); 16] = [\n{table}];\n"
+const TABLE: &[(Refusal, &str, &str)] = &[\n{table}];\n"
     )
 }
 
@@ -90,9 +91,24 @@ extern \"C\" {
 ";
 
 const NUMBERS: &str = "
-/* What the functions return: 0, or a refusal, which leaves outputs and counters as they were (but for 14 and 15 of a commit). */
+/* What the functions return: 0, or a refusal, which leaves outputs, counters and causes as they were (but for 14 and 15 of a commit). */
 enum cda_storage_number {
-    CDA_STORAGE_DONE = 0,
+    CDA_STORAGE_DONE = 0";
+
+const CAUSES: &str = "
+};
+
+/* How a log broke, as a function tells it that returned 0: the first entry that is not whole. 1 and 2 suggest that writing stopped, as on a full
+   flash, 3 that written bytes changed, as on a worn one. */
+enum cda_storage_cause {
+    CDA_STORAGE_NOT_BROKEN = 0,
+    /* under 8 bytes are left for the entry's checksum and length */
+    CDA_STORAGE_HEADER_SHORT = 1,
+    /* the entry's length is 0 or goes past the end */
+    CDA_STORAGE_PAYLOAD_MISSING = 2,
+    /* the entry's checksum is not that of its payload */
+    CDA_STORAGE_CHECKSUM_WRONG = 3
+};
 ";
 
 /// The header for C and C++.
@@ -104,10 +120,9 @@ pub fn header(entries: &str, refusals: &str) -> String {
     }
     text += NUMBERS;
     for [number, name, what] in rows(refusals) {
-        let comma = if number == "16" { "" } else { "," };
-        text += &format!("    /* {what} */\n    CDA_STORAGE_{} = {number}{comma}\n", screaming(name));
+        text += &format!(",\n    /* {what} */\n    CDA_STORAGE_{} = {number}", screaming(name));
     }
-    text += "};\n";
+    text += CAUSES;
     for [name, list, what] in rows(entries) {
         let parameters = parameters(list, |k| k.c).join(",\n    ");
         text += &format!("\n/* {what} */\nuint32_t cda_storage_{name}(\n    {parameters});\n");

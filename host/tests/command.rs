@@ -13,7 +13,7 @@ use std::{
     time::Duration,
 };
 
-const COMMANDS: [&str; 11] = ["list", "inventory", "recover", "put", "delete", "copy", "create", "drop", "clear", "apply", "cuts"];
+const COMMANDS: [&str; 12] = ["list", "log", "inventory", "recover", "put", "delete", "copy", "create", "drop", "clear", "apply", "cuts"];
 
 /// Document 01's ten-step case.
 const TEN_STEPS: &str = "\
@@ -326,6 +326,58 @@ fn an_update_recovers_first() {
     place.said("put store db/a new --stop-after 8");
     assert_eq!(place.done("put store db/b old"), "Recovered an interrupted update first, in 1 step.\nCommitted in 8 steps.\n");
     assert_eq!(place.done("list store"), "db/\ndb/a 5\ndb/b 3\n");
+}
+
+/// What recovery says of the log that an update left before anything was done, by what stands behind the log's entry.
+#[test]
+fn a_discarded_log_is_told_by_its_cause() {
+    let entry = |payload: &[u8], checksum: u32| [&checksum.to_le_bytes(), &[payload.len() as u8, 0, 0, 0], payload].concat();
+    let header = "It breaks at byte 41: cause 1, an entry's header is too short";
+    let payload = "It breaks at byte 41: cause 2, an entry's payload is missing";
+    let checksum = "It breaks at byte 41: cause 3, an entry's checksum is wrong";
+    for (behind, told) in [(b"?".to_vec(), header), (entry(b"", 0), payload), (entry(b"?", crc32(b"!")), checksum)] {
+        let place = Place::with_a();
+        place.said("put store db/a new --stop-after 1");
+        let log = place.0.0.join("store/journal/transaction.wal");
+        fs::write(&log, [fs::read(&log).unwrap(), behind].concat()).unwrap();
+        let printed = place.done("log store");
+        assert_eq!(printed, place.done("log store/journal/transaction.wal"));
+        let [status, operation, end] = printed.lines().collect::<Vec<_>>()[..] else { panic!("{printed}") };
+        assert!(status.starts_with("Committing, ") && status.ends_with(" bytes"), "{status}");
+        assert_eq!(
+            (operation, end),
+            ("   1  write staged 2.tmp to db/a; the key was there", &*format!("{told}. See cda-store log --help."))
+        );
+        let cause = told.strip_prefix("It breaks at byte 41: ").unwrap();
+        let discarded = format!("The update's log was broken, and discarded: {cause}. See cda-store log --help.\n");
+        assert_eq!(
+            place.done("recover store"),
+            format!("   1  remove the log\n   2  remove staged 2.tmp\nRecovered in 2 steps.\n{discarded}")
+        );
+        assert_eq!(place.done("list store"), "db/\ndb/a 3\n");
+    }
+}
+
+#[test]
+fn a_log_is_printed() {
+    let place = Place::with_a();
+    assert_eq!(place.done("log store"), "No log stands: no update is open or interrupted.\n");
+    place.said("put store db/a new --stop-after 0");
+    let whole = "Recording, 41 bytes\n   1  write staged 2.tmp to db/a; the key was there\nIt ends at byte 41 and is whole.\n";
+    assert_eq!(place.done("log store"), whole);
+    let write = |log: &[u8]| fs::write(place.0.0.join("store/journal/transaction.wal"), log).unwrap();
+    write(&[RECORDING, &crc32(b"?").to_le_bytes(), &[1, 0, 0, 0], b"?"].concat());
+    assert!(place.done("log store").starts_with("Recording, 17 bytes\nIt is read up to byte 8: refusal 11 "));
+    write(b"?");
+    place.fails(1, "log store", "refusal 21 (NoWholeLog)");
+    write(&[0; 6_953]);
+    place.fails(2, "log store/journal/transaction.wal", "transaction.wal: a log has at most 6952 bytes");
+    place.fails(2, "log store", "transaction.wal: a log has at most 6952 bytes");
+    place.fails(2, "log nothing", "nothing");
+    place.fails(64, "log", "log takes a directory or a log");
+    place.fails(64, "log store store", "log takes a directory or a log alone");
+    let help = place.done("log --help");
+    assert!(help.contains("as on a full flash; 3 that bytes changed which were written, as on a worn one."), "{help}");
 }
 
 /// An update is interrupted, and its log is damaged.

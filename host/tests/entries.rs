@@ -2,8 +2,8 @@
 mod common;
 
 use cda_storage_sys::{self as sys, HIT_ROOM, IMAGE_ROOM, INVENTORY_ROOM, LOG_LIMIT, Output};
-use cda_store::{Backup, Contents, Files, Image, Refusal, Step, Write};
-use common::{OLD_WRITE, RECORDING, crc32, ten_steps};
+use cda_store::{Backup, Cause, Contents, Files, Image, Log, Logged, Recovered, Refusal, Status, Step, Write};
+use common::{COMMITTING, OLD_WRITE, RECORDING, crc32, ten_steps};
 use std::collections::BTreeMap;
 
 fn store(files: &[(&str, &[(&str, u32)])]) -> Contents {
@@ -63,7 +63,7 @@ fn the_ten_step_case() {
     for n in 0..=10 {
         let cut = image.commit_step(n).unwrap().0;
         let left = if n < 8 { 7 } else { 9 };
-        let recovered = cut.recover().unwrap();
+        let recovered = cut.recover().unwrap().image;
         assert_eq!(recovered.contents(), store(&[("db", &[("a", left)])]), "cut after {n}");
         assert_eq!(cut.recover_steps().last().map_or(cut.clone(), |stepped| stepped.unwrap().image), recovered, "cut after {n}");
         assert!(!recovered.has_pending_work().unwrap());
@@ -102,7 +102,7 @@ fn an_old_write_keeps_its_meaning() {
                 _ if n < log_goes => &[("a", 7), ("b", 8)],
                 _ => &[("a", 9), ("b", b)],
             };
-            let recovered = image.commit_step(n).unwrap().0.recover().unwrap();
+            let recovered = image.commit_step(n).unwrap().0.recover().unwrap().image;
             assert_eq!(recovered.contents(), store(&[("db", left)]), "cut after {n}");
         }
     }
@@ -128,7 +128,7 @@ fn a_recovery_that_was_cut_is_done_by_the_next() {
     // An old log does not say that a, restored, is not new.
     let restored = old_log().commit_step(5).unwrap().0.recover_step(2).unwrap().0;
     assert_eq!(restored.contents().directories, store(&[("db", &[("a", 7), ("b", 8)])]).directories);
-    assert_eq!(restored.recover().unwrap().contents(), store(&[("db", &[("b", 8)])]));
+    assert_eq!(restored.recover().unwrap().image.contents(), store(&[("db", &[("b", 8)])]));
 }
 
 #[test]
@@ -175,11 +175,12 @@ fn every_step_in_words() {
 
 #[test]
 fn refusals_have_numbers_names_and_sentences() {
-    for (number, refusal) in (1..).zip(Refusal::all()) {
+    for (number, refusal) in (1..=16).chain([21]).zip(Refusal::all()) {
         assert_eq!((refusal.number(), refusal.name()), (number, format!("{refusal:?}").as_str()));
         assert_eq!(Refusal::from_number(number), Some(refusal));
     }
-    assert_eq!((Refusal::from_number(0), Refusal::from_number(17)), (None, None));
+    assert_eq!(Refusal::all().last(), Some(Refusal::NoWholeLog));
+    assert_eq!((Refusal::from_number(0), Refusal::from_number(17), Refusal::from_number(22)), (None, None, None));
     assert_eq!(Refusal::TransactionBusy.to_string(), "refusal 3 (TransactionBusy): a transaction is open already");
 }
 
@@ -214,7 +215,10 @@ fn recovery_is_refused() {
     assert_eq!(with_log(&full, |log| log.push(0)).recover(), Err(Refusal::LogTooLong));
     let torn = |n| with_log(&ten_steps().commit_step(n).unwrap().0, |log| log.push(0)).recover();
     (4..=7).for_each(|n| assert_eq!(torn(n), Err(Refusal::Corruption)));
-    (1..=3).for_each(|n| assert_eq!(torn(n).unwrap().contents(), store(&[("db", &[("a", 7)])]), "nothing was applied"));
+    (1..=3).for_each(|n| {
+        let Recovered { image, cause } = torn(n).unwrap();
+        assert_eq!((image.contents(), cause), (store(&[("db", &[("a", 7)])]), Some(Cause::HeaderShort)), "nothing was applied");
+    });
     let old = with_log(&old_log().commit_step(1).unwrap().0, |log| log.push(0));
     assert_eq!(old.recover(), Err(Refusal::Corruption), "a standing key may be one that it wrote");
 }
@@ -254,6 +258,80 @@ fn the_first_backup_is_named() {
     assert_eq!(found(&[("db", &[("a", 7)])]), None);
     let (mut room, mut written) = ([0; HIT_ROOM - 1], 0);
     assert_eq!(sys::find_backup(b"", Output { bytes: &mut room, written: &mut written }), Refusal::OutputTooShort.number());
+}
+
+/// The entry of a payload, with its checksum.
+fn entry(payload: &[u8]) -> Vec<u8> {
+    [&crc32(payload).to_le_bytes(), &u32::try_from(payload.len()).unwrap().to_le_bytes(), payload].concat()
+}
+
+/// What stands behind a log's last entry, and how the log broke by it.
+fn breaks() -> [(Vec<u8>, Cause); 5] {
+    let wrong = [&[0; 4], &entry(b"x")[4..]].concat();
+    [
+        (vec![0], Cause::HeaderShort),
+        (vec![0; 7], Cause::HeaderShort),
+        (entry(b""), Cause::PayloadMissing),
+        (entry(b"xy")[..9].to_vec(), Cause::PayloadMissing),
+        (wrong, Cause::ChecksumWrong),
+    ]
+}
+
+#[test]
+fn recovery_says_how_the_log_broke_that_it_discards() {
+    let committing = ten_steps().commit_step(1).unwrap().0;
+    let before = store(&[("db", &[("a", 7)])]);
+    let recovered = |image: &Image| image.recover().map(|recovered| (recovered.image.contents(), recovered.cause)).unwrap();
+    assert_eq!(recovered(&committing), (before.clone(), None));
+    for (behind, cause) in breaks() {
+        let torn = |image: &Image| with_log(image, |log| log.extend(&behind));
+        assert_eq!(recovered(&torn(&committing)), (before.clone(), Some(cause)));
+        assert_eq!(recovered(&torn(&ten_steps())), (before.clone(), None), "a Recording log is discarded unread");
+        assert_eq!(torn(&ten_steps().commit_step(4).unwrap().0).recover(), Err(Refusal::Corruption));
+        assert_eq!(torn(&ten_steps()).rollback(), Err(Refusal::NoTransaction));
+    }
+}
+
+#[test]
+fn a_log_is_read_up_to_where_it_breaks() {
+    let image = begun(&[("c", &[("a", 1)]), ("d", &[])]);
+    let image = image.write("c", "a", "s", 2).and_then(|image| image.write("c", "b", "t", 3)).unwrap();
+    let image = image.delete("c", "a").and_then(|image| image.delete_all("d")).and_then(|image| image.create_collection("e")).unwrap();
+    let image = image.delete_collection("d").and_then(|image| image.copy_collection("c", "d")).unwrap();
+    let bytes = image.copy_collection("c", "f").unwrap().contents().log.unwrap();
+    let bytes = [bytes, OLD_WRITE.to_vec()].concat();
+    let words = [
+        "write staged s to c/a; the key was there",
+        "write staged t to c/b; the key is new",
+        "delete c/a",
+        "delete all files of d",
+        "create collection e",
+        "delete collection d",
+        "copy collection c to d, which was there",
+        "copy collection c to f, which is new",
+        "write staged s to db/a",
+    ];
+    let whole = Log::read(&bytes).unwrap();
+    assert_eq!(whole.operations.iter().map(Logged::to_string).collect::<Vec<_>>(), words);
+    assert_eq!((whole.status, whole.end, whole.broke, whole.clone().writes()), (Status::Recording, bytes.len(), Ok(None), None));
+    let undecodable = (entry(b"?"), Err(Refusal::UndecodablePayload));
+    for (behind, broke) in breaks().map(|(behind, cause)| (behind, Ok(Some(cause)))).into_iter().chain([undecodable]) {
+        let broken = Log::read(&[&bytes[..], &behind].concat()).unwrap();
+        assert_eq!(broken, Log { broke, ..whole.clone() });
+    }
+    let long = [COMMITTING, &entry(b"\x01\x01\0\x03\x02\x01\0d").repeat(33)].concat();
+    let long = Log::read(&long).unwrap();
+    assert_eq!((long.status, long.operations.len(), long.broke), (Status::Committing, 32, Err(Refusal::LogTooLong)));
+}
+
+#[test]
+fn what_is_no_log_is_refused() {
+    for bytes in [&b""[..], &RECORDING[..7], b"\xca\x02\0\0\0\0\0\0", &[0; LOG_LIMIT]] {
+        assert_eq!(Log::read(bytes), Err(Refusal::NoWholeLog));
+    }
+    assert_eq!(Log::read(&[RECORDING, &[0; LOG_LIMIT]].concat()), Err(Refusal::InvalidImage));
+    let mut cause = 9;
+    assert_eq!((sys::log_cause(b"", &mut cause), cause), (Refusal::NoWholeLog.number(), 9), "a refusal leaves the cause");
 }
 
 #[test]

@@ -2,7 +2,7 @@
 mod common;
 
 use cda_storage_sys::LOG_LIMIT;
-use cda_store::{Event, FileStore, Reader, Refusal, Step, StoreError, Transaction, scan};
+use cda_store::{Cause, Event, FileStore, Reader, Refusal, Step, StoreError, Transaction, scan};
 use common::{COMMITTING, Folder, OLD_WRITE, RECORDING, crc32};
 use std::{
     fs,
@@ -445,6 +445,14 @@ fn a_refused_recovery_changes_nothing() {
 fn a_log_torn_before_anything_was_done_is_discarded() {
     assert_eq!(recovered(&["db/a=1"], &torn(&["db/a=1"])), ["db/", "db/a=1"]);
     assert_eq!(recovered(&["db/"], &torn(&["db/"])), ["db/"]);
+    let discarded = |log: &[u8]| FileStore::open(&with_log(&["db/a=1"], log).0).unwrap().discarded();
+    let whole = torn(&["db/a=1"]);
+    let (whole, wrong) = (&whole[..whole.len() - 1], [0; 4]);
+    assert_eq!(discarded(whole), None);
+    assert_eq!(discarded(&torn(&["db/a=1"])), Some(Cause::HeaderShort));
+    assert_eq!(discarded(&whole[..whole.len() - 1]), Some(Cause::PayloadMissing));
+    assert_eq!(discarded(&[&whole[..8], &wrong, &whole[12..]].concat()), Some(Cause::ChecksumWrong));
+    assert_eq!(discarded(&[RECORDING, &wrong].concat()), None, "it is discarded unread");
 }
 
 /// A log of an older version does not say whether a was there: by the old rule a written key without backup is taken for new.

@@ -1,4 +1,5 @@
 pub mod Listed
 pub mod Pending
 pub mod Hits
+pub mod LogRead
 pub mod Inventories

@@ -1,5 +1,6 @@
-// An answer as a line: its number, its step field, its pending word, and the fields of its output as words. A directory is `db/`, a file
-// `db/a=7`, a staging file `~s.tmp=9`, the log `log:` and its bytes, the open mark `open`, a key itself. An inventory is its text.
+// An answer as a line: its number, its step field, its pending word, its cause, and the fields of its output as words. A directory is `db/`, a file
+// `db/a=7`, a staging file `~s.tmp=9`, the log `log:` and its bytes, the open mark `open`, a key itself. An
+// inventory is its text.
 use questions::Answer;
 
 pub fn put(s: &[u8]) {
@@ -121,6 +122,10 @@ pub fn answer(call: u8, a: Answer, out: &[u8], step: &[u8]) {
     if a.pending != questions::UNTOUCHED_WORD {
         put(b"  pending ");
         put_number(a.pending as u64);
+    }
+    if a.cause != questions::UNTOUCHED_WORD {
+        put(b"  cause ");
+        put_number(a.cause as u64);
     }
     if a.written != questions::UNTOUCHED {
         put_output(call, wal::payload(out, 0, a.written));

@@ -2,10 +2,10 @@
 ghost use Prim.Native.Nat.{_<_};
 use std::num::wrapping_add_u32;
 
-// Equal answers by entry and number, a row of 17 numbers to an entry; all questions, all equal ones, those of them that the documents
+// Equal answers by entry and number, a row of 22 numbers to an entry; all questions, all equal ones, those of them that the documents
 // alone decide; and the first question that differs, counted from 1.
 pub struct Tally {
-    cells: [u32; 289],
+    cells: [u32; 704],
     asked: u32,
     equal: u32,
     by_documents: u32,
@@ -14,7 +14,7 @@ pub struct Tally {
 
 pub fn empty() -> Tally {
     Tally {
-        cells: [0u32; 289],
+        cells: [0u32; 704],
         asked: 0,
         equal: 0,
         by_documents: 0,
@@ -23,9 +23,9 @@ pub fn empty() -> Tally {
 }
 
 fn cell(call: u8, number: u8) -> usize
-    ensures { λ r. ⌜ r < 289 ⌝ }
+    ensures { λ r. ⌜ r < 704 ⌝ }
 {
-    (call % 17) as usize * 17 + (number % 17) as usize
+    (call % 32) as usize * 22 + (number % 22) as usize
 }
 
 // The tally with one question more.
@@ -72,13 +72,14 @@ fn put_entry(call: u8) {
         13 => put(b"recover_step"),
         14 => put(b"list_keys"),
         15 => put(b"find_backup"),
-        16 => put(b"inventory"),
+        16 => put(b"log_cause"),
+        17 => put(b"inventory"),
         _ => put(b"no entry"),
     }
 }
 
 // How many answers of a number an entry has, if any.
-fn put_cell(cells: &[u32; 289], call: u8, number: u8) {
+fn put_cell(cells: &[u32; 704], call: u8, number: u8) {
     let at = cell(call, number);
     let n = cells[at];
     if n != 0 {
@@ -89,15 +90,15 @@ fn put_cell(cells: &[u32; 289], call: u8, number: u8) {
     }
 }
 
-fn put_row(cells: &[u32; 289], call: u8) {
+fn put_row(cells: &[u32; 704], call: u8) {
     put_entry(call);
-    for number in 0..17u8 {
+    for number in 0..22u8 {
         put_cell(cells, call, number);
     }
     put(b"\n");
 }
 
-fn put_rows(cells: &[u32; 289]) {
+fn put_rows(cells: &[u32; 704]) {
     for call in 1..17u8 {
         put_row(cells, call);
     }

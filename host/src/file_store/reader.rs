@@ -1,5 +1,10 @@
 //! A store that is looked at.
-use super::{error::StoreError, layout::Layout, lock::lock, scan::scan};
+use super::{
+    error::StoreError,
+    layout::Layout,
+    lock::lock,
+    scan::{journal, scan},
+};
 use crate::{
     calls::{Lock, System},
     image::Image,
@@ -25,5 +30,10 @@ impl Reader {
     /// The store as it stands on disk, with the files numbered from 1.
     pub fn image(&self) -> Result<Image, StoreError> {
         Ok(scan(&self.layout)?.image()?)
+    }
+
+    /// The bytes of the log, if one stands. What stands among the collections is not looked at.
+    pub fn log(&self) -> Result<Option<Vec<u8>>, StoreError> {
+        journal(&self.layout)
     }
 }

@@ -72,7 +72,7 @@ fn files(entries: Vec<Entry>, room: usize, limit: &str, numbers: &mut Numbers) -
 }
 
 /// The log, where the journal holds nothing but it and the staging directory.
-fn journal(layout: &Layout) -> Result<Option<Vec<u8>>, StoreError> {
+pub fn journal(layout: &Layout) -> Result<Option<Vec<u8>>, StoreError> {
     let mut log = None;
     for entry in entries(layout, &layout.journal())? {
         if entry.path == layout.log() {

@@ -1,12 +1,17 @@
-//! The sixteen numbers with which the port refuses a call. They are listed in `refusals.txt`.
+//! The numbers with which the port refuses a call. They are listed in `refusals.txt`.
 use std::{error::Error, fmt};
 
 include!(concat!(env!("OUT_DIR"), "/refusals.rs"));
 
 impl Refusal {
-    /// All sixteen, in order of their numbers.
+    /// All of them, in order of their numbers.
     pub fn all() -> impl Iterator<Item = Refusal> {
-        TABLE.into_iter().map(|(refusal, ..)| refusal)
+        TABLE.iter().map(|(refusal, ..)| *refusal)
+    }
+
+    /// Its row of the table.
+    fn row(self) -> &'static (Refusal, &'static str, &'static str) {
+        TABLE.iter().find(|(refusal, ..)| *refusal == self).expect("every refusal has a row")
     }
 
     /// The refusal of a number; none for 0 and for what no function returns.
@@ -14,19 +19,19 @@ impl Refusal {
         Refusal::all().find(|refusal| refusal.number() == number)
     }
 
-    /// The number, 1 to 16.
+    /// The number.
     pub fn number(self) -> u32 {
         self as u32
     }
 
     /// The variant's name.
     pub fn name(self) -> &'static str {
-        TABLE[self as usize - 1].1
+        self.row().1
     }
 
     /// What is wrong, in plain words.
     pub fn sentence(self) -> &'static str {
-        TABLE[self as usize - 1].2
+        self.row().2
     }
 }
 

@@ -11,6 +11,7 @@ static uint8_t a[CDA_STORAGE_IMAGE_ROOM], b[CDA_STORAGE_IMAGE_ROOM], cut[CDA_STO
 
 int main(void) {
     size_t n = 0, m = 0, left = 0, field = 0;
+    uint32_t cause;
     uint64_t at;
     if (cda_storage_begin(BYTES("\x10\x02\0db\x11\x05\0\x07\0\0\0a"), ROOM(a), &n) != CDA_STORAGE_DONE) return 1;
     if (cda_storage_begin(a, n, ROOM(b), &m) != CDA_STORAGE_TRANSACTION_BUSY) return 2;
@@ -19,9 +20,12 @@ int main(void) {
     for (at = 0; at <= 10; at++) {
         if (cda_storage_commit_step(b, m, at, ROOM(cut), &left, ROOM(step), &field) != CDA_STORAGE_DONE) return 5;
         if (at == 4 && step[0] != 0x24) return 6;
-        if (cda_storage_recover(cut, left, ROOM(a), &n) != CDA_STORAGE_DONE) return 7;
+        cause = 9;
+        if (cda_storage_recover(cut, left, ROOM(a), &n, &cause) != CDA_STORAGE_DONE || cause != CDA_STORAGE_NOT_BROKEN) return 7;
         if (n != 13) return 8;
         printf("%u", (unsigned)(a[8] | a[9] << 8 | a[10] << 16 | (uint32_t)a[11] << 24));
     }
+    if (cda_storage_log_cause(BYTES("\xCA\x01\0\0\xAD\x1D\xCB\x07?"), &cause) != CDA_STORAGE_DONE || cause != CDA_STORAGE_HEADER_SHORT) return 9;
+    if (cda_storage_log_cause(BYTES("?"), &cause) != CDA_STORAGE_NO_WHOLE_LOG || cause != CDA_STORAGE_HEADER_SHORT) return 10;
     return 0;
 }

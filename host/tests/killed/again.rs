@@ -74,7 +74,7 @@ fn recovery_killed(root: &Path, recorded: &Recorded, image: &Image, m: u64) -> I
 
 /// The store is the same as if the first recovery had run to its end, which is what the rule says.
 fn look(seen: &Seen, recorded: &Recorded, cut: &Image, killed: &[u64], end: &Disk) {
-    let first = recorded.disk(&cut.recover().unwrap());
+    let first = recorded.disk(&cut.recover().unwrap().image);
     let expected = recorded.expected(cut.contents().log.is_some());
     seen.lists.add(true);
     seen.kills.add(killed.len());

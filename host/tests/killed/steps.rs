@@ -127,7 +127,7 @@ pub fn every_step(seen: &Seen, root: &Path, seed: u64, number: u64) -> Recorded 
         assert_eq!(killed, recorded.disk(&cut), "{at}");
         recover(root);
         let left = Disk::read(root);
-        assert_eq!(left, recorded.disk(&cut.recover().unwrap()), "{at}");
+        assert_eq!(left, recorded.disk(&cut.recover().unwrap().image), "{at}");
         seen.kills.add(true);
         if let Some(expected) = recorded.expected(killed.log.is_some()) {
             look(seen, case, &killed, &left);

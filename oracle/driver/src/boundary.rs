@@ -104,6 +104,7 @@ fn counts(panel: &mut Panel, slack: isize) {
     for image in [dirs, files, staging, filled(0), filled(0xCA)].into_iter().chain(recording).chain(committing) {
         plans(panel, &image.encode());
         calls(panel, &image.encode(), &b"db".to_vec());
+        panel.ask(&Call::LogCause, image.log.as_deref().unwrap_or_default(), Lent::AMPLE);
     }
 }
 

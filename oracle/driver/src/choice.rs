@@ -20,17 +20,21 @@ const OF_A_KIND: usize = 3;
 const LONGEST: usize = 19_430;
 const LONGEST_STEP: usize = 300;
 
-pub const LOGS: [&str; 12] = [
+pub const LOGS: [&str; 16] = [
     "image refused",
     "absent",
     "under 8 bytes",
     "other header",
     "Recording",
-    "Recording, truncated",
+    "Recording, entry header short",
+    "Recording, payload missing",
+    "Recording, checksum wrong",
     "Recording, undecodable",
     "Recording, over 32",
     "Committing",
-    "Committing, truncated",
+    "Committing, entry header short",
+    "Committing, payload missing",
+    "Committing, checksum wrong",
     "Committing, undecodable",
     "Committing, over 32",
 ];
@@ -162,19 +166,21 @@ pub fn entry(call: &Call) -> (u8, Vec<&Name>) {
         Call::RecoverStep(_) => (13, vec![]),
         Call::ListKeys { collection } => (14, vec![collection]),
         Call::FindBackup => (15, vec![]),
-        Call::Inventory => (16, vec![]),
+        Call::LogCause => (16, vec![]),
+        Call::Inventory => (17, vec![]),
     }
 }
 
 fn kind(question: &Question, answer: &Answer) -> Kind {
     let (entry, names) = entry(&question.call);
     let image = Image::decode(&question.image);
-    let log = image.as_ref().and_then(|image| image.log.as_deref());
+    let alone = Some(question.image.as_slice()).filter(|_| question.call == Call::LogCause);
+    let log = alone.or(image.as_ref().and_then(|image| image.log.as_deref()));
     let carried = (8..=10).contains(&entry) || (12..=13).contains(&entry);
     Kind {
         entry,
         number: answer.number,
-        log: image.as_ref().map_or(0, |_| log_kind(log)),
+        log: if log.is_none() && image.is_none() { 0 } else { log_kind(log) },
         operations: log.filter(|_| carried).map(operation_kinds).unwrap_or_default(),
         steps: steps(question, answer),
         names: names.into_iter().map(|name| name_kind(name)).collect(),
@@ -193,11 +199,11 @@ fn log_kind(log: Option<&[u8]>) -> usize {
     let Some(status) = status(log) else { return if log.len() < 8 { 2 } else { 3 } };
     let ending = match operations(log).1 {
         Ending::Whole => 0,
-        Ending::Truncated => 1,
-        Ending::Undecodable => 2,
-        Ending::TooMany => 3,
+        Ending::Truncated(cause) => cause as usize,
+        Ending::Undecodable => 4,
+        Ending::TooMany => 5,
     };
-    4 + 4 * status as usize + ending
+    4 + 6 * status as usize + ending
 }
 
 fn operation_kinds(log: &[u8]) -> BTreeSet<u8> {

@@ -43,6 +43,9 @@ pub fn run(panel: &mut Panel, every: usize) {
         panel.plan(Plan::Commit, image);
         panel.ask(&Call::HasPendingWork, image, Lent::AMPLE);
         panel.ask(&Call::FindBackup, image, Lent::AMPLE);
+        if let Some(log) = Image::decode(image).and_then(|image| image.log) {
+            panel.ask(&Call::LogCause, &log, Lent::AMPLE);
+        }
         panel.ask(&Call::Inventory, image, Lent::AMPLE);
         panel.ask(&Call::ListKeys { collection: b"db".into() }, image, Lent::AMPLE);
         panel.ask(&Call::Delete { collection: b"db".into(), key: b"a".into() }, image, Lent::AMPLE);

@@ -18,7 +18,7 @@ const TEXT: u8 = 0x40;
 const ASKED: u8 = 0x41;
 const ASKED_BY_DOCUMENTS: u8 = 0x42;
 
-const ENTRIES: [&str; 16] = [
+const ENTRIES: [&str; 17] = [
     "begin",
     "write",
     "delete",
@@ -34,8 +34,14 @@ const ENTRIES: [&str; 16] = [
     "recover_step",
     "list_keys",
     "find_backup",
+    "log_cause",
     "inventory",
 ];
+
+/// The numbers that an entry answers.
+fn numbers() -> impl Iterator<Item = u32> {
+    (0..=16).chain([21])
+}
 
 /// As `choice::Kind` numbers them, from 1.
 const OPERATIONS: [&str; 8] =
@@ -116,6 +122,7 @@ fn put_answer(out: &mut Vec<u8>, answer: &Answer) {
     answer.out.iter().for_each(|bytes| put_field(out, 0x0A, &[bytes]));
     answer.step.iter().for_each(|bytes| put_field(out, 0x0B, &[bytes]));
     answer.pending.iter().for_each(|pending| put_field(out, 0x0C, &[&byte(*pending)]));
+    answer.cause.iter().for_each(|cause| put_field(out, 0x0D, &[&byte(*cause)]));
 }
 
 /// The questions of the table, and the lines that the program must print.
@@ -147,6 +154,7 @@ fn shown(call: &Call, answer: &Answer) -> String {
     let mut words = vec![answer.number.to_string()];
     words.extend(answer.step.as_ref().map(|step| format!("[{}]", text::field(step))));
     words.extend(answer.pending.map(|pending| format!("pending {pending}")));
+    words.extend(answer.cause.map(|cause| format!("cause {cause}")));
     words.extend(answer.out.as_ref().map(|out| match call {
         Call::Inventory => String::from_utf8_lossy(out).into_owned(),
         _ => format!("'{}'", shown_fields(out)),
@@ -187,7 +195,7 @@ fn choose(panel: &mut Panel) -> Vec<(Kind, Question)> {
     damaged::run(panel, 1);
     panel.original = original;
     let chosen = panel.choice.take().unwrap().chosen();
-    let missing: Vec<u32> = (0..=16).filter(|n| chosen.iter().all(|(kind, _)| kind.number != *n)).collect();
+    let missing: Vec<u32> = numbers().filter(|n| chosen.iter().all(|(kind, _)| kind.number != *n)).collect();
     assert!(missing.is_empty(), "no question is answered {missing:?}");
     let missing: Vec<&u8> = STEPS.iter().filter(|tag| chosen.iter().all(|(kind, _)| kind.asked_for() != Some(**tag))).collect();
     assert!(missing.is_empty(), "no question is answered with the steps {missing:02x?}");
@@ -249,7 +257,7 @@ stores of oracle/driver/src/wrong.rs is found out.
 /// How many questions there are by entry and number, by kind of log, by operation in it, and by the step that is asked for.
 fn tables(chosen: &[(Kind, Question)], [_, but_for_marks, item_4, documents]: [usize; 4], entries: &str) -> String {
     let count = |test: &dyn Fn(&Kind) -> bool| chosen.iter().filter(|(kind, _)| test(kind)).count();
-    let numbers: Vec<String> = (0..=16).map(|n| format!("{n}:{}", count(&|kind| kind.number == n))).collect();
+    let numbers: Vec<String> = numbers().map(|n| format!("{n}:{}", count(&|kind| kind.number == n))).collect();
     let logs: Vec<String> = LOGS.iter().enumerate().map(|(at, log)| format!("{log}: {}", count(&|kind| kind.log == at))).collect();
     let steps: Vec<String> = STEPS.iter().map(|tag| format!("{tag:02x}:{}", count(&|kind| kind.asked_for() == Some(*tag)))).collect();
     let operations: Vec<String> =

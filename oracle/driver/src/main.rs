@@ -88,7 +88,7 @@ fn restart(panel: &Panel, image: &str) {
 fn show(panel: &Panel, words: &[String], lent: Lent) {
     let mut words = words.iter();
     let call = text::read_call(&mut words);
-    let image = text::read_image(words.next().map_or("", |w| w));
+    let image = text::read_lent(&call, words.next().map_or("", |w| w));
     let mut lines = String::new();
     for judge in panel.judges() {
         lines += &format!("{:8} {}\n", judge.name(), text::answer(&call, &ask(judge, &call, &image, lent)));

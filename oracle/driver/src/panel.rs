@@ -10,8 +10,8 @@ use std::io::{IsTerminal, Write};
 use std::time::{Duration, Instant};
 use store::{Answer, Call, Lent, NO_OPINION, Plan, Store, ask};
 
-/// The numbers that document 01 added and of which the original says nothing.
-const ADDED: [u32; 7] = [1, 2, 4, 5, 6, 10, 12];
+/// The numbers that the documents added and of which the original says nothing.
+const ADDED: [u32; 8] = [1, 2, 4, 5, 6, 10, 12, 21];
 
 /// What the judges are asked.
 #[derive(Clone, PartialEq, Eq, PartialOrd, Ord, Debug)]
@@ -71,7 +71,9 @@ pub struct Panel {
     pub compared: [u64; 4],
     /// The questions of this run that are kept for a list.
     pub choice: Option<Choice>,
-    numbers: [u64; 17],
+    numbers: [u64; 22],
+    /// Causes that were told.
+    causes: [u64; 4],
     started: Instant,
     told: Instant,
 }
@@ -88,6 +90,21 @@ fn is_of_item_4(q: &Question) -> bool {
     carried_out && log.is_some_and(|log| log::operations(&log).0.iter().any(|operation| operation.mark() == Some(true)))
 }
 
+/// The same of what a call is lent, which is a log alone for `log_cause`.
+fn old_lent(call: &Call, lent: &[u8]) -> Vec<u8> {
+    if *call == Call::LogCause { log::unmarked(lent) } else { old_image(lent) }
+}
+
+/// What the original doesn't say of a truncated log: how it broke (document 02, item 1).
+fn says_how(q: &Question, said: &Answer) -> bool {
+    q.call == Call::LogCause && said.number == 0 && said.cause != Some(0)
+}
+
+/// A recovery's answer without the cause, which the original doesn't hand back.
+fn without_cause(q: &Question, said: &Answer) -> Answer {
+    Answer { cause: said.cause.filter(|_| q.call != Call::Recover), ..said.clone() }
+}
+
 /// What the original doesn't say: which backup stands (document 02, item 2), and an inventory (item 9).
 fn is_added(q: &Question, said: &Answer) -> bool {
     let told = said.number == 0 && said.out.as_ref().is_some_and(|out| !out.is_empty());
@@ -98,7 +115,17 @@ impl Panel {
     pub fn new(with_original: bool) -> Panel {
         let original = with_original.then(Original::new);
         let now = Instant::now();
-        Panel { original, port: port::port(), inputs: 0, compared: [0; 4], choice: None, numbers: [0; 17], started: now, told: now }
+        Panel {
+            original,
+            port: port::port(),
+            inputs: 0,
+            compared: [0; 4],
+            choice: None,
+            numbers: [0; 22],
+            causes: [0; 4],
+            started: now,
+            told: now,
+        }
     }
 
     pub fn judges(&self) -> Vec<&dyn Store> {
@@ -117,20 +144,22 @@ impl Panel {
         if others.iter().any(|answer| *answer != said || answer.stray.is_some()) {
             return None;
         }
-        match by_original {
-            None => Some(By::Documents),
-            Some(answer) if answer.number == NO_OPINION => {
-                (ADDED.contains(&said.number) || is_added(&question(), said)).then_some(By::Documents)
-            }
-            Some(answer) if answer == said => Some(By::Original),
-            Some(answer) if *answer == old(said) => Some(By::ButForMarks),
-            Some(_) => is_of_item_4(&question()).then_some(By::Item4),
+        let Some(answer) = by_original else { return Some(By::Documents) };
+        let question = question();
+        if answer.number == NO_OPINION {
+            let added = ADDED.contains(&said.number) || is_added(&question, said) || says_how(&question, said);
+            return added.then_some(By::Documents);
+        }
+        match without_cause(&question, said) {
+            said if *answer == said => Some(By::Original),
+            said if *answer == old(&said) => Some(By::ButForMarks),
+            _ => is_of_item_4(&question).then_some(By::Item4),
         }
     }
 
     /// The answer to a question, and by whom it is decided; none if the judges differ.
     pub fn decide(&self, q: &Question) -> Option<(Answer, By)> {
-        let old = old_image(&q.image);
+        let old = old_lent(&q.call, &q.image);
         let by_original = self.original.as_ref().map(|original| ask(original, &q.call, &old, q.lent));
         let decide = |image: &[u8]| {
             let others: Vec<Answer> = self.others().iter().map(|judge| ask(*judge, &q.call, image, q.lent)).collect();
@@ -167,6 +196,7 @@ impl Panel {
     fn count(&mut self, by: By, answer: &Answer, question: impl FnOnce() -> Question) {
         self.compared[by as usize] += 1;
         self.numbers[answer.number as usize] += 1;
+        answer.cause.into_iter().for_each(|cause| self.causes[cause as usize] += 1);
         if let Some(choice) = &mut self.choice {
             choice.offer(question(), answer);
         }
@@ -184,7 +214,7 @@ impl Panel {
     /// Asks all judges; the answer that they agree on.
     pub fn ask(&mut self, call: &Call, image: &[u8], lent: Lent) -> Answer {
         let asked = Asked::One(call, lent);
-        let by_original = self.about_old_log(asked, &old_image(image), image);
+        let by_original = self.about_old_log(asked, &old_lent(call, image), image);
         self.compare(asked, image, by_original.as_deref()).remove(0)
     }
 
@@ -258,14 +288,15 @@ impl Panel {
         if self.choice.is_some() {
             return;
         }
-        let numbers: Vec<String> = (0..17).filter(|n| self.numbers[*n] > 0).map(|n| format!("{n}:{}", self.numbers[n])).collect();
+        let counts = |of: &[u64]| of.iter().enumerate().filter(|(_, n)| **n > 0).map(|(at, n)| format!(" {at}:{n}")).collect::<String>();
         println!(
-            "{what}: {} agree; {} inputs, {}; {:.1} s; numbers {}",
+            "{what}: {} agree; {} inputs, {}; {:.1} s; numbers{}; causes{}",
             self.names(),
             self.inputs,
             comparisons(self.compared),
             self.started.elapsed().as_secs_f64(),
-            numbers.join(" ")
+            counts(&self.numbers),
+            counts(&self.causes)
         );
     }
 }

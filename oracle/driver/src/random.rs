@@ -9,7 +9,11 @@ pub fn run(panel: &mut Panel, seed: u64, from: u64, cases: u64) {
         let rng = &mut Rng::new(seed, case);
         match rng.below(8) {
             0..=1 => cut_commit(panel, rng),
-            2..=3 => drop(panel.plan(Plan::Recover, &generate::leftover(rng).encode())),
+            2..=3 => {
+                let image = generate::leftover(rng);
+                panel.plan(Plan::Recover, &image.encode());
+                broken_log(panel, &generate::broken(rng, image));
+            }
             4..=5 => single_calls(panel, rng),
             _ => transaction(panel, rng),
         }
@@ -28,6 +32,12 @@ fn cut_commit(panel: &mut Panel, rng: &mut Rng) {
             panel.plan(Plan::Recover, &images[rng.below(images.len())]);
         }
     }
+}
+
+/// A log that may be truncated: how it broke, by itself and by its recovery.
+fn broken_log(panel: &mut Panel, image: &Image) {
+    panel.plan(Plan::Recover, &image.encode());
+    panel.ask(&Call::LogCause, image.log.as_deref().unwrap_or_default(), Lent::AMPLE);
 }
 
 fn single_calls(panel: &mut Panel, rng: &mut Rng) {

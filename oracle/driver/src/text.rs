@@ -156,6 +156,21 @@ pub fn read_image(text: &str) -> Vec<u8> {
     text.strip_prefix("hex:").map_or_else(|| read_store(text).encode(), unhex)
 }
 
+/// What a call is lent, in the words of an image; of `log_cause` the log in them, alone.
+pub fn read_lent(call: &Call, text: &str) -> Vec<u8> {
+    match call {
+        Call::LogCause => read_store(text).log.expect("a log"),
+        _ => read_image(text),
+    }
+}
+
+pub fn lent(call: &Call, bytes: &[u8]) -> String {
+    match call {
+        Call::LogCause => log_words(bytes).join(" "),
+        _ => image(bytes),
+    }
+}
+
 pub fn call(call: &Call) -> String {
     let words = |entry: &str, names: &[&Name]| names.iter().fold(entry.to_string(), |line, n| format!("{line} {}", quoted(&name(n))));
     match call {
@@ -174,6 +189,7 @@ pub fn call(call: &Call) -> String {
         Call::RecoverStep(n) => format!("recover_step {n}"),
         Call::ListKeys { collection } => words("list_keys", &[collection]),
         Call::FindBackup => "find_backup".into(),
+        Call::LogCause => "log_cause".into(),
         Call::Inventory => "inventory".into(),
     }
 }
@@ -203,15 +219,16 @@ pub fn read_call(words: &mut std::slice::Iter<String>) -> Call {
         "recover_step" => Call::RecoverStep(word().parse().expect("a step number")),
         "list_keys" => Call::ListKeys { collection: read_name(word()) },
         "find_backup" => Call::FindBackup,
+        "log_cause" => Call::LogCause,
         "inventory" => Call::Inventory,
         other => panic!("no entry is called {other}"),
     }
 }
 
 /// The command that asks all judges this again.
-pub fn command(c: &Call, bytes: &[u8], lent: Lent) -> String {
-    let lent = if lent == Lent::AMPLE { String::new() } else { format!(" --lent {} {}", lent.out, lent.step) };
-    format!("oracle/show {} '{}'{lent}", call(c), image(bytes).replace('\'', r"'\''"))
+pub fn command(c: &Call, bytes: &[u8], room: Lent) -> String {
+    let room = if room == Lent::AMPLE { String::new() } else { format!(" --lent {} {}", room.out, room.step) };
+    format!("oracle/show {} '{}'{room}", call(c), lent(c, bytes).replace('\'', r"'\''"))
 }
 
 fn quoted(word: &str) -> String {
@@ -233,6 +250,7 @@ pub fn answer(c: &Call, a: &Answer) -> String {
     let mut words = vec![if a.number == store::NO_OPINION { "no opinion".into() } else { a.number.to_string() }];
     words.extend(a.step.as_ref().map(|s| format!("[{}]", field(s))));
     words.extend(a.pending.map(|p| format!("pending {p}")));
+    words.extend(a.cause.map(|cause| format!("cause {cause}")));
     words.extend(a.out.as_ref().map(|out| match c {
         Call::ListKeys { .. } => format!("keys {}", hex(out)),
         Call::Inventory => String::from_utf8_lossy(out).into_owned(),

@@ -6,7 +6,7 @@
 //! long backup name and 15 are 01's, and what follows them is the original's.
 //!
 //! The original has no marked Write (document 02, item 4): a log with some is put on disk with Writes of kind 1 in their
-//! place, and its answers have such a log too.
+//! place, and its answers have such a log too. Nor has it a cause (item 1): it says that a log is truncated, and not how.
 mod calls;
 mod disk;
 mod listing;
@@ -19,7 +19,7 @@ use cda_interfaces::storage_api::{Collection, CollectionName, Operation, Storage
 use cda_storage::{LocalStorage, WalStatus, collection, has_pending_work, open_wal, read_wal, sanitize};
 use plain::{
     Image,
-    image::{self, STAGING_LIMIT, put_field},
+    image::{self, LOG_LIMIT, STAGING_LIMIT, put_field},
     log::OPERATION_LIMIT,
     name::is_valid,
 };
@@ -292,14 +292,17 @@ pub fn old(answer: &Answer) -> Answer {
 
 /// Number 12 is added: a Committing log of which the original reads 32 operations and that goes on.
 fn over_the_limit(log: &[u8]) -> bool {
+    plain::log::status(log) == Some(plain::log::Status::Committing) && goes_on(log)
+}
+
+fn goes_on(log: &[u8]) -> bool {
     let mut end = 8usize;
     for _ in 0..OPERATION_LIMIT {
         let Some(length) = log.get(end + 4..end + 8) else { return false };
         end = end.saturating_add(8).saturating_add(u32::from_le_bytes(length.try_into().unwrap()) as usize);
     }
-    let committing = plain::log::status(log) == Some(plain::log::Status::Committing);
     let whole = |log: &[u8]| read_wal(log).is_ok_and(|read| !read.truncated && read.operations.len() == OPERATION_LIMIT);
-    committing && log.get(..end).is_some_and(|first| first.len() < log.len() && whole(first))
+    log.get(..end).is_some_and(|first| first.len() < log.len() && whole(first))
 }
 
 /// A given name as the original takes it. `None` is a name that 01 refuses and the original doesn't, or can't be given.
@@ -397,7 +400,7 @@ impl Store for Original {
         0
     }
 
-    fn recover(&self, image: &[u8], out: &mut Out) -> u32 {
+    fn recover(&self, image: &[u8], out: &mut Out, _cause: &mut u32) -> u32 {
         self.whole(Plan::Recover, image, out)
     }
 
@@ -433,6 +436,22 @@ impl Store for Original {
         }
         out.put(&[]);
         0
+    }
+
+    /// The original doesn't say how a log broke, so it has an opinion where none is: of a whole log, and of a payload that doesn't decode. A
+    /// log over a limit, and one without a valid header, are the documents'.
+    fn log_cause(&self, log: &[u8], cause: &mut u32) -> u32 {
+        if log.len() > LOG_LIMIT || plain::log::status(log).is_none() || goes_on(log) {
+            return NO_OPINION;
+        }
+        match read_wal(log) {
+            Ok(read) if read.truncated => NO_OPINION,
+            Ok(_) => {
+                *cause = 0;
+                0
+            }
+            Err(_) => 11,
+        }
     }
 
     /// The original makes none.

@@ -1,4 +1,4 @@
-//! A plain reading of document 01, and of items 2, 4 and 9 of document 02: a store in memory, on ordered maps, with nothing in mind but the text.
+//! A plain reading of document 01, and of items 1, 2, 4 and 9 of document 02: a store in memory, on ordered maps, with nothing in mind but the text.
 pub mod image;
 pub mod log;
 pub mod name;
@@ -99,11 +99,20 @@ fn recovery(image: &Image) -> Refused<Recovery> {
             (operations, Ending::Whole) => Ok(Recovery::Undo(operations)),
             (_, Ending::Undecodable) => Err(11),
             (_, Ending::TooMany) => Err(12),
-            (operations, Ending::Truncated) => {
+            (operations, Ending::Truncated(_)) => {
                 refuse_unless(!any_backup(image) && !any_new_artifact(image, &operations), 13)?;
                 Ok(Recovery::Discard)
             }
         },
+    }
+}
+
+/// 02, item 1: "Recovery also hands that number back when it discards a truncated Committing log, and 0 whenever else it is done".
+fn discarded(image: &Image) -> u32 {
+    let committing = image.log.as_deref().filter(|log| log::status(log) == Some(Status::Committing));
+    match committing.map(|log| log::operations(log).1) {
+        Some(Ending::Truncated(cause)) => cause as u32,
+        _ => 0,
     }
 }
 
@@ -241,9 +250,10 @@ impl Store for Plain {
         0
     }
 
-    fn recover(&self, image: &[u8], out: &mut Out) -> u32 {
+    fn recover(&self, image: &[u8], out: &mut Out, cause: &mut u32) -> u32 {
         answer(out, image, |image| {
             let what = recovery(image)?;
+            *cause = discarded(image);
             let mut run = Run { image: std::mem::take(image), left: u64::MAX, last: None };
             run.image.open = false;
             let Ok(()) = run.recover(what) else { unreachable!("no cut and no fault") };
@@ -296,6 +306,23 @@ impl Store for Plain {
             image::put_field(&mut hit, 0x10, &[dir]);
         }
         out.put(&hit);
+        0
+    }
+
+    /// 02, item 1: "The log reading shall say which it met"
+    fn log_cause(&self, log: &[u8], cause: &mut u32) -> u32 {
+        if log.len() > image::LOG_LIMIT {
+            return 1;
+        }
+        if log::status(log).is_none() {
+            return 21;
+        }
+        match log::operations(log).1 {
+            Ending::Undecodable => return 11,
+            Ending::TooMany => return 12,
+            Ending::Whole => *cause = 0,
+            Ending::Truncated(met) => *cause = met as u32,
+        }
         0
     }
 

@@ -1,4 +1,4 @@
-//! The log and its operations: document 01, wal.rs and 'How a store is handed over'; document 02, item 4.
+//! The log and its operations: document 01, wal.rs and 'How a store is handed over'; document 02, items 1 and 4.
 use crate::image::{put_field, take_field};
 use crate::name::{self, Name};
 
@@ -125,10 +125,18 @@ pub enum Status {
     Committing,
 }
 
+/// 02, item 1: "1 entry header too short, 2 payload missing (length 0 or past the end), 3 checksum wrong"
+#[derive(Clone, Copy, PartialEq, Eq, Debug)]
+pub enum Cause {
+    HeaderShort = 1,
+    PayloadMissing = 2,
+    ChecksumWrong = 3,
+}
+
 #[derive(Clone, Copy, PartialEq, Eq, Debug)]
 pub enum Ending {
     Whole,
-    Truncated,
+    Truncated(Cause),
     Undecodable,
     TooMany,
 }
@@ -186,11 +194,12 @@ fn walk(rest: &mut &[u8], found: &mut Vec<Operation>) -> Ending {
         if found.len() == OPERATION_LIMIT {
             return Ending::TooMany;
         }
-        let Some((head, behind)) = rest.split_at_checked(8) else { return Ending::Truncated };
+        let Some((head, behind)) = rest.split_at_checked(8) else { return Ending::Truncated(Cause::HeaderShort) };
         let word = |i: usize| u32::from_le_bytes([head[i], head[i + 1], head[i + 2], head[i + 3]]);
-        let Some((payload, behind)) = behind.split_at_checked(word(4) as usize) else { return Ending::Truncated };
-        if payload.is_empty() || crc32(payload) != word(0) {
-            return Ending::Truncated;
+        let there = behind.split_at_checked(word(4) as usize).filter(|(payload, _)| !payload.is_empty());
+        let Some((payload, behind)) = there else { return Ending::Truncated(Cause::PayloadMissing) };
+        if crc32(payload) != word(0) {
+            return Ending::Truncated(Cause::ChecksumWrong);
         }
         let Some(operation) = Operation::decode(payload) else { return Ending::Undecodable };
         found.push(operation);

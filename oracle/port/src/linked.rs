@@ -45,8 +45,8 @@ impl Store for Port {
     fn has_pending_work(&self, image: &[u8], pending: &mut u32) -> u32 {
         sys::has_pending_work(image, pending)
     }
-    fn recover(&self, image: &[u8], out: &mut Out) -> u32 {
-        sys::recover(image, lent(out))
+    fn recover(&self, image: &[u8], out: &mut Out, cause: &mut u32) -> u32 {
+        sys::recover(image, lent(out), cause)
     }
     fn recover_step(&self, image: &[u8], n: u64, out: &mut Out, step: &mut Out) -> u32 {
         sys::recover_step(image, n, lent(out), lent(step))
@@ -57,6 +57,10 @@ impl Store for Port {
     fn find_backup(&self, image: &[u8], out: &mut Out) -> u32 {
         sys::find_backup(image, lent(out))
     }
+    fn log_cause(&self, log: &[u8], cause: &mut u32) -> u32 {
+        sys::log_cause(log, cause)
+    }
+
     fn inventory(&self, image: &[u8], out: &mut Out) -> u32 {
         sys::inventory(image, lent(out))
     }

@@ -2,6 +2,7 @@
 use crate::{IMAGE_ROOM, Name, Out, STEP_ROOM, Store};
 use std::cell::Cell;
 
+/// A call. What is lent to `LogCause` in the place of an image is a log.
 #[derive(Clone, PartialEq, Eq, PartialOrd, Ord, Debug)]
 pub enum Call {
     Begin,
@@ -19,6 +20,7 @@ pub enum Call {
     RecoverStep(u64),
     ListKeys { collection: Name },
     FindBackup,
+    LogCause,
     Inventory,
 }
 
@@ -62,6 +64,7 @@ pub struct Answer {
     pub out: Option<Vec<u8>>,
     pub step: Option<Vec<u8>>,
     pub pending: Option<u32>,
+    pub cause: Option<u32>,
     pub stray: Option<String>,
 }
 
@@ -86,19 +89,28 @@ pub fn ask<S: Store + ?Sized>(store: &S, call: &Call, image: &[u8], lent: Lent) 
     let (mut bytes, mut step_bytes) = (clean.clone(), clean_step.clone());
     let mut out = Out { bytes: &mut bytes, written: UNTOUCHED };
     let mut step = Out { bytes: &mut step_bytes, written: UNTOUCHED };
-    let mut pending = UNTOUCHED as u32;
-    let number = pass(store, call, image, &mut out, &mut step, &mut pending);
+    let (mut pending, mut cause) = (UNTOUCHED as u32, UNTOUCHED as u32);
+    let number = pass(store, call, image, &mut out, &mut step, &mut pending, &mut cause);
     let mut answer = Answer::refusal(number);
     let mut stray = Vec::new();
     answer.out = written(&out, &clean, "out", &mut stray);
     answer.step = written(&step, &clean_step, "step", &mut stray);
     answer.pending = (pending != UNTOUCHED as u32).then_some(pending);
+    answer.cause = (cause != UNTOUCHED as u32).then_some(cause);
     answer.stray = (!stray.is_empty()).then(|| stray.join(", "));
     answer
 }
 
 /// Calls the entry that the call names.
-pub fn pass<S: Store + ?Sized>(store: &S, call: &Call, image: &[u8], out: &mut Out, step: &mut Out, pending: &mut u32) -> u32 {
+pub fn pass<S: Store + ?Sized>(
+    store: &S,
+    call: &Call,
+    image: &[u8],
+    out: &mut Out,
+    step: &mut Out,
+    pending: &mut u32,
+    cause: &mut u32,
+) -> u32 {
     match call {
         Call::Begin => store.begin(image, out),
         Call::Write { collection, key, staged, number } => store.write(image, collection, key, staged, *number, out),
@@ -111,10 +123,11 @@ pub fn pass<S: Store + ?Sized>(store: &S, call: &Call, image: &[u8], out: &mut O
         Call::CommitStep(n) => store.commit_step(image, *n, out, step),
         Call::Rollback => store.rollback(image, out),
         Call::HasPendingWork => store.has_pending_work(image, pending),
-        Call::Recover => store.recover(image, out),
+        Call::Recover => store.recover(image, out, cause),
         Call::RecoverStep(n) => store.recover_step(image, *n, out, step),
         Call::ListKeys { collection } => store.list_keys(image, collection, out),
         Call::FindBackup => store.find_backup(image, out),
+        Call::LogCause => store.log_cause(image, cause),
         Call::Inventory => store.inventory(image, out),
     }
 }

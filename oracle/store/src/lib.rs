@@ -45,10 +45,11 @@ pub trait Store {
     fn commit_step(&self, image: &[u8], n: u64, out: &mut Out, step: &mut Out) -> u32;
     fn rollback(&self, image: &[u8], out: &mut Out) -> u32;
     fn has_pending_work(&self, image: &[u8], pending: &mut u32) -> u32;
-    fn recover(&self, image: &[u8], out: &mut Out) -> u32;
+    fn recover(&self, image: &[u8], out: &mut Out, cause: &mut u32) -> u32;
     fn recover_step(&self, image: &[u8], n: u64, out: &mut Out, step: &mut Out) -> u32;
     fn list_keys(&self, image: &[u8], collection: &[u8], out: &mut Out) -> u32;
     fn find_backup(&self, image: &[u8], out: &mut Out) -> u32;
+    fn log_cause(&self, log: &[u8], cause: &mut u32) -> u32;
     fn inventory(&self, image: &[u8], out: &mut Out) -> u32;
 
     /// The whole answer, and the answers of the step entry for n = 0, 1, .. up to the first refusal, which is 16 past the end.

@@ -7,6 +7,7 @@ pub enum Command {
     Tell(String),
     List { store: PathBuf },
     Inventory { store: PathBuf },
+    Log { of: PathBuf },
     Recover { store: PathBuf, way: Way },
     Update { store: PathBuf, operations: Vec<Operation>, stop_after: Option<u64> },
     Cuts { store: PathBuf, operations: Vec<Operation>, picture: Option<PathBuf> },
@@ -51,12 +52,14 @@ pub fn read(words: &[OsString]) -> Result<Command, Failure> {
         return Err(Failure::Usage(format!("{name} has no {}; -- goes before a word that begins with -", word.display())));
     }
     let mut words = words.into_iter().chain(behind).skip(1);
-    let store = words.next().map(PathBuf::from).ok_or_else(|| Failure::Usage(format!("{name} takes a directory")))?;
+    let what = if name == "log" { "a directory or a log" } else { "a directory" };
+    let store = words.next().map(PathBuf::from).ok_or_else(|| Failure::Usage(format!("{name} takes {what}")))?;
     let words: Vec<OsString> = words.collect();
     match name.as_str() {
-        "list" | "recover" if !words.is_empty() => Err(Failure::Usage(format!("{name} takes a directory alone"))),
+        "list" | "log" | "recover" if !words.is_empty() => Err(Failure::Usage(format!("{name} takes {what} alone"))),
         "inventory" if !words.is_empty() => Err(Failure::Usage("inventory takes a directory or an image alone".into())),
         "list" => Ok(Command::List { store }),
+        "log" => Ok(Command::Log { of: store }),
         "inventory" => Ok(Command::Inventory { store }),
         "recover" => Ok(Command::Recover { store, way }),
         "cuts" => {

@@ -85,7 +85,7 @@ pub fn transaction(store: &Path, operations: &[Operation]) -> Result<Image, Fail
         let path = if is_image { store.to_path_buf() } else { store.join("journal/transaction.wal") };
         return Err(StoreError::Damaged { path }.into());
     }
-    let begun = image.recover()?.begin()?;
+    let begun = image.recover()?.image.begin()?;
     Ok(operations.iter().try_fold(begun, |image, operation| operation.imagine(&image))?)
 }
 
@@ -116,7 +116,7 @@ pub fn cuts(transaction: &Image) -> Result<Cuts, Failure> {
 
 fn outcome(scene: &Scene, cut: &Image, earlier: &Paths, later: &Paths) -> Outcome {
     let found = match cut.recover() {
-        Ok(image) => paths(&image),
+        Ok(recovered) => paths(&recovered.image),
         Err(refusal) => return Outcome::Refused(refusal),
     };
     if found == *earlier {

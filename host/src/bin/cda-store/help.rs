@@ -22,6 +22,17 @@ const TOPICS: [Topic; 11] = [
         more: "Sizes are in bytes. Nothing is changed. Last lines say if an interrupted update stands, and which backup is the first.",
     },
     Topic {
+        name: "log",
+        usage: "log DIR|FILE",
+        line: "print the log of an update: its operations, where it ends and how",
+        more: "FILE is a log, such as journal/transaction.wal of a store. Nothing is changed.
+A log is written from its front. Where it ends before its time, the first entry that is not whole has a cause:
+  1                its header of 8 bytes is too short
+  2                its payload is missing: its length is 0 or goes past the end
+  3                its checksum is wrong
+1 and 2 suggest that writing stopped, as on a full flash; 3 that bytes changed which were written, as on a worn one.",
+    },
+    Topic {
         name: "inventory",
         usage: "inventory DIR|IMAGE",
         line: "print collections and files as JSON",
@@ -33,7 +44,8 @@ shown too; staging files and the log of an interrupted update are not.",
         name: "recover",
         usage: "recover DIR [--restore | --accept]",
         line: "end an interrupted update: undo it, or clear up behind it",
-        more: "Prints the file steps that recovery carried out. Nothing is done where no update was interrupted.
+        more: "Prints the file steps that recovery carried out. Nothing is done where no update was interrupted. Where the update's log was broken, but
+nothing was done yet, the log is discarded, and its cause is told: see cda-store log --help.
 Recovery is refused, and nothing is changed, where the log is damaged: refusals 11, 12 and 13, or a damaged header while backups stand. Copy DIR,
 then choose:
   --restore        Each .bak is put back in place of its original, and log and staging files go. What the update had put anew, where nothing
@@ -84,7 +96,7 @@ const STATUS: &str =
 
 /// Whether a command records operations and commits them.
 pub fn is_update(name: &str) -> bool {
-    !["list", "inventory", "recover", "cuts"].contains(&name)
+    !["list", "log", "inventory", "recover", "cuts"].contains(&name)
 }
 
 /// The help of a command, if there is one of that name.

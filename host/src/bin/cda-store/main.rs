@@ -5,6 +5,7 @@ mod cuts;
 mod failure;
 mod fold;
 mod help;
+mod log;
 mod operation;
 mod progress;
 mod svg;
@@ -63,6 +64,7 @@ fn run(command: Command) -> Result<String, Failure> {
         Command::Tell(text) => Ok(text),
         Command::List { store } => update::list(&store),
         Command::Inventory { store } => Ok(update::image(&store)?.inventory()? + "\n"),
+        Command::Log { of } => log::log(&of),
         Command::Recover { store, way } => update::recover(&store, way),
         Command::Update { store, operations, stop_after } => update::update(&store, &operations, stop_after),
         Command::Cuts { store, operations, picture } => {

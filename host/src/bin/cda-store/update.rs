@@ -51,7 +51,7 @@ pub fn list(store: &Path) -> Result<String, Failure> {
 /// Recovers the store and tells the steps.
 pub fn recover(store: &Path, way: Way) -> Result<String, Failure> {
     let watch = Watch::new(None);
-    match way {
+    let store = match way {
         Way::Usual => open(store, &watch)?,
         Way::Restore => FileStore::restore(store, observer(&watch))?,
         Way::Accept => FileStore::accept(store, observer(&watch))?,
@@ -64,7 +64,7 @@ pub fn recover(store: &Path, way: Way) -> Result<String, Failure> {
         (Way::Restore, n) => format!("Put the backups back, in {}.\n", steps_in_words(n)),
         (Way::Accept, n) => format!("Kept what stands, in {}.\n", steps_in_words(n)),
     };
-    Ok(told.collect::<String>() + &end)
+    Ok(told.collect::<String>() + &end + &discarded(&store))
 }
 
 /// Carries out the operations as one transaction.
@@ -82,7 +82,13 @@ pub fn update(store: &Path, operations: &[Operation], stop_after: Option<u64>) -
         0 => String::new(),
         n => format!("Recovered an interrupted update first, in {}.\n", steps_in_words(n)),
     };
-    Ok(format!("{recovered}Committed in {}.\n", steps_in_words(watch.committed)))
+    Ok(format!("{recovered}{}Committed in {}.\n", discarded(&store), steps_in_words(watch.committed)))
+}
+
+/// How the log broke that recovery discarded, if it did.
+fn discarded(store: &FileStore) -> String {
+    let told = |cause| format!("The update's log was broken, and discarded: {cause}. See cda-store log --help.\n");
+    store.discarded().map_or(String::new(), told)
 }
 
 fn steps_in_words(n: usize) -> String {

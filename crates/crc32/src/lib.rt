@@ -6,7 +6,7 @@ ghost use Rattle.crc32.specs.Table.{byteTable};
 ghost use lib.ListN.{drop};
 ghost use Rattle.basics.specs.Crc32.{shift, shifts, feedByte, register, crc32, ieeeCrc32};
 
-mod table;
+pub mod table;
 
 use table::TABLE;
 
@@ -14,7 +14,7 @@ const POLYNOMIAL: u32 = 0xEDB8_8320;
 
 const ALL_ONES: u32 = 0xFFFF_FFFF;
 
-// The table, which lies where it is called: its rule is one test, which the checker computes over all 256 numbers.
+// The table, laid down for the caller: its rule is one test, which the checker computes over all 256 numbers.
 pub fn byte_table() -> [u32; 256]
     ensures { λ r. ⌜ r ≡ byteTable ⌝ }
 {
@@ -52,7 +52,8 @@ fn feed(t: &[u32; 256], c: u32, s: &[u8], from: usize) -> u32
     r
 }
 
-// The checksum of all bytes, from the table that is lent. Every checksum of the log is this one, or one of the two below.
+// The checksum of all bytes, from the table that is lent. An entry's checksum is this one, or one of the two below; a header's is looked up in
+// the table by crate wal.
 pub fn hash_by(t: &[u32; 256], s: &[u8]) -> u32
     requires { ⌜ now t ≡ byteTable ⌝ }
     ensures { λ r. ⌜ (r ≡ crc32 (now (s .entry))) × (r ≡ ieeeCrc32 (now (s .entry))) ⌝ }
@@ -60,7 +61,7 @@ pub fn hash_by(t: &[u32; 256], s: &[u8]) -> u32
     feed(t, ALL_ONES, s, 0) ^ ALL_ONES
 }
 
-// The same with a table of its own.
+// The same from a table of its own.
 pub fn hash(s: &[u8]) -> u32
     ensures { λ r. ⌜ (r ≡ crc32 (now (s .entry))) × (r ≡ ieeeCrc32 (now (s .entry))) ⌝ }
 {

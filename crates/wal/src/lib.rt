@@ -1,5 +1,6 @@
 // The log: wal.rs. 01, How a store is handed over: the header and the entries; Corners, wal.rs.
 ghost use mathlib.Core.Path.{_≡_};
+ghost use mathlib.Core.List.{[], _∷_};
 ghost use Rattle.basics.specs.Crc32.{crc32};
 ghost use Rattle.model.specs.Operation.{encodePayload};
 ghost use Rattle.model.specs.Log.{causeNumber, endingCause, header, entry, entries, readJournal};
@@ -7,6 +8,7 @@ ghost use Rattle.field.specs.Writing.{written};
 ghost use Rattle.crc32.specs.Table.{byteTable};
 ghost use Rattle.transaction.specs.Operations.{opOf, Bounds, WritesOp};
 ghost use Rattle.wal.specs.Logs.{journalOf, payloadAt, causeOf, endingOf, HeadAt, PayloadHead, EntryAt, EndsAt, Known, KnownBehind, ReadsLog, WalksLog};
+use crc32::table::TABLE;
 use spans::NameRef;
 use transaction::Decoded;
 use transaction::Operation;
@@ -15,6 +17,17 @@ use transaction::Operation;
 const WAL_MAGIC: u8 = 0xCA;
 
 const STATUS_COMMITTING: u8 = 0x01;
+
+// The register behind the first byte, and the checksums behind a status of 0 and of 1: looked up in the table when this is compiled.
+const ALL_ONES: u32 = 0xFFFF_FFFF;
+
+const MAGIC_FED: u32 = (ALL_ONES >> 8) ^ TABLE[((ALL_ONES ^ WAL_MAGIC as u32) % 256) as usize];
+
+const RECORDING_CHECKSUM: u32 = (MAGIC_FED >> 8) ^ TABLE[(MAGIC_FED % 256) as usize] ^ ALL_ONES;
+
+const COMMITTING_CHECKSUM: u32 = (MAGIC_FED >> 8)
+    ^ TABLE[((MAGIC_FED ^ 1) % 256) as usize]
+    ^ ALL_ONES;
 
 // The bytes of a header, and those of an entry before its payload.
 const WAL_FILE_HEADER_SIZE: usize = 8;
@@ -101,13 +114,23 @@ const NO_OPERATION: Logged = Logged {
     op: Operation::DeleteAll(NO_NAME),
 };
 
+// The checksum of a header's first two bytes.
+fn header_checksum(status: u8) -> u32
+    ensures { λ r. ⌜ r ≡ crc32 (0xCA ∷ status ∷ []) ⌝ }
+{
+    match status {
+        0 => RECORDING_CHECKSUM,
+        1 => COMMITTING_CHECKSUM,
+        _ => crc32::hash(&[WAL_MAGIC, status]),
+    }
+}
+
 // The log's header with a status.
 pub fn encode_header(status: u8) -> [u8; 8]
     ensures { λ r. ⌜ r ≡ header status ⌝ }
 {
-    let first = [WAL_MAGIC, status];
     let mut h = [WAL_MAGIC, status, 0, 0, 0, 0, 0, 0];
-    field::put_u32(&mut h, 4, crc32::hash(&first));
+    field::put_u32(&mut h, 4, header_checksum(status));
     h
 }
 
@@ -129,10 +152,10 @@ pub fn open_wal(log: &[u8]) -> Status
     if log[0] != WAL_MAGIC {
         return Status::Absent;
     }
-    if field::u32_at(log, 4) != crc32::hash(&log[..2]) {
+    let status = log[1];
+    if field::u32_at(log, 4) != header_checksum(status) {
         return Status::Absent;
     }
-    let status = log[1];
     match status {
         0 => Status::Recording,
         1 => Status::Committing,

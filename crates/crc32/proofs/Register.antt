@@ -31,21 +31,33 @@ module _ {c b n r : ℕ} (w : Shifting c b n r) where
   unfolding shifts
   all-shifted l = let none : 8 - n ≡ 0 = omega arith in rw none at (w .same)
 
--- Of all bytes i are fed.
-pub record Feeding (s : Bytes) (i c : ℕ) : Type 0 where
-  pub within : i ≤ length s
-  pub same : register c (drop i s) ≡ register 0xFFFF_FFFF s
+-- The bytes from i on are to be fed, and give the whole.
+pub record Feeding (whole : ℕ) (s : Bytes) (i c : ℕ) : Type 0 where
+  pub same : register c (drop i s) ≡ whole
 
-pub feeding : (s : Bytes) → Feeding s 0 0xFFFF_FFFF
-feeding s = record { within = omega arith; same = refl }
+pub feeding : (s : Bytes) (i c : ℕ) → Feeding (register c (drop i s)) s i c
+feeding s i c = record { same = refl }
 
-module _ {s : Bytes} {i c : ℕ} (w : Feeding s i c) where
-  pub fed : {q : ℕ} → q ≡ feedByte c (getD s i 0) → i < length s → Feeding s (i + 1) q
+module _ {whole : ℕ} {s : Bytes} {i c : ℕ} (w : Feeding whole s i c) where
+  pub fed : {q : ℕ} → q ≡ feedByte c (getD s i 0) → i < length s → Feeding whole s (i + 1) q
   unfolding register
-  fed e l = record { within = omega arith; same = rw (e, add-one, ← w .same, drop-cons s i 0 l) }
+  fed e l = record { same = rw (e, add-one, ← w .same, drop-cons s i 0 l) }
 
-  pub all-fed : ((i : ℕ) → Byte (getD s i 0)) → length s ≤ i → (bitXor c 0xFFFF_FFFF ≡ crc32 s) × (bitXor c 0xFFFF_FFFF ≡ ieeeCrc32 s)
-  unfolding crc32 register
-  all-fed b l =
-      let whole : bitXor c 0xFFFF_FFFF ≡ crc32 s = ap (λ (x : ℕ). bitXor x 0xFFFF_FFFF) (rw (drop-of-length-le s l) at (w .same)) in
-      (whole, whole ∙ crc32-ieee s (all-at Byte 0 s b))
+  pub all-fed : length s ≤ i → c ≡ whole
+  unfolding register
+  all-fed l = rw (drop-of-length-le s l) at (w .same)
+
+-- Of two byte strings i bytes each are fed, of the n that both have.
+pub record Both (a b : Bytes) (n i c d : ℕ) : Type 0 where
+  pub in-first : n ≤ length a
+  pub in-second : n ≤ length b
+  pub first : Feeding (register 0xFFFF_FFFF a) a i c
+  pub second : Feeding (register 0xFFFF_FFFF b) b i d
+
+-- The register of all bytes, complemented, is the checksum.
+pub checksum : (s : Bytes) {c : ℕ} → c ≡ register 0xFFFF_FFFF s → bitXor c 0xFFFF_FFFF ≡ crc32 s
+unfolding crc32
+checksum s e = ap (λ (x : ℕ). bitXor x 0xFFFF_FFFF) e
+
+pub checksums : (s : Bytes) {c : ℕ} → ((i : ℕ) → Byte (getD s i 0)) → c ≡ register 0xFFFF_FFFF s → (bitXor c 0xFFFF_FFFF ≡ crc32 s) × (bitXor c 0xFFFF_FFFF ≡ ieeeCrc32 s)
+checksums s b e = (checksum s e, checksum s e ∙ crc32-ieee s (all-at Byte 0 s b))

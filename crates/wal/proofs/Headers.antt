@@ -1,5 +1,6 @@
 -- The tests of `open_wal`, one by one.
-use mathlib.Core.Path.{_≡_, refl, _∙_}
+use mathlib.Core.Path.{_≡_, refl, sym, ap, _∙_}
+use mathlib.Core.List.{[], _∷_}
 use mathlib.Core.Bool.{false, _&&_}
 use Prim.Native.Nat.{ℕ, zero, suc, _≤_, _<_}
 use native.Mathlib.Omega.{arith}
@@ -20,6 +21,11 @@ pub record Opened (l : Bytes) (crc : ℕ) : Type 0 where
   pub bytes : (i : ℕ) → Byte (getD l i 0)
   pub right : crc ≡ crc32 (take 2 l)
   pub fits : crc ≤ 0xFFFF_FFFF
+
+pub first-two : (l : Bytes) → 8 ≤ length l → getD l 0 0 ≡ 0xCA → 0xCA ∷ getD l 1 0 ∷ [] ≡ take 2 l
+first-two [] h e = absurd (omega arith)
+first-two (x ∷ []) h e = absurd (omega arith)
+first-two (x ∷ y ∷ l) h e = ap (λ (z : ℕ). z ∷ y ∷ []) (sym e)
 
 module _ (l : Bytes) where
   invalid : validHeader l ≡ false → absent ≡ readJournal l

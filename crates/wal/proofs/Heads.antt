@@ -1,4 +1,4 @@
--- The tests of `entry_at`, one by one.
+-- The tests of `entry_at` and of `checked`, one by one.
 use mathlib.Core.Path.{_≡_, refl, sym, ap, _∙_}
 use mathlib.Core.List.{[]}
 use mathlib.Core.Bool.{Bool, true, false, _&&_}
@@ -18,7 +18,7 @@ use Rattle.field.specs.Reading.{u32At}
 use Rattle.field.proofs.Fields.{number-there}
 use Rattle.transaction.specs.Operations.{part}
 use Rattle.transaction.proofs.Same.{and-right}
-use Rattle.wal.specs.Logs.{payloadAt, causeOf, EntryAt}
+use Rattle.wal.specs.Logs.{payloadAt, causeOf, PayloadHead, EntryAt}
 use Rattle.wal.specs.declared.Cause as code
 use Rattle.wal.specs.declared.Cause.the-variants.{HeaderShort, PayloadMissing, ChecksumWrong}
 use Rattle.wal.specs.declared.Entry.the-variants.{Payload, Truncated}
@@ -59,19 +59,19 @@ module _ (log : Bytes) (at : ℕ) where
   unfolding whole missing
   no-head h = let f = too-few 8 (drop at log) (omega (arith, length-drop at log)) in truncated HeaderShort (fromLittleEndian (take 4 (drop (at + 4) log))) refl (rw f) (rw f)
 
--- What `entry_at` knows once it has read the length, and once the checksum is computed.
+-- What is known once the length is read, and once the checksum is computed.
 pub record Headed (log : Bytes) (at n : ℕ) : Type 0 where
   pub head : 8 ≤ length log - at
   pub length-read : n ≡ u32At log (at + 4)
 
-pub record Framed (log : Bytes) (at n end crc : ℕ) : Type 0 where
-  pub headed : Headed log at n
-  pub some-bytes : n ≡ 0 → ⊥
-  pub inside : n ≤ length log - (at + 8)
-  pub end-is : end ≡ at + 8 + n
-  pub bytes : (i : ℕ) → Byte (getD log i 0)
-  pub right : crc ≡ crc32 (payloadAt log (at + 8) end)
-  pub fits : crc ≤ 0xFFFF_FFFF
+record Framed (log : Bytes) (at n end crc : ℕ) : Type 0 where
+  headed : Headed log at n
+  some-bytes : n ≡ 0 → ⊥
+  inside : n ≤ length log - (at + 8)
+  end-is : end ≡ at + 8 + n
+  bytes : (i : ℕ) → Byte (getD log i 0)
+  right : crc ≡ crc32 (payloadAt log (at + 8) end)
+  fits : crc ≤ 0xFFFF_FFFF
 
 module _ {log : Bytes} {at n : ℕ} (w : Headed log at n) where
   size : n ≡ fromLittleEndian (take 4 (drop (at + 4) log))
@@ -110,13 +110,32 @@ module _ {log : Bytes} {at n end crc : ℕ} (w : Framed log at n end crc) where
   there : leb 1 n && atLeast n (drop (at + 8) log) ≡ true
   there = rw (le-leb 1 n (positive n (w .some-bytes)), enough n (drop (at + 8) log) (omega (arith, w .inside, length-drop (at + 8) log)))
 
-  pub wrong-crc : (u32At log at ≡ crc → ⊥) → EntryAt log at (Truncated ChecksumWrong)
+  framed-wrong : (u32At log at ≡ crc → ⊥) → EntryAt log at (Truncated ChecksumWrong)
   unfolding missing
-  wrong-crc q = truncated log at ChecksumWrong n (size (w .headed)) (checked ∙ ne-eqb (u32At log at) crc q) (rw (has-head (w .headed), there))
+  framed-wrong q = truncated log at ChecksumWrong n (size (w .headed)) (checked ∙ ne-eqb (u32At log at) crc q) (rw (has-head (w .headed), there))
 
-  pub is-entry : u32At log at ≡ crc → EntryAt log at (Payload (at + 8) end)
-  is-entry q = record {
+  framed-right : u32At log at ≡ crc → EntryAt log at (Payload (at + 8) end)
+  framed-right q = record {
     bounded = (refl, (omega (arith, w .end-is, positive n (w .some-bytes)), omega (arith, w .end-is, w .inside, w .headed .head)));
     same = ap some payload ∙ sym (first log at n (size (w .headed)) ∙ rw (checked ∙ eq-eqb (u32At log at) crc q));
     told = tt;
   }
+
+-- A payload that is found, held to its checksum.
+module _ {log : Bytes} {at start end crc : ℕ} (h : PayloadHead log at start end) (b : (i : ℕ) → Byte (getD log i 0)) (e : crc ≡ crc32 (payloadAt log start end)) (f : crc ≤ 0xFFFF_FFFF) where
+  framed : Framed log at (u32At log (at + 4)) end crc
+  framed = record {
+    headed = record { head = omega (arith, h .starts, h .some-bytes, h .inside); length-read = refl };
+    some-bytes = λ z. omega (arith, h .starts, h .ends, h .some-bytes);
+    inside = omega (arith, h .ends, h .inside);
+    end-is = h .ends;
+    bytes = b;
+    right = rw (h .starts) at e;
+    fits = f;
+  }
+
+  pub wrong-crc : (u32At log at ≡ crc → ⊥) → EntryAt log at (Truncated ChecksumWrong)
+  wrong-crc q = framed-wrong framed q
+
+  pub is-entry : u32At log at ≡ crc → EntryAt log at (Payload start end)
+  is-entry q = rw (h .starts) (framed-right framed q)

@@ -3,14 +3,16 @@ use mathlib.Core.Path.{_≡_}
 use Prim.Native.Nat.{ℕ, _+_, _≤_, _<_}
 use mathlib.Core.List.{List, [], map}
 use mathlib.Core.Option.{Option, none, some}
-use mathlib.Core.Bool.{_&&_}
+use mathlib.Core.Bool.{Bool, true, false, _&&_}
 use lib.ListN.{length, take, drop}
 use lib.Dec.{leb}
 use Rattle.basics.specs.Base.{Bytes, if_then_else_}
+use Rattle.basics.specs.Crc32.{crc32}
 use Rattle.model.specs.Operation.{Op}
 use Rattle.model.specs.Log.{Entries, Journal, absent, recording, committing, stop, firstPayload, firstCause, entries}
 use Rattle.model.specs.Log as model
 use Rattle.basic_laws.specs.Tests.{All}
+use Rattle.field.specs.Reading.{u32At}
 use Rattle.transaction.specs.Operations.{opOf, SoundOp, inBounds, part}
 use Rattle.wal.specs.declared.Status.{Status}
 use Rattle.wal.specs.declared.Status.the-variants.{Absent, Recording, Committing}
@@ -18,6 +20,7 @@ use Rattle.wal.specs.declared.Cause.{Cause}
 use Rattle.wal.specs.declared.Cause.the-variants.{HeaderShort, PayloadMissing, ChecksumWrong}
 use Rattle.wal.specs.declared.Entry.{Entry}
 use Rattle.wal.specs.declared.Entry.the-variants as entry
+use Rattle.wal.specs.declared.Ahead.{Ahead}
 use Rattle.wal.specs.declared.Ending.{Ending}
 use Rattle.wal.specs.declared.Ending.the-variants as code
 use Rattle.wal.specs.declared.Logged.{Logged}
@@ -54,11 +57,45 @@ abbrev pub Told : Bytes → ℕ → Entry → Type 0
 Told log at (entry.Payload start end) = Unit {0}
 Told log at (entry.Truncated c) = causeOf c ≡ firstCause (drop at log)
 
--- What `entry_at` answers.
+-- An entry of the log, held to its checksum.
 pub record EntryAt (log : Bytes) (at : ℕ) (e : Entry) : Type 0 where
   pub bounded : Bounded log at e
   pub same : entryOf log e ≡ firstPayload (drop at log)
   pub told : Told log at e
+
+-- An entry's head, behind which stands the payload that it says; its checksum is not looked at.
+pub record PayloadHead (log : Bytes) (at start end : ℕ) : Type 0 where
+  pub starts : start ≡ at + 8
+  pub ends : end ≡ at + 8 + u32At log (at + 4)
+  pub some-bytes : start < end
+  pub inside : end ≤ length log
+
+abbrev pub HeadSays : Bytes → ℕ → Entry → Type 0
+HeadSays log at (entry.Payload start end) = PayloadHead log at start end
+HeadSays log at (entry.Truncated c) = EntryAt log at (entry.Truncated c)
+
+-- What `entry_at` answers: where the payload stands, or how the entry is broken.
+pub record HeadAt (log : Bytes) (at : ℕ) (e : Entry) : Type 0 where
+  pub found : HeadSays log at e
+
+-- A number is another one, where it is known.
+abbrev pub IfKnown : Bool → ℕ → ℕ → Type 0
+IfKnown true n m = n ≡ m
+IfKnown false n m = Unit {0}
+
+-- The checksum of the payload that the head at a place says, where it is known.
+pub record Known (log : Bytes) (at : ℕ) (a : Ahead) : Type 0 where
+  pub right : IfKnown (a .known) (a .sum) (crc32 (payloadAt log (at + 8) (at + 8 + u32At log (at + 4))))
+
+-- The same of the entry behind this one.
+abbrev pub KnownBehind : Bytes → Entry → Ahead → Type 0
+KnownBehind log (entry.Payload start end) a = Known log end a
+KnownBehind log (entry.Truncated c) a = Unit {0}
+
+-- A payload that is handed out ends at this place.
+abbrev pub EndsAt : ℕ → Entry → Type 0
+EndsAt last (entry.Payload start end) = end ≡ last
+EndsAt last (entry.Truncated c) = Unit {0}
 
 abbrev pub endingOf : Ending → model.Ending
 endingOf code.Whole = model.whole

@@ -1,10 +1,14 @@
 // The log: wal.rs. 01, How a store is handed over: the header and the entries; Corners, wal.rs.
 ghost use mathlib.Core.Path.{_≡_};
+ghost use mathlib.Core.List.{[], _∷_};
+ghost use Rattle.basics.specs.Crc32.{crc32};
 ghost use Rattle.model.specs.Operation.{encodePayload};
 ghost use Rattle.model.specs.Log.{causeNumber, endingCause, header, entry, entries, readJournal};
 ghost use Rattle.field.specs.Writing.{written};
+ghost use Rattle.crc32.specs.Table.{byteTable};
 ghost use Rattle.transaction.specs.Operations.{opOf, Bounds, WritesOp};
-ghost use Rattle.wal.specs.Logs.{journalOf, payloadAt, causeOf, endingOf, EntryAt, ReadsLog, WalksLog};
+ghost use Rattle.wal.specs.Logs.{journalOf, payloadAt, causeOf, endingOf, HeadAt, PayloadHead, EntryAt, EndsAt, Known, KnownBehind, ReadsLog, WalksLog};
+use crc32::table::TABLE;
 use spans::NameRef;
 use transaction::Decoded;
 use transaction::Operation;
@@ -13,6 +17,17 @@ use transaction::Operation;
 const WAL_MAGIC: u8 = 0xCA;
 
 const STATUS_COMMITTING: u8 = 0x01;
+
+// The register behind the first byte, and the checksums behind a status of 0 and of 1: looked up in the table when this is compiled.
+const ALL_ONES: u32 = 0xFFFF_FFFF;
+
+const MAGIC_FED: u32 = (ALL_ONES >> 8) ^ TABLE[((ALL_ONES ^ WAL_MAGIC as u32) % 256) as usize];
+
+const RECORDING_CHECKSUM: u32 = (MAGIC_FED >> 8) ^ TABLE[(MAGIC_FED % 256) as usize] ^ ALL_ONES;
+
+const COMMITTING_CHECKSUM: u32 = (MAGIC_FED >> 8)
+    ^ TABLE[((MAGIC_FED ^ 1) % 256) as usize]
+    ^ ALL_ONES;
 
 // The bytes of a header, and those of an entry before its payload.
 const WAL_FILE_HEADER_SIZE: usize = 8;
@@ -47,6 +62,24 @@ pub enum Ending {
     TooMany,
 }
 
+// The checksum of an entry's payload, where it was taken with that of the entry before.
+struct Ahead {
+    known: bool,
+    sum: u32,
+}
+
+// A payload's checksum, and that of the entry behind it.
+struct Sums {
+    sum: u32,
+    ahead: Ahead,
+}
+
+// An entry that is held to its checksum, and the checksum of the one behind it.
+struct Turn {
+    entry: Entry,
+    ahead: Ahead,
+}
+
 // An operation that was read.
 pub struct Logged {
     pub op: Operation,
@@ -72,17 +105,32 @@ const NO_NAME: NameRef = NameRef {
     baks: 0,
 };
 
+const UNKNOWN: Ahead = Ahead {
+    known: false,
+    sum: 0,
+};
+
 const NO_OPERATION: Logged = Logged {
     op: Operation::DeleteAll(NO_NAME),
 };
+
+// The checksum of a header's first two bytes.
+fn header_checksum(status: u8) -> u32
+    ensures { λ r. ⌜ r ≡ crc32 (0xCA ∷ status ∷ []) ⌝ }
+{
+    match status {
+        0 => RECORDING_CHECKSUM,
+        1 => COMMITTING_CHECKSUM,
+        _ => crc32::hash(&[WAL_MAGIC, status]),
+    }
+}
 
 // The log's header with a status.
 pub fn encode_header(status: u8) -> [u8; 8]
     ensures { λ r. ⌜ r ≡ header status ⌝ }
 {
-    let first = [WAL_MAGIC, status];
     let mut h = [WAL_MAGIC, status, 0, 0, 0, 0, 0, 0];
-    field::put_u32(&mut h, 4, crc32::hash(&first));
+    field::put_u32(&mut h, 4, header_checksum(status));
     h
 }
 
@@ -104,10 +152,10 @@ pub fn open_wal(log: &[u8]) -> Status
     if log[0] != WAL_MAGIC {
         return Status::Absent;
     }
-    if field::u32_at(log, 4) != crc32::hash(&log[..2]) {
+    let status = log[1];
+    if field::u32_at(log, 4) != header_checksum(status) {
         return Status::Absent;
     }
-    let status = log[1];
     match status {
         0 => Status::Recording,
         1 => Status::Committing,
@@ -128,9 +176,10 @@ pub fn payload(log: &[u8], start: usize, end: usize) -> &[u8]
     &log[start..end]
 }
 
-// The entry that stands at `at`. 01, Corners, wal.rs: what is truncated; 02, item 1: the tests in this order.
+// The entry that stands at `at`, by its head. 01, Corners, wal.rs: what is truncated; 02, item 1: the tests in this order, the checksum's last
+// (`checked`).
 pub fn entry_at(log: &[u8], at: usize) -> Entry
-    ensures { λ r. ⌜ EntryAt (now (log .entry)) at r ⌝ }
+    ensures { λ r. ⌜ HeadAt (now (log .entry)) at r ⌝ }
 {
     if field::left(log.len(), at) < ENTRY_HEADER_SIZE {
         return Entry::Truncated(Cause::HeaderShort);
@@ -144,9 +193,6 @@ pub fn entry_at(log: &[u8], at: usize) -> Entry
         return Entry::Truncated(Cause::PayloadMissing);
     }
     let end = start + len;
-    if field::u32_at(log, at) != crc32::hash(payload(log, start, end)) {
-        return Entry::Truncated(Cause::ChecksumWrong);
-    }
     Entry::Payload(start, end)
 }
 
@@ -167,9 +213,9 @@ impl<'a> Walker<'a> {
         }
     }
 
-    // The walker's next entry.
+    // The walker's next entry, by its head.
     pub fn next(self) -> Entry
-        ensures { λ e. ⌜ EntryAt (now (self .entry .log)) (self .entry .at) e ⌝ }
+        ensures { λ e. ⌜ HeadAt (now (self .entry .log)) (self .entry .at) e ⌝ }
     {
         entry_at(self.log, self.at)
     }
@@ -185,11 +231,77 @@ impl<'a> Walker<'a> {
     }
 }
 
-// The entry that a walker at `at` comes to.
+// The entry that a walker at `at` comes to, by its head.
 pub fn entry_from(log: &[u8], at: usize) -> Entry
-    ensures { λ e. ⌜ EntryAt (now (log .entry)) at e ⌝ }
+    ensures { λ e. ⌜ HeadAt (now (log .entry)) at e ⌝ }
 {
     Walker::new(log).advance(at).next()
+}
+
+// The entry at `at`, whose payload is found and has this checksum, held to the checksum that it was written with.
+fn checked(log: &[u8], at: usize, start: usize, end: usize, sum: u32) -> Entry
+    requires { ⌜ PayloadHead (now log) at start end × (sum ≡ crc32 (payloadAt (now log) start end)) ⌝ }
+    ensures { λ r. ⌜ EntryAt (now (log .entry)) at r × EndsAt end r ⌝ }
+{
+    if field::u32_at(log, at) != sum {
+        return Entry::Truncated(Cause::ChecksumWrong);
+    }
+    Entry::Payload(start, end)
+}
+
+// The checksum of a payload and, in turn with it, that of the entry behind, if the head of one stands there.
+fn sums_from(t: &[u32; 256], log: &[u8], start: usize, end: usize) -> Sums
+    requires { ⌜ now t ≡ byteTable ⌝ }
+    ensures { λ r. ⌜ (r .sum ≡ crc32 (payloadAt (now (log .entry)) start end)) × Known (now (log .entry)) end (r .ahead) ⌝ }
+{
+    let behind = entry_from(log, end);
+    match behind {
+        Entry::Truncated(_) => Sums {
+            sum: crc32::hash_by(t, payload(log, start, end)),
+            ahead: UNKNOWN,
+        },
+        Entry::Payload(from, to) => {
+            let two = crc32::hash_two(t, payload(log, start, end), payload(log, from, to));
+            let sum = two.second;
+            Sums {
+                sum: two.first,
+                ahead: Ahead {
+                    known: true,
+                    sum: sum,
+                },
+            }
+        }
+    }
+}
+
+// The entry at `at`, held to its checksum, which is taken here unless it is known.
+fn next_entry(t: &[u32; 256], log: &[u8], at: usize, ahead: Ahead) -> Turn
+    requires { ⌜ (now t ≡ byteTable) × Known (now log) at ahead ⌝ }
+    ensures { λ r. ⌜ EntryAt (now (log .entry)) at (r .entry) × KnownBehind (now (log .entry)) (r .entry) (r .ahead) ⌝ }
+{
+    let found = entry_from(log, at);
+    match found {
+        Entry::Truncated(cause) => Turn {
+            entry: Entry::Truncated(cause),
+            ahead: UNKNOWN,
+        },
+        Entry::Payload(start, end) => {
+            if ahead.known {
+                let entry = checked(log, at, start, end, ahead.sum);
+                return Turn {
+                    entry: entry,
+                    ahead: UNKNOWN,
+                };
+            }
+            let s = sums_from(t, log, start, end);
+            let entry = checked(log, at, start, end, s.sum);
+            let behind = s.ahead;
+            Turn {
+                entry: entry,
+                ahead: behind,
+            }
+        }
+    }
 }
 
 // The number of a cause.
@@ -232,14 +344,21 @@ fn walk_entries(src: &[u8], first: usize, end: usize) -> WalRead
     ensures { λ r. ⌜ WalksLog (now (src .entry)) first end r ⌝ }
 {
     let mut ops = [NO_OPERATION; basics::OPERATION_LIMIT];
+    if end <= first {
+        return ended(ops, 0, Ending::Whole);
+    }
+    let table = crc32::byte_table();
     let log = &src[..end];
     let mut at = first;
+    let mut ahead = UNKNOWN;
     let mut n: usize = 0;
     while n < basics::OPERATION_LIMIT {
         if end <= at {
             return ended(ops, n, Ending::Whole);
         }
-        let found = entry_from(log, at);
+        let turn = next_entry(&table, log, at, ahead);
+        ahead = turn.ahead;
+        let found = turn.entry;
         match found {
             Entry::Truncated(cause) => {
                 return ended(ops, n, Ending::Truncated(cause));

@@ -3,18 +3,19 @@ use Prim.Native.Nat.{_-_}
 use native.Mathlib.Omega.{arith}
 use lib.ListN.{length}
 use borrow.Author.Needs.{needs}
-use Rattle.crc32.proofs.Register.{Feeding, feeding, fed, all-fed}
+use Rattle.basics.specs.Crc32.{register}
+use Rattle.crc32.proofs.Register.{Feeding, feeding, fed, all-fed, checksums}
 use Rattle.crc32.proofs.hash_bit_by_bit.Statement.{statement}
 use Rattle.crc32.proofs.hash_bit_by_bit.Tie as tie
 
 abbrev Inv-loop : tie.InvT-loop
-Inv-loop s r₀ i₀ r i = Feeding s i r
+Inv-loop s r₀ i₀ r i = Feeding (register 0xFFFF_FFFF s) s i r
 
 abbrev μ-loop : tie.MeasureT-loop
 μ-loop s r₀ i₀ r i = length s - i
 
 loop-holds : tie.Need-loop-holds Inv-loop μ-loop
-loop-holds c = feeding _
+loop-holds c = feeding _ 0 _
 
 shared-slice-read-update-bit-by-bit : tie.Need-shared-slice-read-update-bit-by-bit Inv-loop μ-loop
 shared-slice-read-update-bit-by-bit c = search needs
@@ -32,7 +33,7 @@ loop-again : tie.Need-loop-again Inv-loop μ-loop
 loop-again c = fed (c .before .before .before .loop .inv) (c .update-bit-by-bit .ensures) (omega arith)
 
 returns : tie.Need-returns Inv-loop μ-loop
-returns c = all-fed (c .before .loop .inv) (λ i. omega (arith, c .before .before .shared-slice-known .given i)) (omega arith)
+returns c = checksums _ (λ i. omega (arith, c .before .before .shared-slice-known .given i)) (all-fed (c .before .loop .inv) (omega arith))
 
 pub hash-bit-by-bit-spec : {M : Type 1} → statement M
 hash-bit-by-bit-spec =

@@ -37,7 +37,7 @@ use denote.Triple.Table.{entered, cited}
 use denote.Triple.Walked.{says, Stays, stay-none, stay-none-slice, walkOf, goes-none, goes-none-slice, Walks, ends-at, walked, walk-meets}
 use denote.Exit.{yes}
 use denote.Triple.Clauses.{ensured, lasts}
-use Rattle.wal.specs.Logs.{EntryAt}
+use Rattle.wal.specs.Logs.{HeadAt}
 use Rattle.wal.specs.declared.Walker.{Walker}
 use Rattle.wal.specs.declared.Entry.{Entry}
 use Rattle.wal.proofs.Walker as T
@@ -69,8 +69,8 @@ abbrev stayed : Stays (entry-from.ended .signature .params) (entry-from.ended .k
 stayed = (stay-none-slice (0 ∷ []) tt (plain (λ _. u8)) yes, (stay-none (λ _. usize) yes, tt))
 
 -- what is said of an answer at one log and place, at another that is equal
-arrives : (x y : RefT (List ℕ)) (m n : ℕ) (t : Entry) → x ≡ y → m ≡ n → EntryAt (now x) m t → EntryAt (now y) n t
-arrives x y m n t p q h = subst (λ (z : RefT (List ℕ)). EntryAt (now z) n t) p (subst (λ (k : ℕ). EntryAt (now x) k t) q h)
+arrives : (x y : RefT (List ℕ)) (m n : ℕ) (t : Entry) → x ≡ y → m ≡ n → HeadAt (now x) m t → HeadAt (now y) n t
+arrives x y m n t p q h = subst (λ (z : RefT (List ℕ)). HeadAt (now z) n t) p (subst (λ (k : ℕ). HeadAt (now x) k t) q h)
 
 module _ {M : Type 1} (𝓤 : URA M) (H : Heap 𝓤) (A : Atoms 𝓤) (mem : Memory → SProp 𝓤) (run : Routine → Fun 𝓤) where
   -- the contracts that the proof cites
@@ -141,10 +141,10 @@ module _ {M : Type 1} (𝓤 : URA M) (H : Heap 𝓤) (A : Atoms 𝓤) (W : Given
   goes-next : (r : Walker) (u : Val) → ent 𝓤 (⋆ 𝓤 H A (‵ (B (κ, tt) .own r (u ∷ [])) ∷ (‵ (flft κ q) ⊛ ‵ ftrue) ∷ [])) (Next 𝓤 H A mem run .pre (to-next r u))
   goes-next r u = qed W (‵ (B (κ, tt) .own r (u ∷ [])) ∷ (‵ (flft κ q) ⊛ ‵ ftrue) ∷ []) ∵ nothing ! $ move ! (1 ∷ 0 ∷ []) $ fjoin ! $ move ! (1 ∷ 0 ∷ []) $ join ! $ frame ! $ done !
 
-  next-said : (r : Walker) (t : Entry) → ent 𝓤 (ensured 𝓤 H A next.ended (next.clauses 𝓤 H A mem run) (κ, tt) (r, tt) tt t) (fact 𝓤 (EntryAt (now (r .log)) (r .at) t))
-  next-said r t = exE 𝓤 _ (λ ws. snd∗ 𝓤 (sem 𝓤 H A (lasts next.ended (κ, tt) (r, tt) ws)) (fact 𝓤 (EntryAt (now (r .log)) (r .at) t)))
+  next-said : (r : Walker) (t : Entry) → ent 𝓤 (ensured 𝓤 H A next.ended (next.clauses 𝓤 H A mem run) (κ, tt) (r, tt) tt t) (fact 𝓤 (HeadAt (now (r .log)) (r .at) t))
+  next-said r t = exE 𝓤 _ (λ ws. snd∗ 𝓤 (sem 𝓤 H A (lasts next.ended (κ, tt) (r, tt) ws)) (fact 𝓤 (HeadAt (now (r .log)) (r .at) t)))
 
-  exits : (t : Entry) (u : Val) → EntryAt (now s) n t → ent 𝓤 (⋆ 𝓤 H A (‵ (S.the-row .own t (u ∷ [])) ∷ (‵ (flft κ q) ⊛ ‵ ftrue) ∷ ‵ Own ∷ [])) (Post u)
+  exits : (t : Entry) (u : Val) → HeadAt (now s) n t → ent 𝓤 (⋆ 𝓤 H A (‵ (S.the-row .own t (u ∷ [])) ∷ (‵ (flft κ q) ⊛ ‵ ftrue) ∷ ‵ Own ∷ [])) (Post u)
   exits t u e =
       qed W (‵ (S.the-row .own t (u ∷ [])) ∷ (‵ (flft κ q) ⊛ ‵ ftrue) ∷ ‵ Own ∷ []) ∵
       suffices ! _ (ends-at 𝓤 H A entry-from.ended stayed (entry-from.clauses 𝓤 H A mem run) W (((κ, tt), (q, tt), tt, (s, (n, tt)), at), tt) u t (tt, (tt, tt)) (tt, (tt, tt))) $ says ! e $
@@ -173,7 +173,7 @@ module _ {M : Type 1} (𝓤 : URA M) (H : Heap 𝓤) (A : Atoms 𝓤) (W : Given
         use2 W (raw (Next 𝓤 H A mem run .pre (to-next r′ u′))) (goes-next r′ u′) $
         calls-at ! fm (Next 𝓤 H A mem run) known-next (to-next r′ u′) (and-then ! (load ! (from ! (stop !)) (look ! 4 refl)) (no-more !)) (λ u″.
         use1 W (later (some (λ (t : Entry). ((‵ (flft κ q) ⊛ ‵ ftrue) ⊛ ‵ (S.the-row .own t (u″ ∷ []))) ⊛ raw (ensured 𝓤 H A next.ended (next.clauses 𝓤 H A mem run) (κ, tt) (r′, tt) tt t)))) (id⊢ 𝓤 _) $ await ! tt $ pick ! (λ t.
-        split ! $ move ! (1 ∷ []) $ use1 W (raw (fact 𝓤 (EntryAt (now (r′ .log)) (r′ .at) t))) (next-said r′ t) $ heard ! (EntryAt (now (r′ .log)) (r′ .at) t) (λ e″. split ! $ move ! (1 ∷ []) $
+        split ! $ move ! (1 ∷ []) $ use1 W (raw (fact 𝓤 (HeadAt (now (r′ .log)) (r′ .at) t))) (next-said r′ t) $ heard ! (HeadAt (now (r′ .log)) (r′ .at) t) (λ e″. split ! $ move ! (1 ∷ []) $
         -- [the result; the token; what s owns; _4; …; _3; …; _2; …; _1; …; room for _0; …]
         peeks ! S.the-row (Is S.the-row) (shows 𝓤 H A S.the-row) t (u″ ∷ []) (λ is″.
         land ! (from ! (stop !)) (init ! 11 refl (EL.lawful S.the-type S′.the-laws 𝓤 H A W tt .typed t _ is″ .0)) $

@@ -43,7 +43,7 @@ use denote.Triple.Table.{entered, cited}
 use denote.Triple.Walked.{says, Stays, stay-none, walkOf, goes-none, Walks, ends-at, walked, walk-meets}
 use denote.Exit.{yes}
 use denote.Triple.Clauses.{ensured, lasts}
-use Rattle.wal.specs.Logs.{EntryAt}
+use Rattle.wal.specs.Logs.{HeadAt}
 use Rattle.wal.specs.declared.Walker.{Walker}
 use Rattle.wal.specs.declared.Entry.{Entry}
 use Rattle.wal.proofs.Walker as T
@@ -68,8 +68,8 @@ stayed = (stay-none B yes, tt)
 
 module _ {M : Type 1} (𝓤 : URA M) (H : Heap 𝓤) (A : Atoms 𝓤) (mem : Memory → SProp 𝓤) (run : Routine → Fun 𝓤) where
   -- the contract that the proof cites
-  abbrev EntryAtC : Contract 𝓤
-  EntryAtC = tripleOf 𝓤 H A step.signature (step.spec 𝓤 H A mem run)
+  abbrev HeadAtC : Contract 𝓤
+  HeadAtC = tripleOf 𝓤 H A step.signature (step.spec 𝓤 H A mem run)
 
 module _ {M : Type 1} (𝓤 : URA M) (H : Heap 𝓤) (A : Atoms 𝓤) (W : Given 𝓤 H A) (mem : Memory → SProp 𝓤) (run : Routine → Fun 𝓤) (κ : Lft) (q : Share) (d : Walker) where
   abbrev mach : Val
@@ -81,7 +81,7 @@ module _ {M : Type 1} (𝓤 : URA M) (H : Heap 𝓤) (A : Atoms 𝓤) (W : Given
 
   -- what is said of an answer
   abbrev Found : Entry → Type 0
-  Found = EntryAt (now (d .log)) (d .at)
+  Found = HeadAt (now (d .log)) (d .at)
 
   abbrev Post : Val → SProp 𝓤
   Post = walkOf 𝓤 H A next.ended stayed (next.clauses 𝓤 H A mem run) .post (((κ, tt), (q, tt), tt, (d, tt), (mach ∷ [], tt)), tt)
@@ -103,21 +103,21 @@ module _ {M : Type 1} (𝓤 : URA M) (H : Heap 𝓤) (A : Atoms 𝓤) (W : Given
   abbrev passed : Vals step.signature (κ, tt)
   passed = (v ∷ [], (vint w64 (d .at) ∷ [], tt))
 
-  abbrev to : EntryAtC 𝓤 H A mem run .Ghost
+  abbrev to : HeadAtC 𝓤 H A mem run .Ghost
   to = (((κ, tt), (q, tt), tt, (d .log, (d .at, tt)), passed), tt)
 
-  asked : ent 𝓤 (onEntry 𝓤 H A step.signature (κ, tt) (q, tt) (d .log, (d .at, tt)) passed) (EntryAtC 𝓤 H A mem run .pre to)
+  asked : ent 𝓤 (onEntry 𝓤 H A step.signature (κ, tt) (q, tt) (d .log, (d .at, tt)) passed) (HeadAtC 𝓤 H A mem run .pre to)
   asked = qed W ((‵ (flft κ q) ⊛ ‵ ftrue) ∷ ‵ (owns (ShrSlice (named 0) κ u8 ∷ usize ∷ []) (d .log, (d .at, tt)) passed) ∷ []) ∵ join ! $ frame ! $ done !
 
   -- what the struct owns gives what the callee asks, and is kept
-  apart : d .at < 2 ^ 64 → ent 𝓤 (onEntry 𝓤 H A next.signature (κ, tt) (q, tt) (d, tt) (mach ∷ [], tt)) (sep 𝓤 (EntryAtC 𝓤 H A mem run .pre to) (sem 𝓤 H A Own))
+  apart : d .at < 2 ^ 64 → ent 𝓤 (onEntry 𝓤 H A next.signature (κ, tt) (q, tt) (d, tt) (mach ∷ [], tt)) (sep 𝓤 (HeadAtC 𝓤 H A mem run .pre to) (sem 𝓤 H A Own))
   apart fits =
       qed W ((‵ (flft κ q) ⊛ ‵ ftrue) ∷ ‵ (owns (B (κ, tt) ∷ []) (d, tt) (mach ∷ [], tt)) ∷ []) ∵
       move ! (1 ∷ []) $ fsplit ! $ move ! (1 ∷ []) $ drop ! $ use1 W (‵ Own ⊛ ‵ Own) (LL.copy D (T′.the-copy (namedLft 1 0 tt (κ, tt))) 𝓤 H A W .twice d (mach ∷ [])) $ split ! $
       use1 W (given (mach ∷ [] ≡ mach ∷ []) (‵ (all-own (D .parts) L vd))) (own-open 𝓤 H A W D L vd mach) $ learn ! (λ _. use1 W (‵ (ownAt (D .parts) L 0 (d .log)) ⊛ ‵ (rest (D .parts) L 0 vd)) (own-out 𝓤 H A W (D .parts) L 0 vd) $ split ! $
       -- [what log owns; what at owns; what the struct owns; the token]
       move ! (1 ∷ []) $ drop ! $ nothing ! $ owned ! usize (Is usize) (uint-makes 𝓤 H A W w64) (d .at) _ (refl, fits) $ fjoin ! $ move ! (1 ∷ 0 ∷ []) $ fjoin ! $
-      move ! (2 ∷ 0 ∷ []) $ use2 W (raw (EntryAtC 𝓤 H A mem run .pre to)) asked $ frame ! $ done !)
+      move ! (2 ∷ 0 ∷ []) $ use2 W (raw (HeadAtC 𝓤 H A mem run .pre to)) asked $ frame ! $ done !)
 
   -- of the callee's `ensured`, the clause alone: it has no `&mut`, so what is said of last values is dropped
   said : (r : Entry) → ent 𝓤 (ensured 𝓤 H A step.ended (step.clauses 𝓤 H A mem run) (κ, tt) (d .log, (d .at, tt)) tt r) (fact 𝓤 (Found r))
@@ -129,15 +129,15 @@ module _ {M : Type 1} (𝓤 : URA M) (H : Heap 𝓤) (A : Atoms 𝓤) (W : Given
       suffices ! _ (ends-at 𝓤 H A next.ended stayed (next.clauses 𝓤 H A mem run) W (((κ, tt), (q, tt), tt, (d, tt), (mach ∷ [], tt)), tt) u r (tt, tt) (tt, tt)) $ says ! e $
       move ! (1 ∷ []) $ frame ! $ nothing ! $ move ! (2 ∷ 0 ∷ []) $ fjoin ! $ frame ! $ done !
 
-  module _ (C : Calls 𝓤 H) (Λ : Loops 𝓤 H) (fm : FmC 𝓤 H (W .laws) C) (known : Triple 𝓤 (C #wal·entry-at) (EntryAtC 𝓤 H A mem run)) where
+  module _ (C : Calls 𝓤 H) (Λ : Loops 𝓤 H) (fm : FmC 𝓤 H (W .laws) C) (known : Triple 𝓤 (C #wal·entry-at) (HeadAtC 𝓤 H A mem run)) where
     walk : Holds (hasTy (T′.mir (named 0)) mach) × WT mach → ent 𝓤 (onEntry 𝓤 H A next.signature (κ, tt) (q, tt) (d, tt) (mach ∷ [], tt)) (WpFn 𝓤 H C Λ code.function (mach ∷ []) Post)
     walk wt =
         qed W (raw (onEntry 𝓤 H A next.signature (κ, tt) (q, tt) (d, tt) (mach ∷ [], tt)) ∷ []) ∵ enter ! C Λ code.function (mach ∷ []) _ $
         alloc1 ! (λ l₀. alloc1 ! (λ l₁. alloc1 ! (λ l₂. alloc1 ! (λ l₃. alloc0 ! $ params1 ! $ pass1 ! (init ! 4 refl wt) $ pass0 ! $
         assigns ! (of-opd ! (load ! (from ! (fld ! refl (stop !))) (look-in ! 4 (sub ! 0 refl (whole !))))) (from ! (stop !)) (init ! 2 refl (tt, wt .1 .0)) $
         assigns ! (of-opd ! (load ! (from ! (fld ! refl (stop !))) (look-in ! 4 (sub ! 1 refl (whole !))))) (from ! (stop !)) (init ! 0 refl (tt, wt .1 .1 .0)) $
-        move ! (8 ∷ []) $ use1 W (raw (EntryAtC 𝓤 H A mem run .pre to) ⊛ ‵ Own) (apart (wt .1 .1 .0 .fits)) $ split ! $
-        calls-at ! fm (EntryAtC 𝓤 H A mem run) known to (and-then ! (load ! (from ! (stop !)) (look ! 4 refl)) (and-then ! (load ! (from ! (stop !)) (look ! 2 refl)) (no-more !))) (λ u.
+        move ! (8 ∷ []) $ use1 W (raw (HeadAtC 𝓤 H A mem run .pre to) ⊛ ‵ Own) (apart (wt .1 .1 .0 .fits)) $ split ! $
+        calls-at ! fm (HeadAtC 𝓤 H A mem run) known to (and-then ! (load ! (from ! (stop !)) (look ! 4 refl)) (and-then ! (load ! (from ! (stop !)) (look ! 2 refl)) (no-more !))) (λ u.
         use1 W (later (some (λ (r : Entry). ((‵ (flft κ q) ⊛ ‵ ftrue) ⊛ ‵ (S.the-row .own r (u ∷ []))) ⊛ raw (ensured 𝓤 H A step.ended (step.clauses 𝓤 H A mem run) (κ, tt) (d .log, (d .at, tt)) tt r)))) (id⊢ 𝓤 _) $ await ! tt $ pick ! (λ r.
         split ! $ move ! (1 ∷ []) $ use1 W (raw (fact 𝓤 (Found r))) (said r) $ heard ! (Found r) (λ e. split ! $ move ! (1 ∷ []) $
         -- [the result; the token; what the struct owns; _3; …; _2; …; _1; …; room for _0; …]
@@ -147,13 +147,13 @@ module _ {M : Type 1} (𝓤 : URA M) (H : Heap 𝓤) (A : Atoms 𝓤) (W : Given
         move ! (9 ∷ 10 ∷ []) $ free1 ! $ move ! (7 ∷ 8 ∷ []) $ free1 ! $ move ! (5 ∷ 6 ∷ []) $ free1 ! $ move ! (3 ∷ 4 ∷ []) $ free1 ! $ free0 ! $ by ! (exits r u e)))))))))
 
 module _ {M : Type 1} (𝓤 : URA M) (H : Heap 𝓤) (A : Atoms 𝓤) (W : Given 𝓤 H A) (mem : Memory → SProp 𝓤) (run : Routine → Fun 𝓤) where
-  next-walks : (C : Calls 𝓤 H) (Λ : Loops 𝓤 H) → FmC 𝓤 H (W .laws) C → Triple 𝓤 (C #wal·entry-at) (EntryAtC 𝓤 H A mem run)
+  next-walks : (C : Calls 𝓤 H) (Λ : Loops 𝓤 H) → FmC 𝓤 H (W .laws) C → Triple 𝓤 (C #wal·entry-at) (HeadAtC 𝓤 H A mem run)
       → Walks 𝓤 H A next.ended stayed (WpFn 𝓤 H C Λ code.function) (next.clauses 𝓤 H A mem run)
   next-walks C Λ fm known = walked 𝓤 H A next.ended stayed (next.clauses 𝓤 H A mem run) (WpFn 𝓤 H C Λ code.function) (λ κs. (LL.vals (T.the-type (namedLft 1 0 tt κs)) (T′.the-laws (namedLft 1 0 tt κs)), tt)) (λ κs. (LL.tells (T.the-type (namedLft 1 0 tt κs)) (T′.the-laws (namedLft 1 0 tt κs)), tt))
       (λ κs qs bounds a g are. via 𝓤 _ (fst∗ 𝓤 _ (emp 𝓤)) (walk 𝓤 H A W mem run (κs .0) (qs .0) (a .0) C Λ fm known (LL.lawful (T.the-type (namedLft 1 0 tt κs)) (T′.the-laws (namedLft 1 0 tt κs)) 𝓤 H A W .typed (a .0) _ (are .0) .0)))
 
 next-meets : {M : Type 1} (𝓤 : URA M) (H : Heap 𝓤) (A : Atoms 𝓤) (W : Given 𝓤 H A) (mem : Memory → SProp 𝓤) (run : Routine → Fun 𝓤) (𝓣 : Tables 𝓤 H)
-    → Triple 𝓤 (𝓣 .C #wal·entry-at) (EntryAtC 𝓤 H A mem run)
+    → Triple 𝓤 (𝓣 .C #wal·entry-at) (HeadAtC 𝓤 H A mem run)
     → Meets 𝓤 H A next.signature (WpFn 𝓤 H (𝓣 .C) (𝓣 .Λ) code.function) (next.spec 𝓤 H A mem run)
 next-meets 𝓤 H A W mem run 𝓣 known-step = walk-meets 𝓤 H A next.ended stayed W (goes-none 𝓤 H A W 1 B yes (λ κs x f. refl), tt) (next.clauses 𝓤 H A mem run) (WpFn 𝓤 H (𝓣 .C) (𝓣 .Λ) code.function) (WpFn-mono 𝓤 H (W .laws) 𝓣 code.function)
     (next-walks 𝓤 H A W mem run (𝓣 .C) (𝓣 .Λ) (fmOf 𝓤 H (W .laws) 𝓣) known-step)
@@ -164,4 +164,4 @@ next-spec 𝓤 H 𝓜 𝓖 𝓡 =
     entered 𝓤 H (tripleOf 𝓤 H (𝓖 .A) next.signature (next.spec 𝓤 H (𝓖 .A) (𝓜 .mem) (𝓡 .run)))
     (tables 𝓤 H 𝓜 𝓡 code.env .C) (tables 𝓤 H 𝓜 𝓡 code.env .Λ) #wal·next code.function (code.unfolded 𝓤 H 𝓜 𝓡)
     (next-meets 𝓤 H (𝓖 .A) (givenOf 𝓤 H 𝓜 𝓖) (𝓜 .mem) (𝓡 .run) (tablesOf 𝓤 H 𝓜 (tables 𝓤 H 𝓜 𝓡 code.env))
-    (cited 𝓤 H (EntryAtC 𝓤 H (𝓖 .A) (𝓜 .mem) (𝓡 .run)) 𝓜 𝓡 code.env #wal·entry-at step-def.routine code.calls-wal·entry-at (step-thm.met 𝓤 H 𝓜 𝓖 𝓡)))
+    (cited 𝓤 H (HeadAtC 𝓤 H (𝓖 .A) (𝓜 .mem) (𝓡 .run)) 𝓜 𝓡 code.env #wal·entry-at step-def.routine code.calls-wal·entry-at (step-thm.met 𝓤 H 𝓜 𝓖 𝓡)))

@@ -14,13 +14,13 @@ use Rattle.basics.specs.Crc32.{crc32, register, feedByte, shifts, shift, addPol
 use Rattle.basics.specs.Field.{littleEndian, fromLittleEndian, encodeField, encodeFields, fieldsFrom, decodeFields, hasTag}
 use Rattle.basics.specs.Worked.{text, digit, pairs, hex, bit, Row, row, equal, agree}
 use Rattle.model.specs.Operation.{fieldTable, fieldTags, kind, values, tagged, encodePayload, makers, validValue, opOfFields, decodePayload}
-use Rattle.model.specs.Log.{header, entry, validHeader, firstPayload, walk, entries, readJournal, markCommitting, appendOperation}
+use Rattle.model.specs.Log.{header, entry, validHeader, firstPayload, walk, entries, readJournal, markCommitting, markHeld, appendOperation}
 use Rattle.model.specs.Store.{dirs, files, validNode, validNodes, validStaged, ascending, wellFormed, hasBackupFiles, firstBackup, hasPendingWork}
 use Rattle.model.specs.Image.{hitFields, imageFields, encode, treeOf, stagingOf, logOf, storeOf, decode}
 use Rattle.model.specs.Step.{removeDir, renameDir, apply, zeroSeparated, tagAndNames, stepField, stepFault}
-use Rattle.model.specs.Plan.{opSteps, undoSteps, restoreFile, restoreDirectory, removeBackupFile, removeBackupsIn, firstNamings, syncExisting, commitFault, commitPlan, committedAt, isNewArtifact, recoverPlan, recoveredAt, recovered}
+use Rattle.model.specs.Plan.{opSteps, undoSteps, restoreFile, restoreDirectory, removeBackupFile, removeBackupsIn, firstNamings, syncExisting, commitFault, planEnding, endingAt, isNewArtifact, recoverPlan, recoveredAt, recovered, revertPlan, revertedAt, reverted, keepPlan, keptAt, kept}
 use Rattle.model.specs.Record.{transaction, beginTransaction, discard, recordWrite, keyList}
-use Rattle.answers.specs.Answers.{Answer, Pending, begin, rollback, write, commitStore, commit, recoverStore, recover, commitStep, recoverStep, pending, listKeys, findBackup, decimal, listingLine, listing}
+use Rattle.answers.specs.Answers.{Answer, Pending, begin, rollback, write, endingStore, commit, hold, recoverStore, recover, keepStore, keep, revertStore, revert, commitStep, holdStep, recoverStep, keepStep, revertStep, pending, listKeys, findBackup, decimal, listingLine, listing}
 use Rattle.answers.specs.Inventory.{contents, collections, escaped, quoted, object, fileMember, collectionMember, inventoryText, inventory}
 
 -- An answer as its number, its image and its step field; the pending question's as its number and 1 for yes.
@@ -39,6 +39,10 @@ tenSteps : Bytes
 unfolding db
 tenSteps = write (text "db") (text "a") (text "s.tmp") 9 (begin (db 7) imageRoom .image) imageRoom .image
 
+heldTen : Bytes
+unfolding tenSteps
+heldTen = hold tenSteps imageRoom .image
+
 stepOn : Bytes → ℕ → Answer
 stepOn b n = commitStep n b imageRoom stepRoom
 
@@ -48,7 +52,7 @@ unfolding stepOn tenSteps
 listAt n = listing (stepOn tenSteps n .image)
 
 table : List Row
-unfolding db flat asked tenSteps stepOn listAt
+unfolding db flat asked tenSteps heldTen stepOn listAt
 table =
     row "begin, a Write, commit: a=9"
     (flat (commit tenSteps imageRoom))
@@ -86,6 +90,19 @@ table =
     ∷ row "work is pending while a log stands, not in db/a=7; an image that is refused: 1"
     (asked (pending tenSteps) ++ asked (pending (db 7)) ++ asked (pending (hex "10")))
     (hex "00 01 00 00 01 00")
+    ∷ row "02: the held ten-step case: nine steps and no tenth, its last two rewrite header and sync log"
+    (holdStep 9 tenSteps imageRoom stepRoom .number ∷ holdStep 10 tenSteps imageRoom stepRoom .number ∷ holdStep 8 tenSteps imageRoom stepRoom .step ++ holdStep 9 tenSteps imageRoom stepRoom .step)
+    (hex "00 10 20 00 00 22 00 00")
+    ∷ row "02: hold, then revert: db/a=7; hold, then keep: the commit's image, as after three steps of keep"
+    (flat (revert heldTen imageRoom) ++ flat (keep heldTen imageRoom) ++ 0 ∷ keepStep 3 heldTen imageRoom stepRoom .image)
+    (0 ∷ db 7 ++ flat (commit tenSteps imageRoom) ++ flat (commit tenSteps imageRoom))
+    ∷ row "02: at a Held log begin is 17, recording, commit and rollback are 4, recovery changes nothing, and work is pending"
+    (flat (begin heldTen imageRoom) ++ flat (write (text "db") (text "b") (text "t") 1 heldTen imageRoom) ++ flat (commit heldTen imageRoom)
+    ++ flat (hold heldTen imageRoom) ++ flat (rollback heldTen imageRoom) ++ flat (recover heldTen imageRoom) ++ asked (pending heldTen))
+    (hex "11 04 04 04 04 00" ++ heldTen ++ hex "00 01")
+    ∷ row "02: keep and revert without a Held log: 18; so their step entries, before 16"
+    (flat (keep tenSteps imageRoom) ++ flat (revert (db 7) imageRoom) ++ flat (keepStep 99 (db 7) imageRoom stepRoom) ++ flat (revertStep 99 tenSteps imageRoom stepRoom))
+    (hex "12 12 12 12")
     ∷ row "02: the backup that stands after 4 steps, db/a.bak=7"
     (flat (findBackup (stepOn tenSteps 4 .image) hitRoom))
     (hex "00 10 02 00 64 62 11 09 00 07 00 00 00 61 2E 62 61 6B")
@@ -111,18 +128,18 @@ table =
 
 -- Every row computes to what is stated.
 worked : map (λ r. r .computed) table ≡ map (λ r. r .stated) table
-unfolding table flat asked db tenSteps stepOn listAt
+unfolding table flat asked db tenSteps heldTen stepOn listAt
     text digit pairs hex bit row equal
     crc32 register feedByte shifts shift addPolynomial polynomial
     littleEndian fromLittleEndian encodeField encodeFields fieldsFrom decodeFields hasTag
     lastDot extension stripExtension backupExtension stagingExtension backupName originalName stripTmp isNameByte refusedNames validName lowerByte lower
     fieldTable fieldTags kind values tagged encodePayload makers validValue opOfFields decodePayload
-    header entry validHeader firstPayload walk entries readJournal markCommitting appendOperation
+    header entry validHeader firstPayload walk entries readJournal markCommitting markHeld appendOperation
     cmpKey look put del dirs files validNode validNodes validStaged ascending wellFormed hasBackupFiles firstBackup hasPendingWork
     imageFields encode treeOf stagingOf logOf storeOf decode
     removeDir renameDir apply zeroSeparated tagAndNames stepField stepFault
-    opSteps undoSteps restoreFile restoreDirectory removeBackupFile removeBackupsIn firstNamings syncExisting commitFault commitPlan committedAt isNewArtifact recoverPlan recoveredAt recovered
+    opSteps undoSteps restoreFile restoreDirectory removeBackupFile removeBackupsIn firstNamings syncExisting commitFault planEnding endingAt isNewArtifact recoverPlan recoveredAt recovered revertPlan revertedAt reverted keepPlan keptAt kept
     transaction beginTransaction discard recordWrite keyList
-    begin rollback write commitStore commit recoverStore recover commitStep recoverStep pending listKeys findBackup decimal listingLine listing
+    begin rollback write endingStore commit hold recoverStore recover keepStore keep revertStore revert commitStep holdStep recoverStep keepStep revertStep pending listKeys findBackup decimal listingLine listing
     contents collections escaped quoted object fileMember collectionMember inventoryText inventory
 worked = agree table refl

@@ -13,18 +13,18 @@ use Rattle.model.specs.Operation.{Op}
 use Rattle.model.specs.Log.{journal, committing, whole, opsOf}
 use Rattle.model.specs.Store.{Store}
 use Rattle.model.specs.Image.{encode, decode}
-use Rattle.model.specs.Plan.{commitFault, commitPlan, committedAt, recoveredAt, recovered}
+use Rattle.model.specs.Plan.{commitFault, commitPlan, committedAt, recoveredAt, recovered, holdPlan, heldAt, revertedAt, reverted, keptAt, kept}
 use Rattle.model.specs.Record.{Outcome, give, beginTransaction, discard, recordWrite, recordDelete, recordDeleteAll, recordCreate, recordDeleteCollection, recordCopy}
 use Rattle.model.specs.Step.{commitNumber}
-use Rattle.answers.specs.Answers.{Answer, refusal, imageEntry, begin, write, delete, deleteAll, createCollection, deleteCollection, copyCollection, rollback, commit, recover, commitStep, recoverStep}
+use Rattle.answers.specs.Answers.{Answer, refusal, imageEntry, begin, write, delete, deleteAll, createCollection, deleteCollection, copyCollection, rollback, commit, recover, commitStep, recoverStep, hold, keep, revert, keepStep, revertStep}
 use Rattle.basic_laws.specs.MapLaws.{some-inj}
 use Rattle.basic_laws.specs.Tests.{All, all-imp}
 use Rattle.laws.specs.ImageLaws.{decode-encode}
 use Rattle.basic_laws.specs.ValidNames.{Valid, DotBakBak}
 use Rattle.laws.specs.StoreLaws.{Good, well-formed}
 use Rattle.laws.specs.RecordLaws.{Gives, begin-keeps, rollback-keeps, write-keeps, delete-keeps, delete-all-keeps, create-keeps, delete-collection-keeps, copy-keeps}
-use Rattle.laws.specs.WellFormed.{NoneNamed, NoneMade, recover-keeps-valid, recover-keeps-named, recovered-keeps, commit-keeps, commit-keeps-named}
-use Rattle.answer_laws.specs.EntryLaws.{commitRefusals, recoverRefusals, commitStepRefusals, recoverStepRefusals, lent-good, no-fault, on-entry, on-commit, on-recover, on-commit-step, on-recover-step}
+use Rattle.laws.specs.WellFormed.{NoneNamed, NoneMade, recover-keeps-valid, recover-keeps-named, recovered-keeps, commit-keeps, commit-keeps-named, hold-keeps, hold-keeps-named, keep-keeps, kept-keeps, revert-keeps-named, reverted-keeps}
+use Rattle.answer_laws.specs.EntryLaws.{commitRefusals, recoverRefusals, commitStepRefusals, recoverStepRefusals, lent-good, no-fault, on-entry, on-commit, on-recover, on-commit-step, on-recover-step, keepRefusals, revertRefusals, keepStepRefusals, revertStepRefusals, on-hold, on-keep, on-revert, on-keep-step, on-revert-step}
 
 -- The image b was lent and the answer a given: b holds a store, a's image is read as a store, and this one follows from the first.
 pub record Accepted (Follows : Store → Store → Type 0) (b : Bytes) (a : Answer) : Type 0 where
@@ -147,3 +147,38 @@ recover-accepted b out h = on-recover (WithNumber 0 (Accepted (Is recovered) b))
 pub recover-step-accepted : (n : ℕ) (b : Bytes) (out stepOut : ℕ) → NotWholeCommitting b ⊎ NoDotBakBak b → recoverStep n b out stepOut .number ≡ 0 → Accepted (Is (recoveredAt n)) b (recoverStep n b out stepOut)
 recover-step-accepted n b out stepOut h = on-recover-step (WithNumber 0 (Accepted (Is (recoveredAt n)) b)) n b out stepOut (refused 0 (Accepted (Is (recoveredAt n)) b) recoverStepRefusals (omega arith)) λ s d z.
     read-back b (Is (recoveredAt n)) s (recoveredAt n s) _ d refl (recovers b h s d n) refl
+
+-- 02, item 6. Hold with number 0, and its steps; keep and its steps: always. Hold that fails, revert: unless one of the two names is there to be restored.
+abbrev pub heldStore : Store → Store
+heldStore s = heldAt (length (holdPlan s)) s
+
+of-hold : (b : Bytes) (out n : ℕ) → All (λ m. m ≡ n → ⊥) commitRefusals → ((s : Store) → decode b ≡ some s → commitNumber (commitFault s) ≡ n → Good Valid (heldStore s)) →
+    hold b out .number ≡ n → Accepted (Is heldStore) b (hold b out)
+of-hold b out n r h = on-hold (WithNumber n (Accepted (Is heldStore) b)) b out (refused n (Accepted (Is heldStore) b) commitRefusals r) λ s d z. read-back b (Is heldStore) s (heldStore s) _ d refl (h s d z) refl
+
+pub hold-accepted : (b : Bytes) (out : ℕ) → hold b out .number ≡ 0 → Accepted (Is heldStore) b (hold b out)
+hold-accepted b out = of-hold b out 0 (omega arith) λ s d z. hold-keeps s (lent-good b s d) (no-fault (commitFault s) z) (length (holdPlan s))
+
+pub hold-failed-accepted : (b : Bytes) (out : ℕ) → (hold b out .number ≡ 14) ⊎ (hold b out .number ≡ 15) → NoDotBakBak b → NoDotBakBakMade b → Accepted (Is heldStore) b (hold b out)
+hold-failed-accepted b out c h k = go c
+  where
+    keeps : (s : Store) → decode b ≡ some s → Good Valid (heldStore s)
+    keeps s d = hold-keeps-named s (lent-good b s d) (h s d) (k s d) (length (holdPlan s))
+
+    go : (hold b out .number ≡ 14) ⊎ (hold b out .number ≡ 15) → Accepted (Is heldStore) b (hold b out)
+    go (inl e) = of-hold b out 14 (omega arith) (λ s d z. keeps s d) e
+    go (inr e) = of-hold b out 15 (omega arith) (λ s d z. keeps s d) e
+
+pub keep-accepted : (b : Bytes) (out : ℕ) → keep b out .number ≡ 0 → Accepted (Is kept) b (keep b out)
+keep-accepted b out = on-keep (WithNumber 0 (Accepted (Is kept) b)) b out (refused 0 (Accepted (Is kept) b) keepRefusals (omega arith)) λ s d z. read-back b (Is kept) s (kept s) _ d refl (kept-keeps s (keep-keeps s (lent-good b s d))) refl
+
+pub keep-step-accepted : (n : ℕ) (b : Bytes) (out stepOut : ℕ) → keepStep n b out stepOut .number ≡ 0 → Accepted (Is (keptAt n)) b (keepStep n b out stepOut)
+keep-step-accepted n b out stepOut = on-keep-step (WithNumber 0 (Accepted (Is (keptAt n)) b)) n b out stepOut (refused 0 (Accepted (Is (keptAt n)) b) keepStepRefusals (omega arith)) λ s d z. read-back b (Is (keptAt n)) s (keptAt n s) _ d refl (keep-keeps s (lent-good b s d) n) refl
+
+pub revert-accepted : (b : Bytes) (out : ℕ) → NoDotBakBak b → revert b out .number ≡ 0 → Accepted (Is reverted) b (revert b out)
+revert-accepted b out h = on-revert (WithNumber 0 (Accepted (Is reverted) b)) b out (refused 0 (Accepted (Is reverted) b) revertRefusals (omega arith)) λ s d z.
+    read-back b (Is reverted) s (reverted s) _ d refl (reverted-keeps s (revert-keeps-named s (lent-good b s d) (h s d))) refl
+
+pub revert-step-accepted : (n : ℕ) (b : Bytes) (out stepOut : ℕ) → NoDotBakBak b → revertStep n b out stepOut .number ≡ 0 → Accepted (Is (revertedAt n)) b (revertStep n b out stepOut)
+revert-step-accepted n b out stepOut h = on-revert-step (WithNumber 0 (Accepted (Is (revertedAt n)) b)) n b out stepOut (refused 0 (Accepted (Is (revertedAt n)) b) revertStepRefusals (omega arith)) λ s d z.
+    read-back b (Is (revertedAt n)) s (revertedAt n s) _ d refl (revert-keeps-named s (lent-good b s d) (h s d) n) refl

@@ -15,9 +15,9 @@ use Rattle.basics.specs.Field.{littleEndian, encodeField}
 use Rattle.model.specs.Store.{Store, files, fileCount}
 use Rattle.model.specs.Step.{Step, zeroSeparated, tagAndNames, stepField, commitNumber, fieldAt}
 use Rattle.model.specs.Step
-use Rattle.model.specs.Plan.{commitFault, commitPlan, recoverPlan, recovered, withoutMark}
+use Rattle.model.specs.Plan.{commitFault, commitPlan, recoverPlan, recovered, withoutMark, holdPlan, revertPlan, reverted, keepPlan, kept}
 use Rattle.model.specs.Record.{Outcome, beginTransaction, discard, recordWrite, recordDelete, recordDeleteAll, recordCreate, recordDeleteCollection, recordCopy, keyList}
-use Rattle.answers.specs.Answers.{Answer, refusal, answer, imageEntry, begin, write, delete, deleteAll, createCollection, deleteCollection, copyCollection, rollback, commit, recover, commitStep, recoverStep, listKeys, findBackup}
+use Rattle.answers.specs.Answers.{Answer, refusal, answer, imageEntry, begin, write, delete, deleteAll, createCollection, deleteCollection, copyCollection, rollback, commit, recover, commitStep, recoverStep, listKeys, findBackup, hold, keep, revert, holdStep, keepStep, revertStep}
 use Rattle.basic_laws.specs.Tests.{All, in-all, all-every}
 use Rattle.basic_laws.specs.ValidNames.{Sized, Valid, Naming, valid-length, validNaming, restoredNaming}
 use Rattle.laws.specs.TreeLaws.{file-size}
@@ -27,8 +27,8 @@ use Rattle.laws.specs.BackupLaws.{hit-length}
 use Rattle.laws.specs.Listings.{listed-file}
 use Rattle.laws.specs.StepLaws.{Fits}
 use Rattle.laws.specs.RecordLaws.{Gives, begin-keeps, rollback-keeps, write-keeps, delete-keeps, delete-all-keeps, create-keeps, delete-collection-keeps, copy-keeps}
-use Rattle.laws.specs.WellFormed.{recover-keeps, recovered-keeps, commit-keeps-failed, commit-fits, recover-fits}
-use Rattle.answer_laws.specs.EntryLaws.{commitRefusals, recoverRefusals, commitStepRefusals, recoverStepRefusals, lent-good, on-entry, on-commit, on-recover, on-commit-step, on-recover-step, on-list-keys, on-find-backup}
+use Rattle.laws.specs.WellFormed.{recover-keeps, recovered-keeps, commit-keeps-failed, commit-fits, recover-fits, hold-keeps-failed, hold-fits, keep-keeps, kept-keeps, keep-fits, revert-keeps, reverted-keeps, revert-fits}
+use Rattle.answer_laws.specs.EntryLaws.{commitRefusals, recoverRefusals, commitStepRefusals, recoverStepRefusals, lent-good, on-entry, on-commit, on-recover, on-commit-step, on-recover-step, on-list-keys, on-find-backup, keepRefusals, revertRefusals, keepStepRefusals, revertStepRefusals, on-hold, on-keep, on-revert, on-hold-step, on-keep-step, on-revert-step}
 
 -- What an answer writes fits the outputs that it asks for.
 pub record Bounded (a : Answer) : Type 0 where
@@ -48,6 +48,7 @@ separated-length (n ∷ m ∷ r) h =
 few-names : (x : Step) → length (tagAndNames x .1) ≤ 3
 unfolding tagAndNames
 few-names Step.rewriteHeader = omega arith
+few-names Step.holdHeader = omega arith
 few-names Step.syncStaging = omega arith
 few-names Step.syncLog = omega arith
 few-names Step.removeLog = omega arith
@@ -134,6 +135,31 @@ pub recover-step-bounded : (n : ℕ) (b : Bytes) (out stepOut : ℕ) → Bounded
 recover-step-bounded n b out stepOut = on-recover-step Bounded n b out stepOut (refused recoverStepRefusals) λ s d.
     let g = lent-good b s d in
     record { image = encode-length restoredNaming _ (recover-keeps s g n); step = field-at-length n (recoverPlan (withoutMark s)) (recover-fits s g) }
+
+-- 02, item 6: hold, keep and revert.
+pub hold-bounded : (b : Bytes) (out : ℕ) → Bounded (hold b out)
+hold-bounded b out = on-hold Bounded b out (refused commitRefusals) λ s d. given restoredNaming (commitNumber (commitFault s)) _ (hold-keeps-failed s (lent-good b s d) (length (holdPlan s)))
+
+pub keep-bounded : (b : Bytes) (out : ℕ) → Bounded (keep b out)
+keep-bounded b out = on-keep Bounded b out (refused keepRefusals) λ s d. given validNaming 0 (kept s) (kept-keeps s (keep-keeps s (lent-good b s d)))
+
+pub revert-bounded : (b : Bytes) (out : ℕ) → Bounded (revert b out)
+revert-bounded b out = on-revert Bounded b out (refused revertRefusals) λ s d. given restoredNaming 0 (reverted s) (reverted-keeps s (revert-keeps s (lent-good b s d)))
+
+pub hold-step-bounded : (n : ℕ) (b : Bytes) (out stepOut : ℕ) → Bounded (holdStep n b out stepOut)
+hold-step-bounded n b out stepOut = on-hold-step Bounded n b out stepOut (refused commitStepRefusals) λ s d.
+    let g = lent-good b s d in
+    record { image = encode-length restoredNaming _ (hold-keeps-failed s g n); step = field-at-length n (holdPlan s) (hold-fits s g) }
+
+pub keep-step-bounded : (n : ℕ) (b : Bytes) (out stepOut : ℕ) → Bounded (keepStep n b out stepOut)
+keep-step-bounded n b out stepOut = on-keep-step Bounded n b out stepOut (refused keepStepRefusals) λ s d.
+    let g = lent-good b s d in
+    record { image = encode-length validNaming _ (keep-keeps s g n); step = field-at-length n (keepPlan (withoutMark s)) (keep-fits s g) }
+
+pub revert-step-bounded : (n : ℕ) (b : Bytes) (out stepOut : ℕ) → Bounded (revertStep n b out stepOut)
+revert-step-bounded n b out stepOut = on-revert-step Bounded n b out stepOut (refused revertStepRefusals) λ s d.
+    let g = lent-good b s d in
+    record { image = encode-length restoredNaming _ (revert-keeps s g n); step = field-at-length n (revertPlan (withoutMark s)) (revert-fits s g) }
 
 -- The key list: at most 128 fields of at most 67 bytes.
 files-count : (d : Name) (t : Map) → length (files d t) ≤ fileCount t

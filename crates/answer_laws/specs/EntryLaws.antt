@@ -14,13 +14,13 @@ use Rattle.basics.specs.Map.{Map}
 use Rattle.basics.specs.Base.{Bytes, caseOption, if_then_else_, anyOf, In}
 use Rattle.basics.specs.Name.{validName}
 use Rattle.basics.specs.Field.{encodeFields}
-use Rattle.model.specs.Log.{Journal, absent, recording, committing, journal, whole, truncated, undecodable, tooMany}
+use Rattle.model.specs.Log.{Journal, absent, recording, committing, journal, whole, truncated, undecodable, tooMany, held, isHeld}
 use Rattle.model.specs.Store.{Store, hasBackupFiles, firstBackup}
 use Rattle.model.specs.Image.{hitFields, encode, decode}
 use Rattle.model.specs.Step.{Step, Fault, fails, full, commitNumber, fieldAt}
-use Rattle.model.specs.Plan.{commitFault, commitPlan, committedAt, isNewArtifact, recoverFault, recoverPlan, recoveredAt, recovered, withoutMark}
+use Rattle.model.specs.Plan.{commitFault, commitPlan, committedAt, isNewArtifact, recoverFault, recoverPlan, recoveredAt, recovered, withoutMark, commitEnd, holdEnd, planEnding, endingAt, holdPlan, heldAt, unheld, revertPlan, revertedAt, reverted, keepPlan, keptAt, kept}
 use Rattle.model.specs.Record.{Outcome, refuse, give, transaction, keyList}
-use Rattle.answers.specs.Answers.{Answer, refusal, answer, outcome, onImage, imageEntry, commitStore, commit, recoverStore, recover, stepAnswer, commitStep, recoverStep, listKeys, findBackup}
+use Rattle.answers.specs.Answers.{Answer, refusal, answer, outcome, onImage, imageEntry, commit, recoverStore, recover, stepAnswer, commitStep, recoverStep, listKeys, findBackup, endingStore, hold, ifHeld, keepStore, keep, revertStore, revert, endingStep, holdStep, keepStep, revertStep, stepEntry}
 use Rattle.answers.specs.Inventory.{inventoryText, inRoom, inventory}
 use Rattle.basic_laws.specs.MapLaws.{none≢some, some-inj}
 use Rattle.basic_laws.specs.Tests.{All, all-in}
@@ -58,7 +58,7 @@ listKeysRefusals = 1 ∷ 2 ∷ 6 ∷ []
 abbrev pub findBackupRefusals : List ℕ
 findBackupRefusals = 1 ∷ 2 ∷ []
 
-recover-numbers : (l : List ℕ) (j : Journal) (t : Map) (n : ℕ) → recoverFault j t ≡ some n → In n (11 ∷ 12 ∷ 13 ∷ l)
+pub recover-numbers : (l : List ℕ) (j : Journal) (t : Map) (n : ℕ) → recoverFault j t ≡ some n → In n (11 ∷ 12 ∷ 13 ∷ l)
 recover-numbers l absent t n e = none≢some e
 recover-numbers l (recording o x) t n e = none≢some e
 recover-numbers l (committing o whole) t n e = none≢some e
@@ -69,6 +69,19 @@ recover-numbers l (committing o (truncated c)) t n e = go (hasBackupFiles t || a
     go false e = none≢some e
 recover-numbers l (committing o undecodable) t n e = inl (sym (some-inj e))
 recover-numbers l (committing o tooMany) t n e = inr (inl (sym (some-inj e)))
+recover-numbers l (held o x) t n e = none≢some e
+
+abbrev pub keepRefusals : List ℕ
+keepRefusals = 1 ∷ 2 ∷ 18 ∷ []
+
+abbrev pub revertRefusals : List ℕ
+revertRefusals = 1 ∷ 2 ∷ 18 ∷ 11 ∷ 12 ∷ 13 ∷ []
+
+abbrev pub keepStepRefusals : List ℕ
+keepStepRefusals = 1 ∷ 2 ∷ 18 ∷ 16 ∷ []
+
+abbrev pub revertStepRefusals : List ℕ
+revertStepRefusals = 1 ∷ 2 ∷ 18 ∷ 11 ∷ 12 ∷ 13 ∷ 16 ∷ []
 
 -- What a step entry hands back where the step number is within the plan.
 abbrev pub atStep : ℕ → List Step → Store → Answer
@@ -104,11 +117,34 @@ module _ (P : Answer → Type 0) where
       go s d (refuse n) e g = p n g
       go s d (give u) e g = h s u d e g
 
+  -- A commit with either end.
+  on-ending : (ends : List (Store → List Step)) (b : Bytes) (out : ℕ) → Refusals commitRefusals →
+      ((s : Store) → decode b ≡ some s → P (answer (commitNumber (commitFault s)) (endingAt ends (length (planEnding ends s)) s))) → P (onImage b (leb imageRoom out) (endingStore ends))
+  unfolding endingStore
+  on-ending ends b out r h = on-image b (leb imageRoom out) (endingStore ends) (r .0, (r .1 .0, tt)) λ s d.
+      on-option (transaction s) (refusal 4) (λ ops. answer (commitNumber (commitFault s)) (endingAt ends (length (planEnding ends s)) s)) (λ e. r .1 .1 .0) (λ ops e. h s d)
+
   pub on-commit : (b : Bytes) (out : ℕ) → Refusals commitRefusals →
       ((s : Store) → decode b ≡ some s → P (answer (commitNumber (commitFault s)) (committedAt (length (commitPlan s)) s))) → P (commit b out)
-  unfolding commit commitStore
-  on-commit b out r h = on-image b (leb imageRoom out) commitStore (r .0, (r .1 .0, tt)) λ s d.
-      on-option (transaction s) (refusal 4) (λ ops. answer (commitNumber (commitFault s)) (committedAt (length (commitPlan s)) s)) (λ e. r .1 .1 .0) (λ ops e. h s d)
+  unfolding commit
+  on-commit b out r h = on-ending commitEnd b out r h
+
+  pub on-hold : (b : Bytes) (out : ℕ) → Refusals commitRefusals →
+      ((s : Store) → decode b ≡ some s → P (answer (commitNumber (commitFault s)) (heldAt (length (holdPlan s)) s))) → P (hold b out)
+  unfolding hold
+  on-hold b out r h = on-ending holdEnd b out r h
+
+  pub on-keep : (b : Bytes) (out : ℕ) → Refusals keepRefusals → ((s : Store) → decode b ≡ some s → P (answer 0 (kept s))) → P (keep b out)
+  unfolding keep keepStore
+  on-keep b out r h = on-image b (leb imageRoom out) keepStore (r .0, (r .1 .0, tt)) λ s d. on-test (isHeld (journal (s .log))) (answer 0 (kept s)) (refusal 18) (h s d) (r .1 .1 .0)
+
+  pub on-revert : (b : Bytes) (out : ℕ) → Refusals revertRefusals → ((s : Store) → decode b ≡ some s → P (answer 0 (reverted s))) → P (revert b out)
+  unfolding revert revertStore
+  on-revert b out r h =
+      on-image b (leb imageRoom out) revertStore (r .0, (r .1 .0, tt)) λ s d.
+      on-test (isHeld (journal (s .log))) _ (refusal 18)
+      (on-option (recoverFault (unheld (journal (s .log))) (s .tree)) (answer 0 (reverted s)) refusal (λ e. h s d) (λ n e. all-in (λ n. P (refusal n)) (11 ∷ 12 ∷ 13 ∷ []) (r .1 .1 .1) n (recover-numbers [] (unheld (journal (s .log))) (s .tree) n e)))
+      (r .1 .1 .0)
 
   pub on-recover : (b : Bytes) (out : ℕ) → Refusals recoverRefusals → ((s : Store) → decode b ≡ some s → P (answer 0 (recovered s))) → P (recover b out)
   unfolding recover recoverStore
@@ -116,11 +152,34 @@ module _ (P : Answer → Type 0) where
       on-option (recoverFault (journal (s .log)) (s .tree)) (answer 0 (recovered s)) refusal (λ e. h s d) (λ n e. all-in (λ n. P (refusal n)) (11 ∷ 12 ∷ 13 ∷ []) (r .1 .1) n (recover-numbers [] (journal (s .log)) (s .tree) n e))
 
   -- The step entries.
+  on-ending-step : (ends : List (Store → List Step)) (n : ℕ) (b : Bytes) (out stepOut : ℕ) → Refusals commitStepRefusals → ((s : Store) → decode b ≡ some s → P (atStep n (planEnding ends s) (endingAt ends n s))) → P (stepEntry (endingStep ends n) b out stepOut)
+  on-ending-step ends n b out stepOut r h = on-image b (leb imageRoom out && leb stepRoom stepOut) (endingStep ends n) (r .0, (r .1 .0, tt)) λ s d.
+      on-option (transaction s) (refusal 4) (λ ops. stepAnswer n (planEnding ends s) (endingAt ends n s)) (λ e. r .1 .1 .0) λ ops e.
+      on-test (leb n (length (planEnding ends s))) (atStep n (planEnding ends s) (endingAt ends n s)) (refusal 16) (h s d) (r .1 .1 .1 .0)
+
   pub on-commit-step : (n : ℕ) (b : Bytes) (out stepOut : ℕ) → Refusals commitStepRefusals → ((s : Store) → decode b ≡ some s → P (atStep n (commitPlan s) (committedAt n s))) → P (commitStep n b out stepOut)
   unfolding commitStep
-  on-commit-step n b out stepOut r h = on-image b (leb imageRoom out && leb stepRoom stepOut) (λ s. caseOption (transaction s) (refusal 4) (λ ops. stepAnswer n (commitPlan s) (committedAt n s))) (r .0, (r .1 .0, tt)) λ s d.
-      on-option (transaction s) (refusal 4) (λ ops. stepAnswer n (commitPlan s) (committedAt n s)) (λ e. r .1 .1 .0) λ ops e.
-      on-test (leb n (length (commitPlan s))) (atStep n (commitPlan s) (committedAt n s)) (refusal 16) (h s d) (r .1 .1 .1 .0)
+  on-commit-step n b out stepOut r h = on-ending-step commitEnd n b out stepOut r h
+
+  pub on-hold-step : (n : ℕ) (b : Bytes) (out stepOut : ℕ) → Refusals commitStepRefusals → ((s : Store) → decode b ≡ some s → P (atStep n (holdPlan s) (heldAt n s))) → P (holdStep n b out stepOut)
+  unfolding holdStep
+  on-hold-step n b out stepOut r h = on-ending-step holdEnd n b out stepOut r h
+
+  pub on-keep-step : (n : ℕ) (b : Bytes) (out stepOut : ℕ) → Refusals keepStepRefusals → ((s : Store) → decode b ≡ some s → P (atStep n (keepPlan (withoutMark s)) (keptAt n s))) → P (keepStep n b out stepOut)
+  unfolding keepStep
+  on-keep-step n b out stepOut r h = on-image b (leb imageRoom out && leb stepRoom stepOut) (λ s. ifHeld s (stepAnswer n (keepPlan (withoutMark s)) (keptAt n s))) (r .0, (r .1 .0, tt)) λ s d.
+      on-test (isHeld (journal (s .log))) (stepAnswer n (keepPlan (withoutMark s)) (keptAt n s)) (refusal 18)
+      (on-test (leb n (length (keepPlan (withoutMark s)))) (atStep n (keepPlan (withoutMark s)) (keptAt n s)) (refusal 16) (h s d) (r .1 .1 .1 .0)) (r .1 .1 .0)
+
+  pub on-revert-step : (n : ℕ) (b : Bytes) (out stepOut : ℕ) → Refusals revertStepRefusals → ((s : Store) → decode b ≡ some s → P (atStep n (revertPlan (withoutMark s)) (revertedAt n s))) → P (revertStep n b out stepOut)
+  unfolding revertStep
+  on-revert-step n b out stepOut r h =
+      on-image b (leb imageRoom out && leb stepRoom stepOut) (λ s. ifHeld s (caseOption (recoverFault (unheld (journal (s .log))) (s .tree)) (stepAnswer n (revertPlan (withoutMark s)) (revertedAt n s)) refusal)) (r .0, (r .1 .0, tt)) λ s d.
+      on-test (isHeld (journal (s .log))) _ (refusal 18)
+      (on-option (recoverFault (unheld (journal (s .log))) (s .tree)) (stepAnswer n (revertPlan (withoutMark s)) (revertedAt n s)) refusal
+      (λ e. on-test (leb n (length (revertPlan (withoutMark s)))) (atStep n (revertPlan (withoutMark s)) (revertedAt n s)) (refusal 16) (h s d) (r .1 .1 .1 .1 .1 .1 .0))
+      (λ m e. all-in (λ m. P (refusal m)) (11 ∷ 12 ∷ 13 ∷ 16 ∷ []) (r .1 .1 .1) m (recover-numbers (16 ∷ []) (unheld (journal (s .log))) (s .tree) m e)))
+      (r .1 .1 .0)
 
   pub on-recover-step : (n : ℕ) (b : Bytes) (out stepOut : ℕ) → Refusals recoverStepRefusals → ((s : Store) → decode b ≡ some s → P (atStep n (recoverPlan (withoutMark s)) (recoveredAt n s))) → P (recoverStep n b out stepOut)
   unfolding recoverStep

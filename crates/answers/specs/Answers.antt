@@ -10,11 +10,11 @@ use Rattle.basics.specs.Map.{Node}
 use Rattle.basics.specs.Base.{Bytes, caseOption, if_then_else_, ifEmpty, flatMap}
 use Rattle.basics.specs.Name.{validName}
 use Rattle.basics.specs.Field.{encodeFields}
-use Rattle.model.specs.Log.{Ending, whole, truncated, undecodable, tooMany, endingCause, validHeader, entries, journal}
+use Rattle.model.specs.Log.{Ending, whole, truncated, undecodable, tooMany, endingCause, validHeader, entries, journal, isHeld}
 use Rattle.model.specs.Store.{Store, firstBackup, hasPendingWork}
 use Rattle.model.specs.Image.{hitFields, encode, decode}
 use Rattle.model.specs.Step.{Step, fieldAt, commitNumber}
-use Rattle.model.specs.Plan.{commitFault, commitPlan, committedAt, recoverFault, discardedCause, recoverPlan, recoveredAt, recovered, withoutMark}
+use Rattle.model.specs.Plan.{commitFault, commitEnd, holdEnd, planEnding, endingAt, unheld, recoverFault, discardedCause, recoverPlan, recoveredAt, recovered, revertPlan, revertedAt, reverted, keepPlan, keptAt, kept, withoutMark}
 use Rattle.model.specs.Record.{Outcome, refuse, give, transaction, beginTransaction, discard, recordWrite, recordDelete, recordDeleteAll, recordCreate, recordDeleteCollection, recordCopy, keyList}
 
 -- The number (0 is done), the bytes written to the output, and those written to the step output.
@@ -47,7 +47,7 @@ onImage b room next = caseOption (decode b) (refusal 1) λ s. if room then next 
 abbrev pub imageEntry : (Store → Outcome) → Bytes → ℕ → Answer
 imageEntry f b out = onImage b (leb imageRoom out) (λ s. outcome (f s))
 
--- `cda_storage_begin`: 1, 2, 3.
+-- `cda_storage_begin`: 1, 2, 3, 17.
 unfoldable pub begin : Bytes → ℕ → Answer
 begin = imageEntry beginTransaction
 
@@ -79,12 +79,23 @@ copyCollection a b = imageEntry (recordCopy a b)
 unfoldable pub rollback : Bytes → ℕ → Answer
 rollback = imageEntry discard
 
-unfoldable pub commitStore : Store → Answer
-commitStore s = caseOption (transaction s) (refusal 4) λ ops. answer (commitNumber (commitFault s)) (committedAt (length (commitPlan s)) s)
+-- A commit with this end: the ordinary one, and the held one (02, item 6).
+unfoldable pub endingStore : List (Store → List Step) → Store → Answer
+endingStore ends s = caseOption (transaction s) (refusal 4) λ ops. answer (commitNumber (commitFault s)) (endingAt ends (length (planEnding ends s)) s)
+
+abbrev pub commitStore : Store → Answer
+commitStore = endingStore commitEnd
+
+abbrev pub holdStore : Store → Answer
+holdStore = endingStore holdEnd
 
 -- `cda_storage_commit`: 1, 2, 4, and 14 or 15 with the rolled-back image.
 unfoldable pub commit : Bytes → ℕ → Answer
 commit b out = onImage b (leb imageRoom out) commitStore
+
+-- `cda_storage_hold`: 1, 2, 4, and 14 or 15 with the rolled-back image.
+unfoldable pub hold : Bytes → ℕ → Answer
+hold b out = onImage b (leb imageRoom out) holdStore
 
 unfoldable pub recoverStore : Store → Answer
 recoverStore s = caseOption (recoverFault (journal (s .log)) (s .tree)) (answer 0 (recovered s)) refusal
@@ -92,6 +103,24 @@ recoverStore s = caseOption (recoverFault (journal (s .log)) (s .tree)) (answer 
 -- `cda_storage_recover`: 1, 2, 11, 12, 13.
 unfoldable pub recover : Bytes → ℕ → Answer
 recover b out = onImage b (leb imageRoom out) recoverStore
+
+-- 02, item 6: "18, keep or revert without a Held log"; then what follows.
+abbrev pub ifHeld : Store → Answer → Answer
+ifHeld s next = if isHeld (journal (s .log)) then next else refusal 18
+
+unfoldable pub keepStore : Store → Answer
+keepStore s = ifHeld s (answer 0 (kept s))
+
+-- `cda_storage_keep`: 1, 2, 18.
+unfoldable pub keep : Bytes → ℕ → Answer
+keep b out = onImage b (leb imageRoom out) keepStore
+
+unfoldable pub revertStore : Store → Answer
+revertStore s = ifHeld s (caseOption (recoverFault (unheld (journal (s .log))) (s .tree)) (answer 0 (reverted s)) refusal)
+
+-- `cda_storage_revert`: 1, 2, 18, 11, 12, 13.
+unfoldable pub revert : Bytes → ℕ → Answer
+revert b out = onImage b (leb imageRoom out) revertStore
 
 -- A number, and how the log broke. 02, item 1: "1 entry header too short, 2 payload missing (length 0 or past the end), 3 checksum wrong"; 0 for neither.
 pub record Broke : Type 0 where
@@ -101,6 +130,10 @@ pub record Broke : Type 0 where
 -- `cda_storage_recover`: "Recovery also hands that number back when it discards a truncated Committing log, and 0 whenever else it is done".
 unfoldable pub recoverCause : Bytes → ℕ → Broke
 recoverCause b out = record { number = recover b out .number; cause = caseOption (decode b) 0 λ s. discardedCause (journal (s .log)) }
+
+-- `cda_storage_revert`: "Revert does what recovery does for a Committing log" (02, item 6).
+unfoldable pub revertCause : Bytes → ℕ → Broke
+revertCause b out = record { number = revert b out .number; cause = caseOption (decode b) 0 λ s. discardedCause (unheld (journal (s .log))) }
 
 -- The number where a log alone is read: what "doesn't decode" is 11 and "one byte more" 12 (01, Corners, wal.rs), whatever its status; a truncated log is read.
 abbrev pub readingNumber : Ending → ℕ
@@ -120,19 +153,37 @@ logCause l =
 abbrev pub stepAnswer : ℕ → List Step → Store → Answer
 stepAnswer n plan s = if leb n (length plan) then record { number = 0; image = encode s; step = fieldAt n plan } else refusal 16
 
--- `cda_storage_commit_step`: 1, 2, 4, 16; 01, Sixteen numbers: "step entries never give" 14 and 15.
+-- An entry that hands back the image after some steps, and a field.
+abbrev pub stepEntry : (Store → Answer) → Bytes → ℕ → ℕ → Answer
+stepEntry f b out stepOut = onImage b (leb imageRoom out && leb stepRoom stepOut) f
+
+-- `cda_storage_commit_step` and `cda_storage_hold_step`: 1, 2, 4, 16; 01, Sixteen numbers: "step entries never give" 14 and 15.
+abbrev pub endingStep : List (Store → List Step) → ℕ → Store → Answer
+endingStep ends n s = caseOption (transaction s) (refusal 4) λ ops. stepAnswer n (planEnding ends s) (endingAt ends n s)
+
 unfoldable pub commitStep : ℕ → Bytes → ℕ → ℕ → Answer
-commitStep n b out stepOut =
-    onImage b (leb imageRoom out && leb stepRoom stepOut) λ s.
-    caseOption (transaction s) (refusal 4) λ ops. stepAnswer n (commitPlan s) (committedAt n s)
+commitStep n b out stepOut = stepEntry (endingStep commitEnd n) b out stepOut
+
+unfoldable pub holdStep : ℕ → Bytes → ℕ → ℕ → Answer
+holdStep n b out stepOut = stepEntry (endingStep holdEnd n) b out stepOut
 
 -- `cda_storage_recover_step`: 1, 2, 11, 12, 13, 16.
 unfoldable pub recoverStep : ℕ → Bytes → ℕ → ℕ → Answer
 recoverStep n b out stepOut =
-    onImage b (leb imageRoom out && leb stepRoom stepOut) λ s.
-    caseOption (recoverFault (journal (s .log)) (s .tree)) (stepAnswer n (recoverPlan (withoutMark s)) (recoveredAt n s)) refusal
+    stepEntry (λ s. caseOption (recoverFault (journal (s .log)) (s .tree)) (stepAnswer n (recoverPlan (withoutMark s)) (recoveredAt n s)) refusal) b out stepOut
 
--- `cda_storage_has_pending_work`: 1; else yes or no.
+-- `cda_storage_keep_step`: 1, 2, 18, 16. At n = 0 it says whether a Held log stands.
+unfoldable pub keepStep : ℕ → Bytes → ℕ → ℕ → Answer
+keepStep n b out stepOut = stepEntry (λ s. ifHeld s (stepAnswer n (keepPlan (withoutMark s)) (keptAt n s))) b out stepOut
+
+-- `cda_storage_revert_step`: 1, 2, 18, 11, 12, 13, 16.
+unfoldable pub revertStep : ℕ → Bytes → ℕ → ℕ → Answer
+revertStep n b out stepOut =
+    stepEntry
+    (λ s. ifHeld s (caseOption (recoverFault (unheld (journal (s .log))) (s .tree)) (stepAnswer n (revertPlan (withoutMark s)) (revertedAt n s)) refusal))
+    b out stepOut
+
+-- `cda_storage_has_pending_work`: 1; else yes or no. 02, item 6: at Held "the pending question says yes": a log stands.
 pub record Pending : Type 0 where
   pub number : ℕ
   pub yes? : Bool

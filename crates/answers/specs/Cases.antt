@@ -13,16 +13,17 @@ use Rattle.basics.specs.Name.{lastDot, extension, stripExtension, backupExtensi
 use Rattle.basics.specs.Crc32.{crc32, register, feedByte, shifts, shift, addPolynomial, polynomial}
 use Rattle.basics.specs.Field.{littleEndian, fromLittleEndian, encodeField, encodeFields, fieldsFrom, decodeFields, hasTag}
 use Rattle.basics.specs.Worked.{text, digit, pairs, hex, bit, times, Row, row, equal, agree}
-use Rattle.model.specs.Operation.{fieldTable, fieldTags, kind, values, tagged, encodePayload, makers, validValue, opOfFields, decodePayload}
-use Rattle.model.specs.Log.{header, entry, validHeader, firstPayload, firstCause, walk, entries, readJournal, markCommitting, appendOperation}
+use Rattle.model.specs.Operation.{fieldTable, fieldTags, kind, values, tagged, encodePayload, makers, validValue, opOfFields, decodePayload, Op}
+use Rattle.model.specs.Log.{header, entry, validHeader, firstPayload, firstCause, walk, entries, readJournal, markCommitting, appendOperation, markHeld, writeLog}
+use Rattle.model.specs.Operation as operation
 use Rattle.model.specs.Store.{dirs, files, validNode, validNodes, validStaged, ascending, wellFormed, hasBackupFiles, firstBackup, hasPendingWork}
 use Rattle.model.specs.Image.{hitFields, imageFields, encode, treeOf, stagingOf, logOf, storeOf, decode}
 use Rattle.model.specs.Step.{removeDir, renameDir, apply, zeroSeparated, tagAndNames, stepField, stepFault}
-use Rattle.model.specs.Plan.{opSteps, undoSteps, restoreFile, restoreDirectory, removeBackupFile, removeBackupsIn, firstNamings, syncExisting, commitFault, commitPlan, committedAt, isNewArtifact, recoverPlan, recoveredAt, recovered}
+use Rattle.model.specs.Plan.{opSteps, undoSteps, restoreFile, restoreDirectory, removeBackupFile, removeBackupsIn, firstNamings, syncExisting, commitFault, planEnding, endingAt, isNewArtifact, recoverPlan, recoveredAt, recovered, revertPlan, revertedAt, reverted, keepPlan, keptAt, kept}
 use Rattle.model.specs.Record.{transaction, beginTransaction, discard, recordWrite, keyList}
-use Rattle.answers.specs.Answers.{Answer, Pending, begin, rollback, write, commitStore, commit, recoverStore, recover, commitStep, recoverStep}
-use Rattle.answers.specs.Answers.{Broke, recoverCause, logCause, pending, listKeys, findBackup, decimal, listingLine, listing}
+use Rattle.answers.specs.Answers.{Answer, Pending, begin, rollback, write, commit, recoverStore, recover, Broke, recoverCause, logCause, commitStep, recoverStep, pending, listKeys, findBackup, decimal, listingLine, listing, endingStore, hold, keepStore, keep, revertStore, revert, holdStep, keepStep, revertStep, canonicalLog, revertCause}
 use Rattle.answers.specs.Inventory.{contents, collections, escaped, quoted, object, fileMember, collectionMember, inventoryText, inventory}
+use mathlib.Core.Option.{some}
 
 -- An answer as its number, its image and its step field; the pending question's as its number and 1 for yes; a number and how the log broke.
 flat : Answer → Bytes
@@ -42,6 +43,14 @@ db x = hex "10 02 00 64 62 11 05 00" ++ x ∷ hex "00 00 00 61"
 tenSteps : Bytes
 unfolding db
 tenSteps = write (text "db") (text "a") (text "s.tmp") 9 (begin (db 7) imageRoom .image) imageRoom .image
+
+heldTen : Bytes
+unfolding tenSteps
+heldTen = hold tenSteps imageRoom .image
+
+-- Two operations, of kinds 3 and 7.
+twoOps : List Op
+twoOps = operation.deleteAll (text "db") ∷ operation.write (record { collection = text "db"; key = text "a"; staged = text "s"; mark = some false }) ∷ []
 
 stepOn : Bytes → ℕ → Answer
 stepOn b n = commitStep n b imageRoom stepRoom
@@ -65,7 +74,7 @@ unfolding db
 logged l = db 7 ++ encodeField (record { tag = 0x13; value = l })
 
 table : List Row
-unfolding db flat asked broke tenSteps stepOn listAt created wrong logged
+unfolding db flat asked broke tenSteps stepOn listAt created wrong logged heldTen twoOps
 table =
     row "begin, a Write, commit: a=9"
     (flat (commit tenSteps imageRoom))
@@ -103,6 +112,27 @@ table =
     ∷ row "work is pending while a log stands, not in db/a=7; an image that is refused: 1"
     (asked (pending tenSteps) ++ asked (pending (db 7)) ++ asked (pending (hex "10")))
     (hex "00 01 00 00 01 00")
+    ∷ row "02: the held ten-step case: nine steps and no tenth, its last two rewrite header and sync log"
+    (holdStep 9 tenSteps imageRoom stepRoom .number ∷ holdStep 10 tenSteps imageRoom stepRoom .number ∷ holdStep 8 tenSteps imageRoom stepRoom .step ++ holdStep 9 tenSteps imageRoom stepRoom .step)
+    (hex "00 10 20 00 00 22 00 00")
+    ∷ row "02: hold, then revert: db/a=7; hold, then keep: the commit's image, as after three steps of keep"
+    (flat (revert heldTen imageRoom) ++ flat (keep heldTen imageRoom) ++ 0 ∷ keepStep 3 heldTen imageRoom stepRoom .image)
+    (0 ∷ db 7 ++ flat (commit tenSteps imageRoom) ++ flat (commit tenSteps imageRoom))
+    ∷ row "02: at a Held log begin is 17, recording, commit and rollback are 4, recovery changes nothing, and work is pending"
+    (flat (begin heldTen imageRoom) ++ flat (write (text "db") (text "b") (text "t") 1 heldTen imageRoom) ++ flat (commit heldTen imageRoom)
+    ++ flat (hold heldTen imageRoom) ++ flat (rollback heldTen imageRoom) ++ flat (recover heldTen imageRoom) ++ asked (pending heldTen))
+    (hex "11 04 04 04 04 00" ++ heldTen ++ hex "00 01")
+    ∷ row "02: keep and revert without a Held log: 18; so their step entries, before 16"
+    (flat (keep tenSteps imageRoom) ++ flat (revert (db 7) imageRoom) ++ flat (keepStep 99 (db 7) imageRoom stepRoom) ++ flat (revertStep 99 tenSteps imageRoom stepRoom))
+    (hex "12 12 12 12")
+    ∷ row "02: a log whose bytes 2 and 3 hold anything is written with zeros there: the log of this status and these operations, Held here"
+    (flat (canonicalLog (hex "CA 02 41 42 17 4C C2 9E" ++ drop 8 (writeLog 0 twoOps)) 99))
+    (0 ∷ writeLog 2 twoOps)
+    ∷ row "02: written again it is the same" (flat (canonicalLog (writeLog 1 twoOps) 99)) (0 ∷ writeLog 1 twoOps)
+    ∷ row "02: one byte less of output: 2; no valid header: 21, after 2; an entry header too short: 21; a payload that doesn't decode: 11"
+    (flat (canonicalLog (writeLog 0 []) 7) ++ flat (canonicalLog (hex "CA 03 00 00 00 00 00 00") 8) ++ flat (canonicalLog (hex "CA") 0)
+    ++ flat (canonicalLog (writeLog 2 twoOps ++ hex "00") 99) ++ flat (canonicalLog (header 0 ++ entry (text "x")) 99))
+    (hex "02 15 02 15 0B")
     ∷ row "02: the backup that stands after 4 steps, db/a.bak=7"
     (flat (findBackup (stepOn tenSteps 4 .image) hitRoom))
     (hex "00 10 02 00 64 62 11 09 00 07 00 00 00 61 2E 62 61 6B")
@@ -112,12 +142,16 @@ table =
     ∷ row "02: a log with one operation, whole; a byte behind it: 1; length 0 and a payload past the end: 2; a wrong checksum: 3"
     (flatMap (λ l. broke (logCause (header 1 ++ l))) (created ∷ (created ++ hex "00") ∷ (created ++ entry []) ∷ take 16 created ∷ (created ++ wrong) ∷ []))
     (hex "00 00 00 01 00 02 00 02 00 03")
-    ∷ row "02: a log of 7 bytes and one of status 0x02: 21; a payload that doesn't decode: 11; 32 operations and a byte: 12; 6,953 bytes: 1"
-    (flatMap (λ l. broke (logCause l)) (take 7 (header 0) ∷ header 2 ∷ (header 0 ++ entry (text "x")) ∷ (header 0 ++ times 32 created ++ hex "00") ∷ times 6_953 (hex "00") ∷ []))
+    ∷ row "02: a log of 7 bytes and one of status 0x03: 21; a payload that doesn't decode: 11; 32 operations and a byte: 12; 6,953 bytes: 1"
+    (flatMap (λ l. broke (logCause l)) (take 7 (header 0) ∷ header 3 ∷ (header 0 ++ entry (text "x")) ∷ (header 0 ++ times 32 created ++ hex "00") ∷ times 6_953 (hex "00") ∷ []))
     (hex "15 00 15 00 0B 00 0C 00 01 00")
     ∷ row "02: recovery that discards a truncated Committing log: 1, 2 and 3; one whose log has no operation, and no log: 0"
     (flatMap (λ b. broke (recoverCause b imageRoom)) (logged (header 1 ++ hex "00") ∷ logged (header 1 ++ entry []) ∷ logged (header 1 ++ wrong) ∷ logged (header 1) ∷ db 7 ∷ []))
     (hex "00 01 00 02 00 03 00 00 00 00")
+    ∷ row "02: revert that discards a truncated Held log: 1, 2 and 3; recovery reads no Held one: 0; revert without one: 18"
+    (flatMap (λ l. broke (revertCause (logged (header 2 ++ l)) imageRoom)) (hex "00" ∷ entry [] ∷ wrong ∷ [])
+    ++ broke (recoverCause (logged (header 2 ++ wrong)) imageRoom) ++ take 1 (broke (revertCause (logged (header 1)) imageRoom)))
+    (hex "00 01 00 02 00 03 00 00 12")
     ∷ row "02: a Recording log is discarded unread: 0"
     (flatMap (λ l. broke (recoverCause (logged (header 0 ++ l)) imageRoom)) (hex "00" ∷ entry [] ∷ wrong ∷ []))
     (hex "00 00 00 00 00 00")
@@ -140,18 +174,18 @@ table =
 
 -- Every row computes to what is stated.
 worked : map (λ r. r .computed) table ≡ map (λ r. r .stated) table
-unfolding table flat asked broke db tenSteps stepOn listAt created wrong logged
+unfolding table flat asked broke db tenSteps stepOn listAt created wrong logged heldTen twoOps
     text digit pairs hex bit times row equal
     crc32 register feedByte shifts shift addPolynomial polynomial
     littleEndian fromLittleEndian encodeField encodeFields fieldsFrom decodeFields hasTag
     lastDot extension stripExtension backupExtension stagingExtension backupName originalName stripTmp isNameByte refusedNames validName lowerByte lower
     fieldTable fieldTags kind values tagged encodePayload makers validValue opOfFields decodePayload
-    header entry validHeader firstPayload firstCause walk entries readJournal markCommitting appendOperation
+    header entry validHeader firstPayload firstCause walk entries readJournal markCommitting appendOperation markHeld writeLog
     cmpKey look put del dirs files validNode validNodes validStaged ascending wellFormed hasBackupFiles firstBackup hasPendingWork
     imageFields encode treeOf stagingOf logOf storeOf decode
     removeDir renameDir apply zeroSeparated tagAndNames stepField stepFault
-    opSteps undoSteps restoreFile restoreDirectory removeBackupFile removeBackupsIn firstNamings syncExisting commitFault commitPlan committedAt isNewArtifact recoverPlan recoveredAt recovered
+    opSteps undoSteps restoreFile restoreDirectory removeBackupFile removeBackupsIn firstNamings syncExisting commitFault planEnding endingAt isNewArtifact recoverPlan recoveredAt recovered revertPlan revertedAt reverted keepPlan keptAt kept
     transaction beginTransaction discard recordWrite keyList
-    begin rollback write commitStore commit recoverStore recover recoverCause logCause commitStep recoverStep pending listKeys findBackup decimal listingLine listing
+    begin rollback write commit recoverStore recover recoverCause logCause commitStep recoverStep pending listKeys findBackup decimal listingLine listing endingStore hold keepStore keep revertStore revert holdStep keepStep revertStep canonicalLog revertCause
     contents collections escaped quoted object fileMember collectionMember inventoryText inventory
 worked = agree table refl

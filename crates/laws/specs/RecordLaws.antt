@@ -11,11 +11,11 @@ use lib.Dec.{leb, nltb→le}
 use Rattle.basics.specs.Order.{Name, Key}
 use Rattle.basics.specs.Map.{Map, look, put}
 use Rattle.basic_laws.specs.MapLaws.{key-dec, none≢some, some-inj, look-put-same, look-put-other, sorted-put}
-use Rattle.basics.specs.Base.{Bytes, caseOption, if_then_else_, isSome, sameBytes, In}
+use Rattle.basics.specs.Base.{Bytes, caseOption, isSome, sameBytes, In, if_then_else_}
 use Rattle.basics.specs.Name.{validName, lower, originalName, stripTmp}
 use Rattle.basics.specs.Field.{littleEndian}
 use Rattle.model.specs.Operation.{Op, write, delete, deleteAll, createCollection, deleteCollection, copyCollection}
-use Rattle.model.specs.Log.{recording, journal, whole, header, appendOperation}
+use Rattle.model.specs.Log.{isHeld, recording, journal, whole, header, appendOperation}
 use Rattle.model.specs.Store.{Store, files, validNumber}
 use Rattle.model.specs.Step.{renameFile, apply}
 use Rattle.model.specs.Record.{Outcome, refuse, give, transaction, beginTransaction, discard, recordInto, appended, require, hasDir, recordWrite, otherCase, caseRenamed, recordDelete, recordDeleteAll, recordCreate, recordDeleteCollection, recordCopy}
@@ -82,11 +82,12 @@ staging-put m f x g v n h = record {
 
 pub begin-keeps : (s : Store) → Good Valid s → Gives (beginTransaction s)
 unfolding beginTransaction header littleEndian
-begin-keeps s g = go (s .openMark)
+begin-keeps s g = go (s .openMark) (isHeld (journal (s .log)))
   where
-    go : (t : Bool) → Gives (if_then_else_ t (refuse 3) (give (record { tree = s .tree; staging = s .staging; log = some (header 0); openMark = true })))
-    go true = omega arith
-    go false = record { tree = g .tree; staging = g .staging; log = omega arith }
+    go : (t h : Bool) → Gives (if_then_else_ t (refuse 3) (if_then_else_ h (refuse 17) (give (record { tree = s .tree; staging = s .staging; log = some (header 0); openMark = true }))))
+    go true h = omega arith
+    go false true = omega arith
+    go false false = record { tree = g .tree; staging = g .staging; log = omega arith }
 
 pub rollback-keeps : (s : Store) → Good Valid s → Gives (discard s)
 unfolding discard

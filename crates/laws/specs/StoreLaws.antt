@@ -17,9 +17,9 @@ use Rattle.basic_laws.specs.MapLaws.{Sorted, key-dec, none≢some, some-inj, lo
 use Rattle.basics.specs.Base.{Bytes, caseOption, sameBytes}
 use Rattle.basics.specs.Name.{validName}
 use Rattle.basics.specs.Field.{littleEndian}
-use Rattle.model.specs.Log.{header, markCommitting}
+use Rattle.model.specs.Log.{header, markCommitting, markHeld}
 use Rattle.model.specs.Store.{Store, dirs, fileCount, validNumber, validStaged, wellFormed}
-use Rattle.model.specs.Step.{removeDir, renameDir, marked}
+use Rattle.model.specs.Step.{removeDir, renameDir, marked, markedHeld}
 use Rattle.basic_laws.specs.Tests.{and-made, leb-le, le-leb, All, all-of, of-all, all-imp}
 use Rattle.basic_laws.specs.ValidNames.{Valid}
 use Rattle.laws.specs.ImageLaws.{parts, of-parts, staged-parts}
@@ -253,6 +253,11 @@ bare-staged (n ∷ r) h = (staged-parts n (h .0) .0, bare-staged r (h .1))
 
 pub bare : (s : Store) → wellFormed s ≡ true → Bare (s .staging)
 bare s e = bare-staged (s .staging) (all-of validStaged (s .staging) (parts s e .staged))
+
+pub log-held : (l : Option Bytes) → LogFits l → LogFits (markedHeld l)
+unfolding markHeld header littleEndian
+log-held none h = tt
+log-held (some l) h = let p = length-drop 8 l in omega arith
 
 pub log-marked : (l : Option Bytes) → LogFits l → LogFits (marked l)
 unfolding markCommitting header littleEndian

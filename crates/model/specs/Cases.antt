@@ -16,11 +16,11 @@ use Rattle.basics.specs.Field.{littleEndian, fromLittleEndian, encodeField, enc
 use Rattle.basics.specs.Worked.{text, digit, pairs, hex, bit, times, Row, row, equal, agree}
 use Rattle.model.specs.Operation as operation
 use Rattle.model.specs.Operation.{Op, fieldTable, fieldTags, kind, values, tagged, encodePayload, makers, validValue, opOfFields, decodePayload}
-use Rattle.model.specs.Log.{header, entry, validHeader, firstPayload, walk, entries, readJournal, markCommitting, appendOperation, Journal, absent, recording, committing, journal, Ending, whole, truncated, undecodable, tooMany, Cause, causeNumber, firstCause}
+use Rattle.model.specs.Log.{header, entry, validHeader, firstPayload, walk, entries, readJournal, markCommitting, markHeld, appendOperation, Journal, absent, recording, committing, held, journal, Ending, whole, truncated, undecodable, tooMany, Cause, causeNumber, firstCause}
 use Rattle.model.specs.Store.{Store, dirs, files, validNode, validNodes, validStaged, ascending, wellFormed, hasBackupFiles, firstBackup}
 use Rattle.model.specs.Image.{hitFields, imageFields, encode, treeOf, stagingOf, logOf, storeOf, decode}
 use Rattle.model.specs.Step.{removeDir, renameDir, apply, zeroSeparated, tagAndNames, stepField, fieldAt, stepFault, commitNumber}
-use Rattle.model.specs.Plan.{opSteps, undoSteps, restoreFile, restoreDirectory, removeBackupFile, removeBackupsIn, firstNamings, syncExisting, commitFault, commitPlan, committedAt, isNewArtifact, recoverFault, recoverPlan, recoveredAt, recovered}
+use Rattle.model.specs.Plan.{opSteps, undoSteps, restoreFile, restoreDirectory, removeBackupFile, removeBackupsIn, firstNamings, syncExisting, commitFault, commitPlan, committedAt, holdPlan, heldAt, planEnding, endingAt, isNewArtifact, unheld, recoverFault, recoverPlan, recoveredAt, recovered, revertPlan, revertedAt, reverted, keepPlan, keptAt, kept}
 use Rattle.model.specs.Record.{Outcome, refuse, give, transaction, beginTransaction, discard, recordWrite, otherCase, caseRenamed, recordDelete, recordDeleteAll, recordCreate, recordDeleteCollection, recordCopy, keyList}
 
 -- A log by how it is read: "absent", or status, number of operations, and 0 whole, 1 to 3 how it is truncated, 11, 12.
@@ -35,6 +35,7 @@ unfolding ending
 readAs absent = text "absent"
 readAs (recording o e) = 0 ∷ length o ∷ ending e ∷ []
 readAs (committing o e) = 1 ∷ length o ∷ ending e ∷ []
+readAs (held o e) = 2 ∷ length o ∷ ending e ∷ []
 
 readLog : Bytes → Bytes
 unfolding readAs
@@ -140,6 +141,21 @@ cutAgain : Store → ℕ → ℕ → Bytes
 unfolding recovers
 cutAgain s n m = recovers (recoveredAt m (committedAt n s))
 
+-- The ten-step case held, of kind 7 and of kind 1; revert and keep of a Held store.
+heldTen : Store
+unfolding markedTen
+heldTen = heldAt (length (holdPlan markedTen)) markedTen
+
+heldOld : Store
+unfolding tenSteps
+heldOld = heldAt (length (holdPlan tenSteps)) tenSteps
+
+reverts : Store → Bytes
+reverts s = caseOption (recoverFault (unheld (journal (s .log))) (s .tree)) (0 ∷ encode (reverted s)) (λ n. n ∷ [])
+
+keeps : Store → Bytes
+keeps s = 0 ∷ encode (kept s)
+
 -- The field of step n of commit.
 stepAt : Store → ℕ → Bytes
 stepAt s n = fieldAt n (commitPlan s)
@@ -196,9 +212,9 @@ logs =
     ∷ row "a log of 0 to 7 bytes, here the first ones of a valid header: as if absent [P]"
     (flatMap (λ n. readLog (take n (header 0))) (0 ∷ 1 ∷ 2 ∷ 3 ∷ 4 ∷ 5 ∷ 6 ∷ 7 ∷ []))
     (times 8 (text "absent"))
-    ∷ row "status 0x02: as if absent"
-    (readLog (header 2))
-    (text "absent")
+    ∷ row "02: status 0x02: Held, and 0x03: as if absent"
+    (readLog (header 2) ++ readLog (header 3))
+    (hex "02 00 00" ++ text "absent")
     ∷ row "a valid header alone: no operations, not truncated [P]"
     (readLog (header 0))
     (hex "00 00 00")
@@ -345,6 +361,31 @@ recoveries =
     (done (dir "db" ∷ file "db" "..bak" 1 ∷ []))
     ∷ []
 
+holding : List Row
+unfolding db dir file plain withLog done outcome commits recovers reverts keeps markedTen tenSteps heldTen heldOld recorded toDb
+holding =
+    row "02: hold of the ten-step case: a=9 and a.bak=7 under a Held log, no staging file, no open mark"
+    (encode heldTen)
+    (encode (withLog (dir "db" ∷ file "db" "a" 9 ∷ file "db" "a.bak" 7 ∷ []) (logged 2 (toDb (some true) "a" "s.tmp" ∷ []))))
+    ∷ row "02: it has nine steps, the last two rewrite header and sync log"
+    (length (holdPlan markedTen) ∷ fieldAt 8 (holdPlan markedTen) ++ fieldAt 9 (holdPlan markedTen))
+    (hex "09 20 00 00 22 00 00")
+    ∷ row "02: revert: a=7, of kind 7 and of kind 1"
+    (reverts heldTen ++ reverts heldOld)
+    (times 2 (done (db 7)))
+    ∷ row "02: keep: the commit's image" (keeps heldTen) (commits markedTen)
+    ∷ row "02: recovery changes nothing" (recovers heldTen) (0 ∷ encode heldTen)
+    ∷ row "02: begin: 17" (outcome (beginTransaction heldTen)) (hex "11")
+    ∷ row "02: revert cut after its first step (a removed), then reverted: a=7" (reverts (revertedAt 1 heldTen)) (done (db 7))
+    ∷ row "02: keep cut after its first step (log gone), then recovered: a=9" (recovers (keptAt 1 heldTen)) (commits markedTen)
+    ∷ row "02: revert cut after its first step, then kept: a is gone; a revert that was begun must be finished"
+    (keeps (revertedAt 1 heldTen))
+    (done (dir "db" ∷ []))
+    ∷ row "02: revert of a truncated Held log beside a backup: 13, and of an undecodable payload: 11"
+    (reverts (withLog (dir "db" ∷ file "db" "a.bak" 1 ∷ []) (some (header 2 ++ hex "00"))) ++ reverts (withLog (db 7) (some (header 2 ++ entry (text "x")))))
+    (hex "0D 0B")
+    ∷ []
+
 searches : List Row
 unfolding dir file db met
 searches =
@@ -363,23 +404,23 @@ searches =
     ∷ []
 
 table : List Row
-unfolding names logs recordings recoveries searches
-table = names ++ logs ++ recordings ++ recoveries ++ searches
+unfolding names logs recordings recoveries holding searches
+table = names ++ logs ++ recordings ++ recoveries ++ holding ++ searches
 
 -- Every row computes to what is stated.
 worked : map (λ r. r .computed) table ≡ map (λ r. r .stated) table
-unfolding table names logs recordings recoveries searches
+unfolding table names logs recordings recoveries holding searches
     text digit pairs hex bit times row equal
-    ending readAs readLog dir file staged appendAll logged plain withLog recorded into toDb db begun outcome done commits recovers cutAt cutAgain stepAt met
-    tenSteps markedTen twoWrites failingWrite deletedCopied writtenDeleted truncatedWrite
+    ending readAs readLog dir file staged appendAll logged plain withLog recorded into toDb db begun outcome done commits recovers cutAt cutAgain reverts keeps stepAt met
+    tenSteps markedTen heldTen heldOld twoWrites failingWrite deletedCopied writtenDeleted truncatedWrite
     polynomial generator addFront divide remainder bitsOf ofBits messageBits complementFirst zeros dividend ieeeCrc32 xor crc32 register feedByte shifts shift addPolynomial
     littleEndian fromLittleEndian encodeField encodeFields fieldsFrom decodeFields hasTag
     lastDot extension stripExtension backupExtension stagingExtension backupName originalName stripTmp isNameByte refusedNames validName lowerByte lower
     fieldTable fieldTags kind values tagged encodePayload makers validValue opOfFields decodePayload
-    header entry validHeader firstPayload firstCause walk entries readJournal markCommitting appendOperation
+    header entry validHeader firstPayload firstCause walk entries readJournal markCommitting markHeld appendOperation
     cmpKey look put del dirs files validNode validNodes validStaged ascending wellFormed hasBackupFiles firstBackup
     imageFields encode treeOf stagingOf logOf storeOf decode
     removeDir renameDir apply zeroSeparated tagAndNames stepField stepFault
-    opSteps undoSteps restoreFile restoreDirectory removeBackupFile removeBackupsIn firstNamings syncExisting commitFault commitPlan committedAt isNewArtifact recoverPlan recoveredAt recovered
+    opSteps undoSteps restoreFile restoreDirectory removeBackupFile removeBackupsIn firstNamings syncExisting commitFault planEnding endingAt isNewArtifact recoverPlan recoveredAt recovered revertPlan revertedAt reverted keepPlan keptAt kept
     transaction beginTransaction discard recordWrite otherCase caseRenamed recordDelete recordDeleteAll recordCreate recordDeleteCollection recordCopy keyList
 worked = agree table refl

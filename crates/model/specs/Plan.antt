@@ -9,9 +9,9 @@ use Rattle.basics.specs.Map.{Map, look}
 use Rattle.basics.specs.Base.{caseOption, if_then_else_, ifEmpty, isSome, ifPresent, ifMissing, isIn, anyOf}
 use Rattle.basics.specs.Name.{backupName, originalName, stripTmp}
 use Rattle.model.specs.Operation.{Op, Write, write, delete, deleteAll, createCollection, deleteCollection, copyCollection, target, backup, stood}
-use Rattle.model.specs.Log.{Journal, absent, recording, committing, journal, opsOf, Ending, whole, truncated, undecodable, tooMany, endingCause}
+use Rattle.model.specs.Log.{Journal, absent, recording, committing, held, journal, opsOf, Ending, whole, truncated, undecodable, tooMany, endingCause}
 use Rattle.model.specs.Store.{Store, dirs, files, stagingNames, hasBackupFiles}
-use Rattle.model.specs.Step.{Step, rewriteHeader, syncStaging, syncLog, removeLog, syncJournal, syncCollections, makeDirectory, renameFile, moveStaged, renameDirectory, copyFile, removeFile, removeDirectory, removeStaging, syncDirectory, apply, applyAll, Fault, stepFault}
+use Rattle.model.specs.Step.{Step, rewriteHeader, holdHeader, syncStaging, syncLog, removeLog, syncJournal, syncCollections, makeDirectory, renameFile, moveStaged, renameDirectory, copyFile, removeFile, removeDirectory, removeStaging, syncDirectory, apply, applyAll, Fault, stepFault}
 
 -- The steps for each element in turn, each element's from the store that stands when its turn comes.
 abbrev pub inTurn : {A : Type 0} → (A → Store → List Step) → List A → Store → List Step
@@ -122,18 +122,24 @@ unfoldable pub commitFault : Store → Option Fault
 commitFault s = firstFault (operationSteps (opsOf (journal (s .log))) (apply rewriteHeader s)) (apply rewriteHeader s)
 
 -- 01, Listings and file steps: "Commit follows `apply_inner`: mark, syncs, operations, directory syncs in order of first naming, log removal,
--- journal sync, backups, staging." After a failing step "the rollback's steps follow, then log removal, journal sync and staging": the new
--- artifacts of all logged operations removed in reverse, the backups restored.
-abbrev pub commitParts : List Op → Option Fault → List (Store → List Step)
-commitParts ops none =
+-- journal sync, backups, staging." How a commit ends whose operations are all applied.
+abbrev pub commitEnd : List (Store → List Step)
+commitEnd = (λ s. syncCollections ∷ removeLog ∷ syncJournal ∷ []) ∷ removeBackups ∷ removeStagingFiles ∷ []
+
+-- 02, item 6: "A held commit runs as usual, but in place of removing the log and syncing the journal it rewrites the header with status 0x02, Held
+-- (..), syncs the log, and keeps log and backups; it then clears staging".
+abbrev pub holdEnd : List (Store → List Step)
+holdEnd = (λ s. syncCollections ∷ holdHeader ∷ syncLog ∷ []) ∷ removeStagingFiles ∷ []
+
+-- The parts of a commit with this end. After a failing step "the rollback's steps follow, then log removal, journal sync and staging": the new
+-- artifacts of all logged operations removed in reverse, the backups restored. 02, item 6: "A held commit that fails rolls back as before."
+abbrev pub commitParts : List (Store → List Step) → List Op → Option Fault → List (Store → List Step)
+commitParts ends ops none =
     (λ s. syncStaging ∷ syncLog ∷ [])
     ∷ operationSteps ops
     ∷ inTurn syncExisting (firstNamings [] (map collectionOf ops))
-    ∷ (λ s. syncCollections ∷ removeLog ∷ syncJournal ∷ [])
-    ∷ removeBackups
-    ∷ removeStagingFiles
-    ∷ []
-commitParts ops (some e) =
+    ∷ ends
+commitParts ends ops (some e) =
     (λ s. syncStaging ∷ syncLog ∷ [])
     ∷ (λ s. stepsBeforeFault (operationSteps ops s) s)
     ∷ inTurn undoSteps (reverse ops)
@@ -142,20 +148,33 @@ commitParts ops (some e) =
     ∷ removeStagingFiles
     ∷ []
 
-unfoldable pub commitPlan : Store → List Step
-commitPlan s = rewriteHeader ∷ inSequence (commitParts (opsOf (journal (s .log))) (commitFault s)) (apply rewriteHeader s)
+-- The plan of a commit with this end: of the ordinary one, and of the held one.
+unfoldable pub planEnding : List (Store → List Step) → Store → List Step
+planEnding ends s = rewriteHeader ∷ inSequence (commitParts ends (opsOf (journal (s .log))) (commitFault s)) (apply rewriteHeader s)
+
+abbrev pub commitPlan : Store → List Step
+commitPlan s = planEnding commitEnd s
+
+abbrev pub holdPlan : Store → List Step
+holdPlan s = planEnding holdEnd s
 
 abbrev pub withoutMark : Store → Store
 withoutMark s = record { tree = s .tree; staging = s .staging; log = s .log; openMark = false }
 
--- 01, Listings and file steps: "The open mark 0x14 goes with commit's last step": where no step is left.
+-- 01, Listings and file steps: "The open mark 0x14 goes with commit's last step": where no step is left. So with a held commit's (02, item 6).
 abbrev pub withoutMarkAtEnd : ℕ → Store → Store
 withoutMarkAtEnd zero s = withoutMark s
 withoutMarkAtEnd (suc n) s = s
 
--- The store after the first n steps of commit.
-unfoldable pub committedAt : ℕ → Store → Store
-committedAt n s = withoutMarkAtEnd (length (commitPlan s) - n) (applyAll (take n (commitPlan s)) s)
+-- The store after the first n steps of a commit with this end: of the ordinary one, and of the held one.
+unfoldable pub endingAt : List (Store → List Step) → ℕ → Store → Store
+endingAt ends n s = withoutMarkAtEnd (length (planEnding ends s) - n) (applyAll (take n (planEnding ends s)) s)
+
+abbrev pub committedAt : ℕ → Store → Store
+committedAt n s = endingAt commitEnd n s
+
+abbrev pub heldAt : ℕ → Store → Store
+heldAt n s = endingAt holdEnd n s
 
 -- `has_new_artifacts`. 01, Corners, recovery.rs: "A Write to an existing key counts as a new artifact, though nothing was done." A marked one does
 -- not, where its mark is 1 (02, item 4: "to remove or to count it").
@@ -176,6 +195,7 @@ recoverFault (committing o whole) t = none
 recoverFault (committing o (truncated c)) t = if hasBackupFiles t || anyOf (isNewArtifact t) o then some 13 else none
 recoverFault (committing o undecodable) t = some 11
 recoverFault (committing o tooMany) t = some 12
+recoverFault (held o e) t = none
 
 -- 02, item 1: "Recovery also hands that number back when it discards a truncated Committing log, and 0 whenever else it is done; a Recording log
 -- is still discarded unread."
@@ -183,6 +203,7 @@ abbrev pub discardedCause : Journal → ℕ
 discardedCause absent = 0
 discardedCause (recording o e) = 0
 discardedCause (committing o e) = endingCause e
+discardedCause (held o e) = 0
 
 -- A log that counts as absent goes where it stands.
 abbrev pub removeStandingLog : Store → List Step
@@ -196,19 +217,54 @@ undoParts ops (truncated c) = []
 undoParts ops undecodable = []
 undoParts ops tooMany = []
 
--- Recovery by what the log is (`recover`); the log and the staging files go in any case.
+-- Recovery by what the log is (`recover`); staging files go in any case, and the log in any but one. 02, item 6: "Recovery that meets Held drops the
+-- open mark and clears staging, no more".
 abbrev pub recoverParts : Journal → List (Store → List Step)
 recoverParts absent = removeBackups ∷ removeStandingLog ∷ removeStagingFiles ∷ []
 recoverParts (recording ops e) = (λ s. removeLog ∷ []) ∷ removeStagingFiles ∷ []
 recoverParts (committing ops e) = undoParts ops e ++ (λ s. removeLog ∷ []) ∷ removeStagingFiles ∷ []
+recoverParts (held ops e) = removeStagingFiles ∷ []
+
+-- 02, item 6: "Revert does what recovery does for a Committing log": what it takes a Held log for.
+abbrev pub unheld : Journal → Journal
+unheld absent = absent
+unheld (recording ops e) = recording ops e
+unheld (committing ops e) = committing ops e
+unheld (held ops e) = committing ops e
 
 unfoldable pub recoverPlan : Store → List Step
 recoverPlan s = inSequence (recoverParts (journal (s .log))) s
 
--- The store after the first n steps of recovery, and at its end. 01, Listings and file steps: "recovery drops [the open mark] before its first
--- step, so at n = 0 too".
+unfoldable pub revertPlan : Store → List Step
+revertPlan s = inSequence (recoverParts (unheld (journal (s .log)))) s
+
+-- 02, item 6: "Keep drops an open mark, removes the log and syncs the journal, then removes every backup as recovery without a log does; it reads no
+-- entry."
+unfoldable pub keepPlan : Store → List Step
+keepPlan s = inSequence ((λ u. removeLog ∷ syncJournal ∷ []) ∷ removeBackups ∷ []) s
+
+-- The store after the first n steps of such a plan, and at its end. 01, Listings and file steps: "recovery drops [the open mark] before its first
+-- step, so at n = 0 too"; keep and revert do as well.
+abbrev pub shutAt : (Store → List Step) → ℕ → Store → Store
+shutAt plan n s = applyAll (take n (plan (withoutMark s))) (withoutMark s)
+
+abbrev pub shut : (Store → List Step) → Store → Store
+shut plan s = applyAll (plan (withoutMark s)) (withoutMark s)
+
 unfoldable pub recoveredAt : ℕ → Store → Store
-recoveredAt n s = applyAll (take n (recoverPlan (withoutMark s))) (withoutMark s)
+recoveredAt n s = shutAt recoverPlan n s
 
 unfoldable pub recovered : Store → Store
-recovered s = applyAll (recoverPlan (withoutMark s)) (withoutMark s)
+recovered s = shut recoverPlan s
+
+unfoldable pub revertedAt : ℕ → Store → Store
+revertedAt n s = shutAt revertPlan n s
+
+unfoldable pub reverted : Store → Store
+reverted s = shut revertPlan s
+
+unfoldable pub keptAt : ℕ → Store → Store
+keptAt n s = shutAt keepPlan n s
+
+unfoldable pub kept : Store → Store
+kept s = shut keepPlan s

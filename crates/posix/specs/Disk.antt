@@ -9,7 +9,7 @@ use Rattle.basics.specs.Base.{Bytes, ifEmpty}
 use Rattle.basics.specs.Worked.{text}
 use Rattle.model.specs.Log.{header}
 use Rattle.model.specs.Store.{Store, dirs}
-use Rattle.model.specs.Step.{Step, rewriteHeader, syncStaging, syncLog, removeLog, syncJournal, syncCollections, makeDirectory, renameFile, moveStaged, renameDirectory, copyFile, removeFile, removeDirectory, removeStaging, syncDirectory}
+use Rattle.model.specs.Step.{Step, rewriteHeader, holdHeader, syncStaging, syncLog, removeLog, syncJournal, syncCollections, makeDirectory, renameFile, moveStaged, renameDirectory, copyFile, removeFile, removeDirectory, removeStaging, syncDirectory}
 use Rattle.posix.specs.Posix.{Node, file, directory, Directory, empty, entry, Path, Result, ok, error, resolve, Call, rename, mkdir, unlink, rmdir, open-read, open-create-truncate, fsync, pwrite}
 
 -- The Rust's layout, below the store's directory: collections/<directory>/<file>, journal/transaction.wal, journal/staging/<file>.
@@ -80,6 +80,7 @@ bytesIn (error e) = []
 -- others one.
 unfoldable pub stepCalls : Step → Directory → List Call
 stepCalls rewriteHeader t = pwrite logPath 0 (header 1) ∷ []
+stepCalls holdHeader t = pwrite logPath 0 (header 2) ∷ []
 stepCalls syncStaging t = map (λ f. fsync (stagedPath f)) (namesIn (resolve (journalName ∷ stagingName ∷ []) t))
 stepCalls syncLog t = fsync logPath ∷ []
 stepCalls removeLog t = unlink logPath ∷ []

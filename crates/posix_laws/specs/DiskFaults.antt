@@ -18,7 +18,7 @@ use Rattle.model.specs.Operation.{Op, write, delete, deleteAll, createCollectio
 use Rattle.model.specs.Log.{journal, opsOf}
 use Rattle.model.specs.Store.{Store, stagingKey, dirs, files, fileCount}
 use Rattle.model.specs.Image.{decode}
-use Rattle.model.specs.Step.{Step, rewriteHeader, syncStaging, syncLog, removeLog, syncJournal, syncCollections, makeDirectory, renameFile, moveStaged, renameDirectory, copyFile, removeFile, removeDirectory, removeStaging, syncDirectory, apply, applyAll, tagAndNames, Fault, fails, full, nameTooLong, newFile, stepFault}
+use Rattle.model.specs.Step.{Step, rewriteHeader, syncStaging, syncLog, removeLog, syncJournal, syncCollections, makeDirectory, renameFile, moveStaged, renameDirectory, copyFile, removeFile, removeDirectory, removeStaging, syncDirectory, apply, applyAll, tagAndNames, Fault, fails, full, nameTooLong, newFile, stepFault, holdHeader}
 use Rattle.model.specs.Plan.{opSteps, operationSteps, firstFault, stepsBeforeFault, commitFault}
 use Rattle.posix.specs.Posix.{directory, Directory, empty, entry, find, Path, Errno, ENOENT, ENOTEMPTY, ok, error, inside, resolve, replaces, rename, call, calls}
 use Rattle.basics.specs.Worked.{text}
@@ -134,6 +134,7 @@ module _ (bytes : ℕ → Bytes) where
     pub fails-refused : (x : Step) → stepFault x s ≡ some fails → OntoItself x ⊎ Impossible x s
     unfolding stepFault tagAndNames
     fails-refused rewriteHeader e = none≢some e
+    fails-refused holdHeader e = none≢some e
     fails-refused syncStaging e = none≢some e
     fails-refused syncLog e = none≢some e
     fails-refused removeLog e = none≢some e

@@ -3,14 +3,13 @@ use mathlib.Core.Path.{_≡_, refl, sym, _∙_, ap}
 use Prim.Native.Nat.{ℕ}
 use mathlib.Core.List.{List, [], _∷_, _++_, map}
 use mathlib.Core.Option.{Option, none, some}
-use lib.ListN.{drop}
 use Rattle.basics.specs.Order.{Cmp, lt, eq, gt, Name, Key, cmpName, caseCmp}
 use Rattle.basics.specs.Map.{Map, look, put, del, Has}
 use Rattle.basics.specs.Base.{Bytes, caseOption, ifEmpty}
-use Rattle.model.specs.Log.{header, markCommitting}
+use Rattle.model.specs.Log.{header, markCommitting, markHeld, withStatus}
 use Rattle.basics.specs.Field.{littleEndian}
 use Rattle.model.specs.Store.{Store, stagingKey, dirs, files}
-use Rattle.model.specs.Step.{Step, rewriteHeader, syncStaging, syncLog, removeLog, syncJournal, syncCollections, makeDirectory, renameFile, moveStaged, renameDirectory, copyFile, removeFile, removeDirectory, removeStaging, syncDirectory, removeDir, apply}
+use Rattle.model.specs.Step.{Step, rewriteHeader, syncStaging, syncLog, removeLog, syncJournal, syncCollections, makeDirectory, renameFile, moveStaged, renameDirectory, copyFile, removeFile, removeDirectory, removeStaging, syncDirectory, removeDir, apply, holdHeader}
 use Rattle.posix.specs.Posix.{file, directory, Directory, empty, entry, find, enter, ok, resolve, change, makes, unlinks, removes, opens, written, writes, replaces, vacates, Call, rename, unlink, rmdir, fsync, pwrite, call, calls}
 use Rattle.posix.specs.Disk.{collectionsName, journalName, directoryPath, filePath, stagedPath, logPath, folder, folders, root, disk, entryNames, stepCalls}
 use Rattle.basic_laws.specs.MapLaws.{Sorted, put-back, commute, look-put-other, sorted-put}
@@ -263,12 +262,21 @@ module _ (bytes : ℕ → Bytes) where
         rw (change-staged unlinks C G (s .log) f none (ap unlinks (find-staged f h)))
         (ap (λ (v : Directory). ok (root C v (s .log))) (sym (folder-del bytes [] f (s .staging) (w .staging .sorted))))
 
+    -- The header rewritten, whatever the status.
+    eight : (status : ℕ) (l : Bytes) → written 0 (header status) l ≡ withStatus status l
+    unfolding header littleEndian
+    eight status l = refl
+
+    rewrites : (status : ℕ) (l : Bytes) → call (pwrite logPath 0 (header status)) (root C G (some l)) ≡ ok (root C G (some (withStatus status l)))
+    rewrites status l = write-log C G l (header status) ∙ ap (λ (b : Bytes). ok (root C G (some b))) (eight status l)
+
     done-mark : Ready rewriteHeader s → Done rewriteHeader s
     unfolding stepCalls disk apply markCommitting
-    done-mark h = rw (h .1) (one (pwrite logPath 0 (header 1)) (root C G (some (h .0))) _ (write-log C G (h .0) (header 1) ∙ ap (λ (b : Bytes). ok (root C G (some b))) eight))
-      where
-        eight : written 0 (header 1) (h .0) ≡ header 1 ++ drop 8 (h .0)
-        eight = unfold header littleEndian in refl
+    done-mark h = rw (h .1) (one (pwrite logPath 0 (header 1)) (root C G (some (h .0))) _ (rewrites 1 (h .0)))
+
+    done-hold : Ready holdHeader s → Done holdHeader s
+    unfolding stepCalls disk apply markHeld
+    done-hold h = rw (h .1) (one (pwrite logPath 0 (header 2)) (root C G (some (h .0))) _ (rewrites 2 (h .0)))
 
     done-unlog : Ready removeLog s → Done removeLog s
     unfolding stepCalls disk apply
@@ -285,6 +293,7 @@ module _ (bytes : ℕ → Bytes) where
     -- The law.
     pub step-done : (x : Step) → Ready x s → Done x s
     step-done rewriteHeader h = done-mark h
+    step-done holdHeader h = done-hold h
     step-done syncStaging h = done-sync-staging
     step-done syncLog h = done-sync-log h
     step-done removeLog h = done-unlog h

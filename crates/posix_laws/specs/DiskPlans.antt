@@ -10,10 +10,10 @@ use Rattle.basics.specs.Map.{Map, look, Has}
 use Rattle.basics.specs.Base.{Bytes, In, caseOption, if_then_else_, ifEmpty, ifPresent, ifMissing}
 use Rattle.basics.specs.Name.{backupName, originalName, stripTmp}
 use Rattle.model.specs.Operation.{Op, Write, write, delete, deleteAll, createCollection, deleteCollection, copyCollection, target, backup, stood}
-use Rattle.model.specs.Log.{Journal, absent, recording, committing, journal, opsOf, whole, truncated, undecodable, tooMany}
+use Rattle.model.specs.Log.{Journal, absent, recording, committing, journal, opsOf, whole, truncated, undecodable, tooMany, held}
 use Rattle.model.specs.Store.{Store, stagingKey, dirs, files, stagingNames}
-use Rattle.model.specs.Step.{Step, rewriteHeader, syncStaging, syncLog, removeLog, syncJournal, syncCollections, makeDirectory, renameFile, moveStaged, renameDirectory, copyFile, removeFile, removeDirectory, removeStaging, syncDirectory, apply, applyAll, Fault, fails, nameTooLong, newFile, stepFault}
-use Rattle.model.specs.Plan.{inTurn, inSequence, opSteps, undoSteps, restoreFile, restoreDirectory, restoreBackups, removeBackupFile, removeBackupsIn, removeBackups, removeStagingFiles, collectionOf, firstNamings, syncExisting, stepsBeforeFault, operationSteps, commitFault, commitParts, commitPlan, removeStandingLog, recoverParts, recoverPlan}
+use Rattle.model.specs.Step.{Step, rewriteHeader, syncStaging, syncLog, removeLog, syncJournal, makeDirectory, renameFile, moveStaged, renameDirectory, copyFile, removeFile, removeDirectory, removeStaging, syncDirectory, apply, applyAll, Fault, fails, nameTooLong, newFile, stepFault, holdHeader}
+use Rattle.model.specs.Plan.{inTurn, inSequence, opSteps, undoSteps, restoreFile, restoreDirectory, restoreBackups, removeBackupFile, removeBackupsIn, removeBackups, removeStagingFiles, collectionOf, firstNamings, syncExisting, stepsBeforeFault, operationSteps, commitFault, commitParts, commitPlan, removeStandingLog, recoverParts, recoverPlan, planEnding, commitEnd, holdEnd, holdPlan, unheld, revertPlan, keepPlan}
 use Rattle.basic_laws.specs.OrderLaws.{nameLaws, keyLaws, lt≢eq}
 use Rattle.basic_laws.specs.MapLaws.{Sorted, none≢some, look-del-other, look-tail, look-head}
 use Rattle.basic_laws.specs.Tests.{All, all-in}
@@ -26,6 +26,7 @@ use Rattle.laws.specs.StepLaws.{make-stands, copy-stands}
 use Rattle.posix_laws.specs.PosixLaws.{other-lt}
 use Rattle.posix_laws.specs.ReadySteps.{Fair, AllReady, Going, GoingOn, fair-step, going-fair, going-log, going-ready, on-append, on-going, on-before, going-walk, Ascend, dirs-ascend, files-ascend, backup-above, missing-empty, moved-away, removed-other, renamed-other, renamed-to}
 use Rattle.posix_laws.specs.Ready.{IsName, LogStands, DirectoryStands, FileStands, StagedStands, Ready}
+use Rattle.laws.specs.PlanLaws.{unheld-valid}
 
 -- Keys apart.
 in-other : (d : Name) {f g : Name} → (f ≡ g → ⊥) → _≡_ {A = Key} (d, f) (d, g) → ⊥
@@ -262,14 +263,15 @@ abbrev pub Present : Journal → Type 0
 Present absent = ⊥
 Present (recording o e) = Unit {0}
 Present (committing o e) = Unit {0}
+Present (held o e) = Unit {0}
 
 pub log-there : (o : Option Bytes) (j : Journal) → journal o ≡ j → Present j → (l : Bytes) × (o ≡ some l)
 log-there none j e h = absurd (subst Present (sym e) h)
 log-there (some l) j e h = (l, refl)
 
-pub recover-ready : (s : Store) → Fair s → AllReady (recoverPlan s) s
-unfolding recoverPlan
-recover-ready s f = go (journal (s .log)) (journal-valid (s .log)) (log-there (s .log) (journal (s .log)) refl)
+-- Recovery, by what the log is taken for.
+journal-ready : (s : Store) → Fair s → (j : Journal) → All ValidOp (opsOf j) → (Present j → LogStands s) → AllReady (inSequence (recoverParts j) s) s
+journal-ready s f j v h = go j v h
   where
     discard : LogStands s → AllReady (inSequence ((λ s. removeLog ∷ []) ∷ removeStagingFiles ∷ []) s) s
     discard l = unlogged s f l
@@ -297,6 +299,31 @@ recover-ready s f = go (journal (s .log)) (journal-valid (s .log)) (log-there (s
     go (committing ops (truncated c)) v h = discard (h tt)
     go (committing ops undecodable) v h = discard (h tt)
     go (committing ops tooMany) v h = discard (h tt)
+    go (held ops x) v h = staging-last s f
+
+pub recover-ready : (s : Store) → Fair s → AllReady (recoverPlan s) s
+unfolding recoverPlan
+recover-ready s f = journal-ready s f (journal (s .log)) (journal-valid (s .log)) (log-there (s .log) (journal (s .log)) refl)
+
+-- Revert, which takes a Held log for a Committing one.
+pub revert-ready : (s : Store) → Fair s → AllReady (revertPlan s) s
+unfolding revertPlan
+revert-ready s f =
+    let j : Journal = journal (s .log) in
+    journal-ready s f (unheld j) (unheld-valid j (journal-valid (s .log))) (λ h. log-there (s .log) j refl (there j h))
+  where
+    there : (j : Journal) → Present (unheld j) → Present j
+    there absent h = h
+    there (recording o e) h = h
+    there (committing o e) h = h
+    there (held o e) h = h
+
+-- Keep.
+pub keep-ready : (s : Store) → Fair s → LogStands s → AllReady (keepPlan s) s
+unfolding keepPlan
+keep-ready s f l =
+    let u : Store = apply syncJournal (apply removeLog s) in
+    (l, (tt, part removeBackups [] u (backups-go u (fair-step syncJournal (apply removeLog s) tt (fair-step removeLog s l f))) tt))
 
 -- What a step that does not fail says.
 staged-there : (f d k : Name) (s : Store) → stepFault (moveStaged f d k) s ≡ none → StagedStands f s
@@ -430,10 +457,29 @@ syncs-go l s f = going-walk syncExisting (λ l u. Unit {0}) (λ d l u g h. (go d
     go d u none e = tt
     go d u (some x) e = ((x, e), tt, tt)
 
--- Commit.
-pub commit-ready : (s : Store) → Fair s → LogStands s → AllReady (commitPlan s) s
-unfolding commitPlan commitFault apply
-commit-ready s f l = (l, all (commitFault s) refl)
+-- How a commit ends whose operations are all applied: the syncs of collections and journal about the log's removal, the backups, the staging files; a
+-- held one: the header, its sync, the staging files.
+abbrev EndReady : List (Store → List Step) → Type 0
+EndReady ends = (w : Store) → Fair w → LogStands w → AllReady (inSequence ends w) w
+
+commit-end-ready : EndReady commitEnd
+unfolding apply
+commit-end-ready w fw lw =
+    let z : Store = apply syncJournal (apply removeLog w) in
+    let fz = fair-step syncJournal (apply removeLog w) tt (fair-step removeLog w lw fw) in
+    let g = backups-go z fz in
+    (tt, (lw, (tt, part removeBackups (removeStagingFiles ∷ []) z g (staging-last (applyAll (removeBackups z) z) (going-fair (removeBackups z) z g fz)))))
+
+hold-end-ready : EndReady holdEnd
+unfolding apply
+hold-end-ready w fw lw =
+    let z : Store = apply holdHeader w in
+    (tt, (lw, (going-log (holdHeader ∷ []) w (lw, tt, tt) lw, staging-last z (fair-step holdHeader w lw fw))))
+
+-- A commit with such an end.
+ending-ready : (ends : List (Store → List Step)) → EndReady ends → (s : Store) → Fair s → LogStands s → AllReady (planEnding ends s) s
+unfolding planEnding commitFault apply
+ending-ready ends ended s f l = (l, all (commitFault s) refl)
   where
     ops : List Op
     ops = opsOf (journal (s .log))
@@ -456,26 +502,18 @@ commit-ready s f l = (l, all (commitFault s) refl)
     goes : GoingOn (operationSteps ops u) u
     goes = ops-go ops v u fu
 
-    finish : List (Store → List Step)
-    finish = (λ s. syncCollections ∷ removeLog ∷ syncJournal ∷ []) ∷ removeBackups ∷ removeStagingFiles ∷ []
+    last : List (Store → List Step)
+    last = inTurn syncExisting (firstNamings [] (map collectionOf ops)) ∷ ends
 
     back : List (Store → List Step)
     back = inTurn undoSteps (reverse ops) ∷ restoreBackups ∷ (λ s. removeLog ∷ syncJournal ∷ []) ∷ removeStagingFiles ∷ []
 
-    -- The syncs of collections and journal about the log's removal, the backups, the staging files.
-    finishes : (w : Store) → Fair w → LogStands w → AllReady (inSequence finish w) w
-    finishes w fw lw =
-        let z : Store = apply syncJournal (apply removeLog w) in
-        let fz = fair-step syncJournal (apply removeLog w) tt (fair-step removeLog w lw fw) in
-        let g = backups-go z fz in
-        (tt, (lw, (tt, part removeBackups (removeStagingFiles ∷ []) z g (staging-last (applyAll (removeBackups z) z) (going-fair (removeBackups z) z g fz)))))
-
     -- Behind the operations: the syncs of directories, the end.
-    behind : (w : Store) → Fair w → LogStands w → AllReady (inSequence (inTurn syncExisting (firstNamings [] (map collectionOf ops)) ∷ finish) w) w
+    behind : (w : Store) → Fair w → LogStands w → AllReady (inSequence last w) w
     behind w fw lw =
         let xs : List Step = inTurn syncExisting (firstNamings [] (map collectionOf ops)) w in
         let g = syncs-go (firstNamings [] (map collectionOf ops)) w fw in
-        part (inTurn syncExisting (firstNamings [] (map collectionOf ops))) finish w g (finishes (applyAll xs w) (going-fair xs w g fw) (going-log xs w g lw))
+        part (inTurn syncExisting (firstNamings [] (map collectionOf ops))) ends w g (ended (applyAll xs w) (going-fair xs w g fw) (going-log xs w g lw))
 
     -- Behind a failing step: the rollback, the log, the staging files.
     rollback : (w : Store) → Fair w → LogStands w → AllReady (inSequence back w) w
@@ -493,14 +531,20 @@ commit-ready s f l = (l, all (commitFault s) refl)
         (part restoreBackups ((λ s. removeLog ∷ syncJournal ∷ []) ∷ removeStagingFiles ∷ []) z r
         (ly, (tt, staging-last (apply syncJournal (apply removeLog y)) (fair-step syncJournal (apply removeLog y) tt f₁))))
 
-    all : (q : Option Fault) → commitFault s ≡ q → AllReady (inSequence (commitParts ops q) u) u
+    all : (q : Option Fault) → commitFault s ≡ q → AllReady (inSequence (commitParts ends ops q) u) u
     all none e =
         let xs : List Step = operationSteps ops u in
         let g = on-going xs u goes e in
-        part (λ s. syncStaging ∷ syncLog ∷ []) (operationSteps ops ∷ inTurn syncExisting (firstNamings [] (map collectionOf ops)) ∷ finish) u starts
-        (part (operationSteps ops) (inTurn syncExisting (firstNamings [] (map collectionOf ops)) ∷ finish) u g (behind (applyAll xs u) (going-fair xs u g fu) (going-log xs u g lu)))
+        part (λ s. syncStaging ∷ syncLog ∷ []) (operationSteps ops ∷ last) u starts
+        (part (operationSteps ops) last u g (behind (applyAll xs u) (going-fair xs u g fu) (going-log xs u g lu)))
     all (some x) e =
         let xs : List Step = stepsBeforeFault (operationSteps ops u) u in
         let g = on-before (operationSteps ops u) u goes in
         part (λ s. syncStaging ∷ syncLog ∷ []) ((λ s. stepsBeforeFault (operationSteps ops s) s) ∷ back) u starts
         (part (λ s. stepsBeforeFault (operationSteps ops s) s) back u g (rollback (applyAll xs u) (going-fair xs u g fu) (going-log xs u g lu)))
+
+pub commit-ready : (s : Store) → Fair s → LogStands s → AllReady (commitPlan s) s
+commit-ready = ending-ready commitEnd commit-end-ready
+
+pub hold-ready : (s : Store) → Fair s → LogStands s → AllReady (holdPlan s) s
+hold-ready = ending-ready holdEnd hold-end-ready

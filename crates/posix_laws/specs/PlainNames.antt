@@ -10,7 +10,7 @@ use Rattle.basics.specs.Name.{backupExtension, isNameByte, refusedNames, validN
 use Rattle.basics.specs.Map.{Has}
 use Rattle.basics.specs.Base.{allOf}
 use Rattle.model.specs.Store.{Store, stagingKey}
-use Rattle.model.specs.Step.{Step, rewriteHeader, syncStaging, syncLog, removeLog, syncJournal, syncCollections, makeDirectory, renameFile, moveStaged, renameDirectory, copyFile, removeFile, removeDirectory, removeStaging, syncDirectory, apply, tagAndNames}
+use Rattle.model.specs.Step.{Step, rewriteHeader, syncStaging, syncLog, removeLog, syncJournal, syncCollections, makeDirectory, renameFile, moveStaged, renameDirectory, copyFile, removeFile, removeDirectory, removeStaging, syncDirectory, apply, tagAndNames, holdHeader}
 use Rattle.basic_laws.specs.MapLaws.{look-put-same}
 use Rattle.basic_laws.specs.Tests.{nil≢cons, All, all-of, all-imp}
 use Rattle.basic_laws.specs.ValidNames.{Valid, Restored, valid-named, valid-bytes}
@@ -59,6 +59,7 @@ restored-plain n (inr (inr e)) = dots-plain n _ _ e (ap (allOf isNameByte) e)
 names-stand : (N : Name → Type 0) → ((n : Name) → Valid n → N n) → (s : Store) (x : Step) → Good N s → Good N (apply x s) → Ready x s → All N (tagAndNames x .1)
 unfolding tagAndNames apply
 names-stand N v s rewriteHeader g h r = tt
+names-stand N v s holdHeader g h r = tt
 names-stand N v s syncStaging g h r = tt
 names-stand N v s syncLog g h r = tt
 names-stand N v s removeLog g h r = tt

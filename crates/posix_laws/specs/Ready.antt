@@ -6,7 +6,7 @@ use Rattle.basics.specs.Order.{Name}
 use Rattle.basics.specs.Map.{Has}
 use Rattle.basics.specs.Base.{Bytes}
 use Rattle.model.specs.Store.{Store, stagingKey, files}
-use Rattle.model.specs.Step.{Step, rewriteHeader, syncStaging, syncLog, removeLog, syncJournal, syncCollections, makeDirectory, renameFile, moveStaged, renameDirectory, copyFile, removeFile, removeDirectory, removeStaging, syncDirectory}
+use Rattle.model.specs.Step.{Step, rewriteHeader, syncStaging, syncLog, removeLog, syncJournal, syncCollections, makeDirectory, renameFile, moveStaged, renameDirectory, copyFile, removeFile, removeDirectory, removeStaging, syncDirectory, holdHeader}
 
 -- The empty file name is a directory's own place.
 abbrev pub IsName : Name → Type 0
@@ -26,6 +26,7 @@ StagedStands f s = Has (stagingKey f) (s .staging)
 
 abbrev pub Ready : Step → Store → Type 0
 Ready rewriteHeader s = LogStands s
+Ready holdHeader s = LogStands s
 Ready syncStaging s = Unit {0}
 Ready syncLog s = LogStands s
 Ready removeLog s = LogStands s

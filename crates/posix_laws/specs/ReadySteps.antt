@@ -9,7 +9,7 @@ use Rattle.basics.specs.Map.{Map, look, put, del, Has}
 use Rattle.basics.specs.Base.{In, caseOption, ifEmpty}
 use Rattle.basics.specs.Name.{backupName, backupExtension}
 use Rattle.model.specs.Store.{Store, stagingKey, dirs, files}
-use Rattle.model.specs.Step.{Step, rewriteHeader, syncStaging, syncLog, removeLog, syncJournal, syncCollections, makeDirectory, renameFile, moveStaged, renameDirectory, copyFile, removeFile, removeDirectory, removeStaging, syncDirectory, removeDir, renameDir, marked, apply, applyAll, Fault, stepFault}
+use Rattle.model.specs.Step.{Step, rewriteHeader, syncStaging, syncLog, removeLog, syncJournal, syncCollections, makeDirectory, renameFile, moveStaged, renameDirectory, copyFile, removeFile, removeDirectory, removeStaging, syncDirectory, removeDir, renameDir, marked, apply, applyAll, Fault, stepFault, holdHeader, markedHeld}
 use Rattle.model.specs.Plan.{inTurn, firstFault, stepsBeforeFault}
 use Rattle.basic_laws.specs.OrderLaws.{nat-same, nameLaws}
 use Rattle.basic_laws.specs.MapLaws.{Sorted, key-dec, none≢some, look-put-same, look-put-other, look-del-other, look-del-some, sorted-put, sorted-del}
@@ -71,6 +71,7 @@ inside-move a b t apart s i h c k j z = at (name-dec c a) (name-dec c b)
 pub fair-step : (x : Step) (s : Store) → Ready x s → Fair s → Fair (apply x s)
 unfolding apply
 fair-step rewriteHeader s h f = record { sorted = f .sorted; inside = f .inside; staging = f .staging }
+fair-step holdHeader s h f = record { sorted = f .sorted; inside = f .inside; staging = f .staging }
 fair-step syncStaging s h f = f
 fair-step syncLog s h f = f
 fair-step removeLog s h f = record { sorted = f .sorted; inside = f .inside; staging = f .staging }
@@ -117,6 +118,7 @@ AllReady (x ∷ xs) s = Ready x s × AllReady xs (apply x s)
 -- The same, and none removes the log.
 abbrev pub Leaves : Step → Type 0
 Leaves rewriteHeader = Unit {0}
+Leaves holdHeader = Unit {0}
 Leaves syncStaging = Unit {0}
 Leaves syncLog = Unit {0}
 Leaves removeLog = ⊥
@@ -144,6 +146,7 @@ GoingOn (x ∷ xs) s = stepFault x s ≡ none → Ready x s × Leaves x × Going
 log-step : (x : Step) (s : Store) → Leaves x → LogStands s → LogStands (apply x s)
 unfolding apply
 log-step rewriteHeader s h l = (_, ap marked (l .1))
+log-step holdHeader s h l = (_, ap markedHeld (l .1))
 log-step syncStaging s h l = l
 log-step syncLog s h l = l
 log-step removeLog s h l = absurd h

@@ -104,6 +104,7 @@ found-put (some x) d k n h s w = file-put d k x n h s w
 -- The files that a step makes have names.
 abbrev pub Named : Step → Type 0
 Named step.rewriteHeader = Unit {0}
+Named step.holdHeader = Unit {0}
 Named step.syncStaging = Unit {0}
 Named step.syncLog = Unit {0}
 Named step.removeLog = Unit {0}
@@ -122,6 +123,7 @@ Named (step.syncDirectory d) = Unit {0}
 pub kept : (x : Step) (s : model.Store) → Named x → Allowed x s → Sorted (s .tree) → Within (s .tree) → Within (apply x s .tree)
 unfolding apply stepFault
 kept step.rewriteHeader s n a o w = w
+kept step.holdHeader s n a o w = w
 kept step.syncStaging s n a o w = w
 kept step.syncLog s n a o w = w
 kept step.removeLog s n a o w = w
@@ -141,6 +143,7 @@ kept (step.syncDirectory d) s n a o w = w
 -- A step that does not fail is allowed.
 pub allowed : (x : Step) (s : model.Store) → stepFault x s ≡ none → Allowed x s
 allowed step.rewriteHeader s h = tt
+allowed step.holdHeader s h = tt
 allowed step.syncStaging s h = tt
 allowed step.syncLog s h = tt
 allowed step.removeLog s h = tt

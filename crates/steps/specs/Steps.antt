@@ -73,6 +73,7 @@ pub record Fits (src : Bytes) (s : LentStore) : Type 0 where
 -- A step that makes a node is done only where it does not fail; the others make none.
 abbrev pub Allowed : step.Step → model.Store → Type 0
 Allowed step.rewriteHeader s = Unit {0}
+Allowed step.holdHeader s = Unit {0}
 Allowed step.syncStaging s = Unit {0}
 Allowed step.syncLog s = Unit {0}
 Allowed step.removeLog s = Unit {0}

@@ -17,7 +17,8 @@ use Rattle.model.specs.Log.{whole, opsOf}
 use Rattle.model.specs.Store.{Store, stagingNames}
 use Rattle.model.specs.Step.{Step, rewriteHeader, removeLog, syncJournal, syncCollections, syncDirectory, apply, applyAll, Fault}
 use Rattle.model.specs.Plan.{inTurn, run, undoSteps, restoreBackups, removeBackups, removeStagingFiles, syncExisting, firstNamings, collectionOf, firstFault}
-use Rattle.model.specs.Plan.{stepsBeforeFault, operationSteps, commitFault, commitParts, commitPlan, withoutMark, withoutMarkAtEnd, committedAt}
+use Rattle.model.specs.Plan.{stepsBeforeFault, operationSteps, commitFault, commitParts, commitEnd, commitPlan, planEnding, withoutMark}
+use Rattle.model.specs.Plan.{withoutMarkAtEnd, committedAt, endingAt}
 use Rattle.laws.specs.LogLaws.{mark-journal, recorded-stands, committed-stands}
 use Rattle.laws.specs.StoreLaws.{Bare}
 use Rattle.cut_rule.specs.Demand.{settled}
@@ -53,10 +54,11 @@ syncs-through I (d ∷ l) u m = go (look (d, []) (u .tree)) (syncs-through I l u
     go none k = k
     go (some x) k = (m, rw (sync-same d u (some x)) k)
 
--- All steps of a commit.
-whole-commit : (s : Store) → committedAt (length (commitPlan s)) s ≡ withoutMark (applyAll (commitPlan s) s)
-unfolding committedAt
-whole-commit s = rw (take-length (commitPlan s), n-n (length (commitPlan s)))
+-- All steps of a commit, with either end.
+pub whole-ending : (ends : List (Store → List Step)) (s : Store) →
+    endingAt ends (length (planEnding ends s)) s ≡ withoutMark (applyAll (planEnding ends s) s)
+unfolding endingAt
+whole-ending ends s = rw (take-length (planEnding ends s), n-n (length (planEnding ends s)))
   where
     n-n : (n : ℕ) → n - n ≡ 0
     n-n n = omega arith
@@ -95,13 +97,10 @@ module _ (s : Store) (ops : List Op) (T : Transacts s ops) where
   unfolding commitFault
   fault-is = ap (λ (o : List Op). firstFault (operationSteps o begun) begun) (ap opsOf (T .logged))
 
-  pub plan-is : (q : Option Fault) → commitFault s ≡ q → commitPlan s ≡ rewriteHeader ∷ inTurn run (commitParts ops q) begun
-  unfolding commitPlan
-  plan-is q f = λ i. rewriteHeader ∷ inTurn run (commitParts (opsOf (T .logged i)) (f i)) begun
-
-  -- A commit that goes through: its parts behind the operations' steps and the syncs of their directories.
-  abbrev pub behind : List (Store → List Step)
-  behind = (λ v. syncCollections ∷ removeLog ∷ syncJournal ∷ []) ∷ removeBackups ∷ removeStagingFiles ∷ []
+  pub plan-is : (ends : List (Store → List Step)) (q : Option Fault) → commitFault s ≡ q →
+      planEnding ends s ≡ rewriteHeader ∷ inTurn run (commitParts ends ops q) begun
+  unfolding planEnding
+  plan-is ends q f = λ i. rewriteHeader ∷ inTurn run (commitParts ends (opsOf (T .logged i)) (f i)) begun
 
   abbrev collections : List Name
   collections = firstNamings [] (map collectionOf ops)
@@ -160,9 +159,9 @@ module _ (s : Store) (ops : List Op) (T : Transacts s ops) where
     unfolding cleaned
     cleaned-ended = through-end (Ended final) (removeBackups unlogged) unlogged clean-through
 
-    behind-through : Through At (inTurn run behind (applyAll steps begun)) (applyAll steps begun)
+    end-through : Through At (inTurn run commitEnd (applyAll steps begun)) (applyAll steps begun)
     unfolding cleaned
-    behind-through = (
+    end-through = (
       mid applied-mid,
       (
         unfold apply in (mid applied-mid),
@@ -181,14 +180,14 @@ module _ (s : Store) (ops : List Op) (T : Transacts s ops) where
         staged : Through (Ended final) (removeStagingFiles cleaned) cleaned
         staged = unstage-through final (stagingNames (cleaned .staging)) cleaned cleaned-ended
 
-    plan-through : Through At (inTurn run (commitParts ops none) begun) begun
+    plan-through : Through At (inTurn run (commitParts commitEnd ops none) begun) begun
     plan-through = unfold apply in (
       mid begun-mid,
       (
         mid begun-mid,
         through-append At steps (c ++ r) begun (through-map M At (λ v h. mid h) steps begun steps-through)
             (through-append At c r (applyAll steps begun) (syncs-through At collections (applyAll steps begun) (mid applied-mid))
-            (rw (syncs-same collections (applyAll steps begun)) behind-through)),
+            (rw (syncs-same collections (applyAll steps begun)) end-through)),
       ),
     )
       where
@@ -196,7 +195,7 @@ module _ (s : Store) (ops : List Op) (T : Transacts s ops) where
         c = inTurn syncExisting collections (applyAll steps begun)
 
         r : List Step
-        r = inTurn run behind (applyAll c (applyAll steps begun))
+        r = inTurn run commitEnd (applyAll c (applyAll steps begun))
 
     heals-at : (n : ℕ) → SafeAt n s ops → let u : Store = applyAll (take n (commitPlan s)) s in Heals ops (treeAfter (isSome (u .log))) u
     heals-at zero z = recorded (T .logged) (sym (ap treeAfter (recorded-stands (s .log) ops whole (T .logged))))
@@ -206,7 +205,7 @@ module _ (s : Store) (ops : List Op) (T : Transacts s ops) where
         u = applyAll (take (suc n) (commitPlan s)) s
 
         at-suc : At u
-        at-suc = rw (plan-is none f) (through-take At n (inTurn run (commitParts ops none) begun) begun plan-through)
+        at-suc = rw (plan-is commitEnd none f) (through-take At n (inTurn run (commitParts commitEnd ops none) begun) begun plan-through)
 
         safe : SafeAt (suc n) s ops → isSome (u .log) ≡ true → Safe (s .tree) ops (u .tree)
         safe (inl e) = absurd (omega arith)
@@ -223,11 +222,11 @@ module _ (s : Store) (ops : List Op) (T : Transacts s ops) where
     after-tidy false = final-tidy
 
     -- What it leaves when it is not cut.
-    plan-end : applyAll (inTurn run (commitParts ops none) begun) begun ≡ withStaging [] cleaned
+    plan-end : applyAll (inTurn run (commitParts commitEnd ops none) begun) begun ≡ withStaging [] cleaned
     unfolding cleaned
     plan-end =
-        applyAll-inTurn run (commitParts ops none) begun ∙ unfold apply in
-        (ap (runOver run behind) (syncs-same collections (applyAll steps begun)) ∙ staging-gone cleaned bare)
+        applyAll-inTurn run (commitParts commitEnd ops none) begun ∙ unfold apply in
+        (ap (runOver run commitEnd) (syncs-same collections (applyAll steps begun)) ∙ staging-gone cleaned bare)
       where
         bare : Bare (cleaned .staging)
         bare = steady (removeBackups unlogged) unlogged .bare (unfold apply in (steady steps begun .bare (unfold apply in (T .bare))))
@@ -235,7 +234,7 @@ module _ (s : Store) (ops : List Op) (T : Transacts s ops) where
     pub committed-end : committedAt (length (commitPlan s)) s ≡ settled final
     unfolding final
     committed-end =
-        whole-commit s ∙ ap (λ (xs : List Step). withoutMark (applyAll xs s)) (plan-is none f) ∙ ap withoutMark plan-end
+        whole-ending commitEnd s ∙ ap (λ (xs : List Step). withoutMark (applyAll xs s)) (plan-is commitEnd none f) ∙ ap withoutMark plan-end
         ∙ λ i. record { tree = cleaned .tree; staging = []; log = cleaned-ended .same i; openMark = false }
 
   -- A commit of marked Writes, or of other operations, that fails: at each step recovery would heal it to the files from before, and at its end they stand.
@@ -257,7 +256,7 @@ module _ (s : Store) (ops : List Op) (T : Transacts s ops) where
     mid-heals : (u : Store) → M u → Heals ops (s .tree) u
     mid-heals u h = undoing (T .old) (T .good) (h .log) (h .inv) (marked-safe (s .tree) ops (u .tree) (T .good) m)
 
-    failed-through : Through (Heals ops (s .tree)) (inTurn run (commitParts ops (some e)) begun) begun
+    failed-through : Through (Heals ops (s .tree)) (inTurn run (commitParts commitEnd ops (some e)) begun) begun
     unfolding xs failed
     failed-through = unfold apply in (
       mid-heals begun begun-mid,
@@ -275,21 +274,21 @@ module _ (s : Store) (ops : List Op) (T : Transacts s ops) where
 
     failed-heals : (n : ℕ) → Heals ops (s .tree) (applyAll (take n (commitPlan s)) s)
     failed-heals zero = recorded (T .logged) refl
-    failed-heals (suc n) = rw (plan-is (some e) f) (through-take (Heals ops (s .tree)) n (inTurn run (commitParts ops (some e)) begun) begun failed-through)
+    failed-heals (suc n) = rw (plan-is commitEnd (some e) f) (through-take (Heals ops (s .tree)) n (inTurn run (commitParts commitEnd ops (some e)) begun) begun failed-through)
 
     emptied : Store → Store
     emptied u = record { tree = s .tree; staging = []; log = none; openMark = u .openMark }
 
-    failed-plan : applyAll (inTurn run (commitParts ops (some e)) begun) begun ≡ emptied failed
+    failed-plan : applyAll (inTurn run (commitParts commitEnd ops (some e)) begun) begun ≡ emptied failed
     unfolding xs failed emptied
     failed-plan =
-        applyAll-inTurn run (commitParts ops (some e)) begun
+        applyAll-inTurn run (commitParts commitEnd ops (some e)) begun
         ∙ unfold apply in (rolled-back (s .tree) failed ops (T .old) (T .good) (steady xs begun .bare (unfold apply in (T .bare))) (failed-mid .inv)
         (marked-safe (s .tree) ops (failed .tree) (T .good) m))
 
     pub failed-end : committedAt (length (commitPlan s)) s ≡ settled (s .tree)
     unfolding emptied
-    failed-end = whole-commit s ∙ ap (λ (xs : List Step). withoutMark (applyAll xs s)) (plan-is (some e) f) ∙ ap withoutMark failed-plan
+    failed-end = whole-ending commitEnd s ∙ ap (λ (xs : List Step). withoutMark (applyAll xs s)) (plan-is commitEnd (some e) f) ∙ ap withoutMark failed-plan
 
 -- The open mark, which goes with the last step, is no part of it.
 shut-heals : (ops : List Op) (p : Map) (m : ℕ) (u : Store) → Heals ops p u → Heals ops p (withoutMarkAtEnd m u)
@@ -303,7 +302,7 @@ shut-log (suc m) u = refl
 -- At every safe cut recovery heals the store: to the files from before if the log stands, else to those of the commit.
 pub cut-heals : (s : Store) (ops : List Op) (T : Transacts s ops) → commitFault s ≡ none → (n : ℕ) → SafeAt n s ops →
     Heals ops (treeAfter s ops T (isSome (committedAt n s .log))) (committedAt n s)
-unfolding committedAt
+unfolding endingAt
 cut-heals s ops T f n z =
     let u : Store = applyAll (take n (commitPlan s)) s in
     let m : ℕ = length (commitPlan s) - n in
@@ -312,5 +311,5 @@ cut-heals s ops T f n z =
 
 pub failed-cut-heals : (s : Store) (ops : List Op) → Transacts s ops → Marked ops → (e : Fault) → commitFault s ≡ some e → (n : ℕ) →
     Heals ops (s .tree) (committedAt n s)
-unfolding committedAt
+unfolding endingAt
 failed-cut-heals s ops T m e f n = shut-heals ops (s .tree) (length (commitPlan s) - n) (applyAll (take n (commitPlan s)) s) (failed-heals s ops T m e f n)

@@ -21,9 +21,9 @@ use Rattle.model.specs.Store.{Store, dirs, files, validNode, validNodes, validS
 use Rattle.model.specs.Image.{imageFields, encode, treeOf, stagingOf, logOf, storeOf, decode}
 use Rattle.model.specs.Step.{removeDir, renameDir, apply, zeroSeparated, tagAndNames, stepField, stepFault}
 use Rattle.model.specs.Plan.{opSteps, undoSteps, restoreFile, restoreDirectory, removeBackupFile, removeBackupsIn, firstNamings, syncExisting, commitFault}
-use Rattle.model.specs.Plan.{commitPlan, committedAt, recoverPlan, recoveredAt, recovered}
+use Rattle.model.specs.Plan.{commitPlan, planEnding, endingAt, recoverPlan, recoveredAt, recovered}
 use Rattle.model.specs.Record.{transaction}
-use Rattle.answers.specs.Answers.{answer, commitStore, commit, recoverStore, recover, commitStep, recoverStep}
+use Rattle.answers.specs.Answers.{answer, endingStore, commit, recoverStore, recover, commitStep, recoverStep}
 use Rattle.basic_laws.specs.MapLaws.{key-dec, none≢some, look-tail}
 use Rattle.cut_rule.specs.Demand.{NoExtension, Unmarked, TrulyMarked, Conditions, backupRename, Renamed, cutAt, settled, allWritesDone, cutRecoveries}
 use Rattle.cut_rule.specs.Demand.{InPlans, ListedOnce, stepCount}
@@ -109,9 +109,9 @@ unfolding ten store tree7 write9 db a crc32 register feedByte shifts shift addPo
     cmpKey look put del dirs files validNode validNodes validStaged ascending wellFormed
     imageFields encode treeOf stagingOf logOf storeOf decode
     removeDir renameDir apply zeroSeparated tagAndNames stepField stepFault
-    opSteps undoSteps restoreFile restoreDirectory removeBackupFile removeBackupsIn firstNamings syncExisting commitFault commitPlan committedAt
+    opSteps undoSteps restoreFile restoreDirectory removeBackupFile removeBackupsIn firstNamings syncExisting commitFault planEnding endingAt
     recoverPlan recovered
-    transaction commitStore commit recoverStore recover commitStep allWritesDone
+    transaction endingStore commit recoverStore recover commitStep allWritesDone
 computed = record {
   holds = refl;
   writes = refl;
@@ -221,9 +221,9 @@ unfolding tenMarked storeMarked tree7 write9Marked db a crc32 register feedByte 
     cmpKey look put del dirs files validNode validNodes validStaged ascending wellFormed
     imageFields encode treeOf stagingOf logOf storeOf decode
     removeDir renameDir apply zeroSeparated tagAndNames stepField stepFault
-    opSteps undoSteps restoreFile restoreDirectory removeBackupFile removeBackupsIn firstNamings syncExisting commitFault commitPlan committedAt
+    opSteps undoSteps restoreFile restoreDirectory removeBackupFile removeBackupsIn firstNamings syncExisting commitFault planEnding endingAt
     recoverPlan recoveredAt recovered
-    transaction commitStore commit recoverStore recover commitStep recoverStep
+    transaction endingStore commit recoverStore recover commitStep recoverStep
 computedMarked = record {
   holds = refl;
   writes = refl;

@@ -21,7 +21,7 @@ use Rattle.model.specs.Image.{encode, decode}
 use Rattle.model.specs.Plan.{commitFault, commitPlan, committedAt}
 use Rattle.model.specs.Record.{transaction}
 use Rattle.model.specs.Step.{commitNumber}
-use Rattle.answers.specs.Answers.{Answer, answer, refusal, stepAnswer, commitStore, commit, commitStep, recoverStore, recover}
+use Rattle.answers.specs.Answers.{Answer, answer, refusal, stepAnswer, endingStore, commit, commitStep, recoverStore, recover}
 use Rattle.basic_laws.specs.MapLaws.{none≢some}
 use Rattle.basic_laws.specs.Tests.{All, all-in, nil≢cons}
 use Rattle.basic_laws.specs.NameLaws.{strip-some, original-backup}
@@ -65,7 +65,7 @@ pub record Found (s : Store) : Type 0 where
   pub found : transaction s ≡ some ops
 
 pub found-in : (b : Bytes) (s : Store) → decode b ≡ some s → (commit b imageRoom .number ≡ 4 → ⊥) → Found s
-unfolding commit commitStore
+unfolding commit endingStore
 found-in b s d h = go (transaction s) refl (rw d at h)
   where
     go : (q : Option (List Op)) → transaction s ≡ q →
@@ -76,7 +76,7 @@ found-in b s d h = go (transaction s) refl (rw d at h)
 -- What commit gives then.
 pub commit-gives : (b : Bytes) (s : Store) → decode b ≡ some s → Found s →
     commit b imageRoom ≡ answer (commitNumber (commitFault s)) (committedAt (length (commitPlan s)) s)
-unfolding commit commitStore
+unfolding commit endingStore
 commit-gives b s d c = rw (d, c .found)
 
 pub committed : (b : Bytes) (s : Store) → decode b ≡ some s → commit b imageRoom .number ≡ 0 → Found s × (commitFault s ≡ none)

@@ -9,8 +9,8 @@ use Rattle.basics.specs.Order.{Name}
 use Rattle.basics.specs.Map.{Map}
 use Rattle.basics.specs.Base.{In, caseOption}
 use Rattle.model.specs.Store.{Store, stagingKey, stagingNames}
-use Rattle.model.specs.Step.{Step, rewriteHeader, syncStaging, syncLog, removeLog, syncJournal, syncCollections, makeDirectory, renameFile, moveStaged}
-use Rattle.model.specs.Step.{renameDirectory, copyFile, removeFile, removeDirectory, removeStaging, syncDirectory, marked, apply, applyAll, Fault, stepFault}
+use Rattle.model.specs.Step.{Step, rewriteHeader, holdHeader, syncStaging, syncLog, removeLog, syncJournal, syncCollections, makeDirectory, renameFile, moveStaged}
+use Rattle.model.specs.Step.{renameDirectory, copyFile, removeFile, removeDirectory, removeStaging, syncDirectory, marked, markedHeld, apply, applyAll, Fault, stepFault}
 use Rattle.model.specs.Plan.{inTurn, removeStagingFiles, firstFault, stepsBeforeFault}
 use Rattle.laws.specs.StoreLaws.{Bare, bare-del}
 use Rattle.laws.specs.Listings.{dels, dels-all}
@@ -33,6 +33,7 @@ pub record Steady (s u : Store) : Type 0 where
 apply-steady : (x : Step) (s : Store) → Steady s (apply x s)
 unfolding apply
 apply-steady rewriteHeader s = record { mark = refl; bare = λ b. b; gone = ap marked }
+apply-steady holdHeader s = record { mark = refl; bare = λ b. b; gone = ap markedHeld }
 apply-steady syncStaging s = record { mark = refl; bare = λ b. b; gone = λ e. e }
 apply-steady syncLog s = record { mark = refl; bare = λ b. b; gone = λ e. e }
 apply-steady removeLog s = record { mark = refl; bare = λ b. b; gone = λ e. refl }

@@ -7,7 +7,6 @@ use mathlib.Core.Option.{Option, none, some}
 use mathlib.Core.Bool.{Bool, true, false}
 use mathlib.Core.Logic.{_⊎_, inl, inr}
 use lib.ListN.{length, take}
-use lib.Seq.{take-length}
 use Rattle.basics.specs.Order.{Name}
 use Rattle.basics.specs.Map.{Map, look}
 use Rattle.basics.specs.Base.{Bytes, isSome, if_then_else_, ifPresent}
@@ -21,10 +20,12 @@ use Rattle.model.specs.Plan.{stepsBeforeFault, operationSteps, commitFault, com
 use Rattle.model.specs.Plan.{withoutMarkAtEnd, committedAt, endingAt}
 use Rattle.laws.specs.LogLaws.{mark-journal, recorded-stands, committed-stands}
 use Rattle.laws.specs.StoreLaws.{Bare}
+use Rattle.laws.specs.Runs.{runOver, applyAll-inTurn}
+use Rattle.laws.specs.EndLaws.{withStaging, staging-gone, whole-ending}
 use Rattle.cut_rule.specs.Demand.{settled}
 use Rattle.cut_rule.specs.Kinds.{placeOf, Marked}
 use Rattle.cut_rule.specs.StoreRule.{old-dir, Transacts, Safe, marked-safe}
-use Rattle.cut_rule.specs.Walk.{runOver, applyAll-inTurn, steady, staging-gone, withStaging, Through, through-end, through-take, through-append}
+use Rattle.cut_rule.specs.Walk.{steady, Through, through-end, through-take, through-append}
 use Rattle.cut_rule.specs.Walk.{through-map, Cautious, cautious-through, cautious-before}
 use Rattle.cut_rule.specs.Directories.{inv-start}
 use Rattle.cut_rule.specs.Clean.{Tidy, old-tidy, Agrees, clean-all, tidied}
@@ -53,15 +54,6 @@ syncs-through I (d ∷ l) u m = go (look (d, []) (u .tree)) (syncs-through I l u
         let xs = ifPresent q (syncDirectory d ∷ []) in Through I (xs ++ inTurn syncExisting l (applyAll xs u)) u
     go none k = k
     go (some x) k = (m, rw (sync-same d u (some x)) k)
-
--- All steps of a commit, with either end.
-pub whole-ending : (ends : List (Store → List Step)) (s : Store) →
-    endingAt ends (length (planEnding ends s)) s ≡ withoutMark (applyAll (planEnding ends s) s)
-unfolding endingAt
-whole-ending ends s = rw (take-length (planEnding ends s), n-n (length (planEnding ends s)))
-  where
-    n-n : (n : ℕ) → n - n ≡ 0
-    n-n n = omega arith
 
 -- At the cut n nothing was done, or the log is gone, or undoing takes no old file away.
 abbrev pub SafeAt : ℕ → Store → List Op → Type 0

@@ -1,5 +1,5 @@
--- The cut rule over images: 01, 'The words of demand 3', and 02, items 4, 5 and 13. Quotes are from 01, or from 02 where an item is named. Theorem.antt,
--- Again.antt and Count.antt prove what is stated here.
+-- The cut rule over images: 01, 'The words of demand 3', and 02, items 4, 5, 6 and 13. Quotes are from 01, or from 02 where an item is named. Theorem.antt,
+-- Again.antt, HoldRules.antt and Count.antt prove what is stated here.
 use mathlib.Core.Path.{_≡_}
 use Prim.Native.Nat.{ℕ, _+_, _*_, _≤_}
 use mathlib.Core.List.{List, [], _∷_, _++_, map}
@@ -20,7 +20,7 @@ use Rattle.model.specs.Store.{Store, stagingKey, stagingNames}
 use Rattle.model.specs.Image.{decode}
 use Rattle.model.specs.Step.{Step, renameFile, stepField}
 use Rattle.model.specs.Plan.{commitPlan}
-use Rattle.answers.specs.Answers.{answer, commit, commitStep, recover, recoverStep}
+use Rattle.answers.specs.Answers.{answer, commit, commitStep, recover, recoverStep, hold, keep}
 use Rattle.laws.specs.Listings.{Once}
 
 -- A name ends in .bak, or in .tmp: as text, whatever stands before the dot.
@@ -172,6 +172,14 @@ AgainRule =
     (b : Bytes) (s : Store) (ws : List Write) (n : ℕ) (ms : List ℕ) (out : ℕ) →
     Either b s ws → TrulyMarked (s .tree) ws → commitStep n b imageRoom stepRoom .number ≡ 0 → InPlans ms (cutAt n b) →
     recover (cutRecoveries ms (cutAt n b)) out ≡ recover (cutAt n b) out
+
+-- 02, item 6: what an uncut held commit hands back.
+abbrev pub heldImage : Bytes → Bytes
+heldImage b = hold b imageRoom .image
+
+-- "keep gives the ordinary commit's image": of every transaction that commits, whatever its operations, and byte for byte, for every length of the output.
+abbrev pub HoldKeep : Type 0
+HoldKeep = (b : Bytes) (out : ℕ) → commit b imageRoom .number ≡ 0 → (hold b imageRoom .number ≡ 0) × (keep (heldImage b) out ≡ commit b out)
 
 -- 02, item 13: "w Writes, at least one, b of their keys already there, c distinct collections named by them, s staging files that no Write names".
 abbrev pub count : {A : Type 0} → (A → Bool) → List A → ℕ

@@ -15,10 +15,12 @@ use Rattle.model.specs.Plan.{recoveredAt, recovered, recoverFault, withoutMark}
 use Rattle.basic_laws.specs.MapLaws.{none≢some}
 use Rattle.laws.specs.StoreLaws.{Bare}
 use Rattle.laws.specs.Listings.{any-unreverse}
+use Rattle.laws.specs.Runs.{runOver, applyAll-inTurn}
+use Rattle.laws.specs.EndLaws.{staging-gone}
 use Rattle.cut_rule.specs.Demand.{settled}
 use Rattle.cut_rule.specs.Kinds.{Marked}
 use Rattle.cut_rule.specs.StoreRule.{OldTree, AllGood, Safe, marked-safe}
-use Rattle.cut_rule.specs.Walk.{runOver, applyAll-inTurn, steady, staging-gone, Through, through-end, through-take, through-append, through-map}
+use Rattle.cut_rule.specs.Walk.{steady, Through, through-end, through-take, through-append, through-map}
 use Rattle.cut_rule.specs.Directories.{Inv, inv-more}
 use Rattle.cut_rule.specs.Undo.{Undoes, undo-all}
 use Rattle.cut_rule.specs.Restore.{restore-all}

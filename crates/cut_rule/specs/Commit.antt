@@ -12,16 +12,17 @@ use Rattle.basics.specs.Map.{Map, look}
 use Rattle.basics.specs.Base.{Bytes, isSome, if_then_else_, ifPresent}
 use Rattle.basics.specs.Name.{originalName}
 use Rattle.model.specs.Operation.{Op, write, delete, deleteAll, createCollection, deleteCollection, copyCollection}
-use Rattle.model.specs.Log.{whole, opsOf}
+use Rattle.model.specs.Log.{Journal, committing, whole, opsOf}
 use Rattle.model.specs.Store.{Store, stagingNames}
-use Rattle.model.specs.Step.{Step, rewriteHeader, removeLog, syncJournal, syncCollections, syncDirectory, apply, applyAll, Fault}
+use Rattle.model.specs.Step.{Step, rewriteHeader, syncStaging, syncLog, removeLog, syncJournal, syncCollections, syncDirectory, apply, applyAll, Fault}
 use Rattle.model.specs.Plan.{inTurn, run, undoSteps, restoreBackups, removeBackups, removeStagingFiles, syncExisting, firstNamings, collectionOf, firstFault}
 use Rattle.model.specs.Plan.{stepsBeforeFault, operationSteps, commitFault, commitParts, commitEnd, commitPlan, planEnding, withoutMark}
 use Rattle.model.specs.Plan.{withoutMarkAtEnd, committedAt, endingAt}
 use Rattle.laws.specs.LogLaws.{mark-journal, recorded-stands, committed-stands}
 use Rattle.laws.specs.StoreLaws.{Bare}
+use Rattle.laws.specs.Listings.{dels-all}
 use Rattle.laws.specs.Runs.{runOver, applyAll-inTurn}
-use Rattle.laws.specs.EndLaws.{withStaging, staging-gone, whole-ending}
+use Rattle.laws.specs.EndLaws.{swept, sweeps, whole-ending, upToEnd, committedStore, commit-leaves}
 use Rattle.cut_rule.specs.Demand.{settled}
 use Rattle.cut_rule.specs.Kinds.{placeOf, Marked}
 use Rattle.cut_rule.specs.StoreRule.{old-dir, Transacts, Safe, marked-safe}
@@ -29,7 +30,8 @@ use Rattle.cut_rule.specs.Walk.{steady, Through, through-end, through-ta
 use Rattle.cut_rule.specs.Walk.{through-map, Cautious, cautious-through, cautious-before}
 use Rattle.cut_rule.specs.Directories.{inv-start}
 use Rattle.cut_rule.specs.Clean.{Tidy, old-tidy, Agrees, clean-all, tidied}
-use Rattle.cut_rule.specs.Heal.{Ended, Heals, recorded, undoing, ended, rolled-back, heals-shut, unstage-through, last-through, back-through}
+use Rattle.cut_rule.specs.Heal.{Ended, HealsFrom, Heals, recorded, undoing, ended, rolled-back, heals-shut, unstage-through, ended-unstaged}
+use Rattle.cut_rule.specs.Heal.{last-through, back-through}
 use Rattle.cut_rule.specs.Apply.{Untouched, Mid, ops-apply}
 
 -- Syncs of directories change nothing.
@@ -97,8 +99,11 @@ module _ (s : Store) (ops : List Op) (T : Transacts s ops) where
   abbrev collections : List Name
   collections = firstNamings [] (map collectionOf ops)
 
+  abbrev pub applied : Store
+  applied = applyAll steps begun
+
   abbrev pub unlogged : Store
-  unlogged = apply removeLog (applyAll steps begun)
+  unlogged = apply removeLog applied
 
   cleaned : Store
   cleaned = applyAll (removeBackups unlogged) unlogged
@@ -117,7 +122,7 @@ module _ (s : Store) (ops : List Op) (T : Transacts s ops) where
     steps-through : Through M steps begun
     steps-through = cautious-through M steps begun steps-cautious no-fault-first
 
-    applied-mid : M (applyAll steps begun)
+    pub applied-mid : M applied
     applied-mid = through-end M steps begun steps-through
 
     tidy : Tidy final × Agrees (unlogged .tree) (unlogged .log) cleaned
@@ -140,9 +145,29 @@ module _ (s : Store) (ops : List Op) (T : Transacts s ops) where
       agrees = λ d k p q. sym (final-agrees d k p q);
     }
 
-    data At (u : Store) : Type 0 where
-      mid : M u → At u
-      end : Ended final u → At u
+    -- With either end: each step is one of the operations', or one of the end, of which E holds.
+    module _ (ends : List (Store → List Step)) (E : Store → Type 0) where
+      abbrev At : Store → Type 0
+      At u = M u ⊎ E u
+
+      plan-through : Through At (inTurn run ends applied) applied → Through At (inTurn run (commitParts ends ops none) begun) begun
+      plan-through last = unfold apply in (
+        inl begun-mid,
+        (
+          inl begun-mid,
+          through-append At steps (c ++ r) begun (through-map M At (λ v h. inl h) steps begun steps-through)
+              (through-append At c r applied (syncs-through At collections applied (inl applied-mid)) (rw (syncs-same collections applied) last)),
+        ),
+      )
+        where
+          c : List Step
+          c = inTurn syncExisting collections applied
+
+          r : List Step
+          r = inTurn run ends (applyAll c applied)
+
+      pub at-suc : Through At (inTurn run ends applied) applied → (n : ℕ) → At (applyAll (take (suc n) (planEnding ends s)) s)
+      at-suc last n = rw (plan-is ends none f) (through-take At n (inTurn run (commitParts ends ops none) begun) begun (plan-through last))
 
     clean-through : Through (Ended final) (removeBackups unlogged) unlogged
     clean-through = clean-all final none unlogged final-tidy unlogged-ended .0
@@ -151,86 +176,70 @@ module _ (s : Store) (ops : List Op) (T : Transacts s ops) where
     unfolding cleaned
     cleaned-ended = through-end (Ended final) (removeBackups unlogged) unlogged clean-through
 
-    end-through : Through At (inTurn run commitEnd (applyAll steps begun)) (applyAll steps begun)
+    end-through : Through (λ u. M u ⊎ Ended final u) (inTurn run commitEnd applied) applied
     unfolding cleaned
     end-through = (
-      mid applied-mid,
+      inl applied-mid,
       (
-        unfold apply in (mid applied-mid),
+        unfold apply in (inl applied-mid),
         unfold apply in (
-          end unlogged-ended,
-          through-append At (removeBackups unlogged) (removeStagingFiles cleaned ++ []) unlogged (ends (removeBackups unlogged) unlogged clean-through)
-              (through-append At (removeStagingFiles cleaned) [] cleaned (ends (removeStagingFiles cleaned) cleaned staged)
-              (end (through-end (Ended final) (removeStagingFiles cleaned) cleaned staged))),
+          inr unlogged-ended,
+          ends (removeBackups unlogged ++ (removeStagingFiles cleaned ++ [])) unlogged
+              (through-append (Ended final) (removeBackups unlogged) (removeStagingFiles cleaned ++ []) unlogged clean-through
+              (through-append (Ended final) (removeStagingFiles cleaned) [] cleaned staged (through-end (Ended final) (removeStagingFiles cleaned) cleaned staged))),
         ),
       ),
     )
       where
-        ends : (xs : List Step) (v : Store) → Through (Ended final) xs v → Through At xs v
-        ends xs v h = through-map (Ended final) At (λ v h. end h) xs v h
+        ends : (xs : List Step) (v : Store) → Through (Ended final) xs v → Through (λ u. M u ⊎ Ended final u) xs v
+        ends xs v h = through-map (Ended final) (λ u. M u ⊎ Ended final u) (λ v h. inr h) xs v h
 
         staged : Through (Ended final) (removeStagingFiles cleaned) cleaned
-        staged = unstage-through final (stagingNames (cleaned .staging)) cleaned cleaned-ended
-
-    plan-through : Through At (inTurn run (commitParts commitEnd ops none) begun) begun
-    plan-through = unfold apply in (
-      mid begun-mid,
-      (
-        mid begun-mid,
-        through-append At steps (c ++ r) begun (through-map M At (λ v h. mid h) steps begun steps-through)
-            (through-append At c r (applyAll steps begun) (syncs-through At collections (applyAll steps begun) (mid applied-mid))
-            (rw (syncs-same collections (applyAll steps begun)) end-through)),
-      ),
-    )
-      where
-        c : List Step
-        c = inTurn syncExisting collections (applyAll steps begun)
-
-        r : List Step
-        r = inTurn run commitEnd (applyAll c (applyAll steps begun))
+        staged = unstage-through (Ended final) (ended-unstaged final) (stagingNames (cleaned .staging)) cleaned cleaned-ended
 
     heals-at : (n : ℕ) → SafeAt n s ops → let u : Store = applyAll (take n (commitPlan s)) s in Heals ops (treeAfter (isSome (u .log))) u
     heals-at zero z = recorded (T .logged) (sym (ap treeAfter (recorded-stands (s .log) ops whole (T .logged))))
-    heals-at (suc n) z = go at-suc
+    heals-at (suc n) z = go (at-suc commitEnd (Ended final) end-through n)
       where
         u : Store
         u = applyAll (take (suc n) (commitPlan s)) s
-
-        at-suc : At u
-        at-suc = rw (plan-is commitEnd none f) (through-take At n (inTurn run (commitParts commitEnd ops none) begun) begun plan-through)
 
         safe : SafeAt (suc n) s ops → isSome (u .log) ≡ true → Safe (s .tree) ops (u .tree)
         safe (inl e) = absurd (omega arith)
         safe (inr h) = h
 
-        go : At u → Heals ops (treeAfter (isSome (u .log))) u
-        go (mid m) =
+        go : M u ⊎ Ended final u → Heals ops (treeAfter (isSome (u .log))) u
+        go (inl m) =
             let e = committed-stands (u .log) ops whole (m .log) in
             subst (λ (l : Bool). Heals ops (treeAfter l) u) (sym e) (undoing (T .old) (T .good) (m .log) (m .inv) (safe z e))
-        go (end h) = subst (λ (l : Option Bytes). Heals ops (treeAfter (isSome l)) u) (sym (h .same)) (ended h)
+        go (inr h) = subst (λ (l : Option Bytes). Heals ops (treeAfter (isSome l)) u) (sym (h .same)) (ended h)
 
     pub after-tidy : (stood : Bool) → Tidy (treeAfter stood)
     after-tidy true = old-tidy (T .old)
     after-tidy false = final-tidy
 
     -- What it leaves when it is not cut.
-    plan-end : applyAll (inTurn run (commitParts commitEnd ops none) begun) begun ≡ withStaging [] cleaned
-    unfolding cleaned
-    plan-end =
-        applyAll-inTurn run (commitParts commitEnd ops none) begun ∙ unfold apply in
-        (ap (runOver run commitEnd) (syncs-same collections (applyAll steps begun)) ∙ staging-gone cleaned bare)
-      where
-        bare : Bare (cleaned .staging)
-        bare = steady (removeBackups unlogged) unlogged .bare (unfold apply in (steady steps begun .bare (unfold apply in (T .bare))))
+    pub up-to : upToEnd s ≡ applied
+    unfolding upToEnd
+    up-to =
+        ap (λ (o : List Op). runOver run ((λ s. syncStaging ∷ syncLog ∷ []) ∷ operationSteps o ∷ inTurn syncExisting (firstNamings [] (map collectionOf o)) ∷ []) begun)
+        (ap opsOf (T .logged))
+        ∙ unfold apply in (syncs-same collections applied)
+
+    pub applied-bare : Bare (applied .staging)
+    applied-bare = steady steps begun .bare (unfold apply in (T .bare))
 
     pub committed-end : committedAt (length (commitPlan s)) s ≡ settled final
-    unfolding final
+    unfolding final cleaned
     committed-end =
-        whole-ending commitEnd s ∙ ap (λ (xs : List Step). withoutMark (applyAll xs s)) (plan-is commitEnd none f) ∙ ap withoutMark plan-end
-        ∙ λ i. record { tree = cleaned .tree; staging = []; log = cleaned-ended .same i; openMark = false }
+        commit-leaves s f ∙ ap committedStore up-to
+        ∙ λ i. record { tree = clean i; staging = dels-all (applied .staging) applied-bare i; log = none; openMark = false }
+      where
+        clean : swept (applied .tree) ≡ cleaned .tree
+        clean = unfold apply in (sym (ap (λ (u : Store). u .tree) (sweeps unlogged)))
 
   -- A commit of marked Writes, or of other operations, that fails: at each step recovery would heal it to the files from before, and at its end they stand.
-  module _ (m : Marked ops) (e : Fault) (f : commitFault s ≡ some e) where
+  module _ (ends : List (Store → List Step)) (m : Marked ops) (e : Fault) (f : commitFault s ≡ some e) where
     xs : List Step
     xs = stepsBeforeFault steps begun
 
@@ -248,44 +257,44 @@ module _ (s : Store) (ops : List Op) (T : Transacts s ops) where
     mid-heals : (u : Store) → M u → Heals ops (s .tree) u
     mid-heals u h = undoing (T .old) (T .good) (h .log) (h .inv) (marked-safe (s .tree) ops (u .tree) (T .good) m)
 
-    failed-through : Through (Heals ops (s .tree)) (inTurn run (commitParts commitEnd ops (some e)) begun) begun
+    failed-through : Through (Heals ops (s .tree)) (inTurn run (commitParts ends ops (some e)) begun) begun
     unfolding xs failed
     failed-through = unfold apply in (
       mid-heals begun begun-mid,
       (
         mid-heals begun begun-mid,
         through-append (Heals ops (s .tree)) xs (inTurn run backs failed) begun (through-map M (Heals ops (s .tree)) mid-heals xs begun before-through)
-            (back-through ops (s .tree) (old-tidy (T .old)) m failed (T .old) (T .good) (failed-mid .log) (failed-mid .inv)
+            (back-through (committing ops whole) ops (s .tree) (old-tidy (T .old)) m failed (T .old) (T .good) (failed-mid .log) (failed-mid .inv)
             ((λ s. removeLog ∷ syncJournal ∷ []) ∷ removeStagingFiles ∷ [])
-            (last-through ops (s .tree) (old-tidy (T .old)) m (syncJournal ∷ []) (λ v z. unfold apply in (z, z)))),
+            (last-through (committing ops whole) ops (s .tree) (old-tidy (T .old)) m (syncJournal ∷ []) (λ v z. unfold apply in (z, z)))),
       ),
     )
       where
         backs : List (Store → List Step)
         backs = inTurn undoSteps (reverse ops) ∷ restoreBackups ∷ (λ s. removeLog ∷ syncJournal ∷ []) ∷ removeStagingFiles ∷ []
 
-    failed-heals : (n : ℕ) → Heals ops (s .tree) (applyAll (take n (commitPlan s)) s)
+    failed-heals : (n : ℕ) → Heals ops (s .tree) (applyAll (take n (planEnding ends s)) s)
     failed-heals zero = recorded (T .logged) refl
-    failed-heals (suc n) = rw (plan-is commitEnd (some e) f) (through-take (Heals ops (s .tree)) n (inTurn run (commitParts commitEnd ops (some e)) begun) begun failed-through)
+    failed-heals (suc n) = rw (plan-is ends (some e) f) (through-take (Heals ops (s .tree)) n (inTurn run (commitParts ends ops (some e)) begun) begun failed-through)
 
     emptied : Store → Store
     emptied u = record { tree = s .tree; staging = []; log = none; openMark = u .openMark }
 
-    failed-plan : applyAll (inTurn run (commitParts commitEnd ops (some e)) begun) begun ≡ emptied failed
+    failed-plan : applyAll (inTurn run (commitParts ends ops (some e)) begun) begun ≡ emptied failed
     unfolding xs failed emptied
     failed-plan =
-        applyAll-inTurn run (commitParts commitEnd ops (some e)) begun
+        applyAll-inTurn run (commitParts ends ops (some e)) begun
         ∙ unfold apply in (rolled-back (s .tree) failed ops (T .old) (T .good) (steady xs begun .bare (unfold apply in (T .bare))) (failed-mid .inv)
         (marked-safe (s .tree) ops (failed .tree) (T .good) m))
 
-    pub failed-end : committedAt (length (commitPlan s)) s ≡ settled (s .tree)
+    pub failed-end : endingAt ends (length (planEnding ends s)) s ≡ settled (s .tree)
     unfolding emptied
-    failed-end = whole-ending commitEnd s ∙ ap (λ (xs : List Step). withoutMark (applyAll xs s)) (plan-is commitEnd (some e) f) ∙ ap withoutMark failed-plan
+    failed-end = whole-ending ends s ∙ ap (λ (xs : List Step). withoutMark (applyAll xs s)) (plan-is ends (some e) f) ∙ ap withoutMark failed-plan
 
 -- The open mark, which goes with the last step, is no part of it.
-shut-heals : (ops : List Op) (p : Map) (m : ℕ) (u : Store) → Heals ops p u → Heals ops p (withoutMarkAtEnd m u)
-shut-heals ops p zero u h = heals-shut ops p u h
-shut-heals ops p (suc m) u h = h
+pub shut-heals : (j : Journal) (ops : List Op) (p : Map) (m : ℕ) (u : Store) → HealsFrom j ops p u → HealsFrom j ops p (withoutMarkAtEnd m u)
+shut-heals j ops p zero u h = heals-shut j ops p u h
+shut-heals j ops p (suc m) u h = h
 
 shut-log : (m : ℕ) (u : Store) → withoutMarkAtEnd m u .log ≡ u .log
 shut-log zero u = refl
@@ -299,9 +308,10 @@ cut-heals s ops T f n z =
     let u : Store = applyAll (take n (commitPlan s)) s in
     let m : ℕ = length (commitPlan s) - n in
     subst (λ (l : Option Bytes). Heals ops (treeAfter s ops T (isSome l)) (withoutMarkAtEnd m u)) (sym (shut-log m u))
-    (shut-heals ops (treeAfter s ops T (isSome (u .log))) m u (heals-at s ops T f n z))
+    (shut-heals (committing ops whole) ops (treeAfter s ops T (isSome (u .log))) m u (heals-at s ops T f n z))
 
-pub failed-cut-heals : (s : Store) (ops : List Op) → Transacts s ops → Marked ops → (e : Fault) → commitFault s ≡ some e → (n : ℕ) →
-    Heals ops (s .tree) (committedAt n s)
+pub failed-cut-heals : (ends : List (Store → List Step)) (s : Store) (ops : List Op) → Transacts s ops → Marked ops → (e : Fault) → commitFault s ≡ some e →
+    (n : ℕ) → Heals ops (s .tree) (endingAt ends n s)
 unfolding endingAt
-failed-cut-heals s ops T m e f n = shut-heals ops (s .tree) (length (commitPlan s) - n) (applyAll (take n (commitPlan s)) s) (failed-heals s ops T m e f n)
+failed-cut-heals ends s ops T m e f n =
+    shut-heals (committing ops whole) ops (s .tree) (length (planEnding ends s) - n) (applyAll (take n (planEnding ends s)) s) (failed-heals s ops T ends m e f n)

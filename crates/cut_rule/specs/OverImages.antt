@@ -15,10 +15,10 @@ use Rattle.basics.specs.Base.{Bytes, caseOption, if_then_else_, isSome, In}
 use Rattle.basics.specs.Name.{lastDot, extension, backupExtension, stagingExtension, stripExtension, originalName, stripTmp}
 use Rattle.basics.specs.Field.{hasTag}
 use Rattle.model.specs.Operation.{Op, Write, write, delete, deleteAll, createCollection, deleteCollection, copyCollection}
-use Rattle.model.specs.Log.{recording, whole, opsOf}
+use Rattle.model.specs.Log.{recording, committing, whole, journal, opsOf}
 use Rattle.model.specs.Store.{Store}
 use Rattle.model.specs.Image.{encode, decode}
-use Rattle.model.specs.Plan.{commitFault, commitPlan, committedAt}
+use Rattle.model.specs.Plan.{commitFault, commitPlan, committedAt, recoverFault, recovered}
 use Rattle.model.specs.Record.{transaction}
 use Rattle.model.specs.Step.{commitNumber}
 use Rattle.answers.specs.Answers.{Answer, answer, refusal, stepAnswer, endingStore, commit, commitStep, recoverStore, recover}
@@ -103,13 +103,11 @@ inside : (u : Store) → Good Valid u → (d f : Name) → Has (d, f) (u .tree) 
 inside u g d [] h = h
 inside u g d (y ∷ ys) h = g .tree .node d (y ∷ ys) (h .0) (h .1) .inside (λ e. nil≢cons (sym e))
 
--- What recovery answers where it heals.
-pub answered : (ops : List Op) (p : Map) (u : Store) (out : ℕ) → Tidy p → Good Valid u → Heals ops p u →
-    recover (encode u) out ≡ if_then_else_ (leb imageRoom out) (answer 0 (settled p)) (refusal 2)
+-- What recovery answers where it refuses nothing.
+pub answered : (u x : Store) (out : ℕ) → Good Valid u → recoverFault (journal (u .log)) (u .tree) ≡ none → recovered u ≡ x →
+    recover (encode u) out ≡ if_then_else_ (leb imageRoom out) (answer 0 x) (refusal 2)
 unfolding recover recoverStore
-answered ops p u out t g h =
-    let w = well-formed u g in
-    rw (decode-encode u w, heals-calm ops p u h, heals ops p u t (bare u w) h)
+answered u x out g c e = rw (decode-encode u (well-formed u g), c, e)
 
 -- An operation of a log that meets the conditions.
 op-good : (t : Map) (a : Op) → ValidOp a → PlainPlace (placeOf a) → ((w : Write) → a ≡ write w → Has (w .collection, []) t) → TrueOf t a → OpGood t a
@@ -172,4 +170,6 @@ module _ (b : Bytes) (s : Store) (ops : List Op) (C : Suits b s ops) (t : AllTru
         recover (cutAt n b) out ≡ answer 0 (settled p)
     recovers p out t h l =
         not-refused (leb imageRoom out) (recover (cutAt n b) out) (answer 0 (settled p))
-        (ap (λ (c : Bytes). recover c out) cut-image ∙ answered ops p (committedAt n s) out t (cut-good n) h) l
+        (ap (λ (c : Bytes). recover c out) cut-image
+        ∙ answered (committedAt n s) (settled p) out (cut-good n) (heals-calm (committing ops whole) ops p (committedAt n s) (inl refl) h)
+        (heals ops p (committedAt n s) t (bare (committedAt n s) (well-formed (committedAt n s) (cut-good n))) h)) l

@@ -32,7 +32,7 @@ use Rattle.cut_rule.specs.Directories.{inv-start}
 use Rattle.cut_rule.specs.Clean.{Tidy, old-tidy, Agrees, clean-all, tidied}
 use Rattle.cut_rule.specs.Heal.{Ended, HealsFrom, Heals, recorded, undoing, ended, rolled-back, heals-shut, unstage-through, ended-unstaged}
 use Rattle.cut_rule.specs.Heal.{last-through, back-through}
-use Rattle.cut_rule.specs.Apply.{Untouched, Mid, ops-apply}
+use Rattle.cut_rule.specs.Apply.{Untouched, Mid, Applied, ops-apply}
 
 -- Syncs of directories change nothing.
 sync-same : (d : Name) (u : Store) (q : Option ℕ) → applyAll (ifPresent q (syncDirectory d ∷ [])) u ≡ u
@@ -84,8 +84,8 @@ module _ (s : Store) (ops : List Op) (T : Transacts s ops) where
   begun-untouched (deleteCollection c) = (λ f. refl, λ e f p. old-dir (T .old) e f c p)
   begun-untouched (copyCollection a b x) = (λ f. refl, λ e f p. old-dir (T .old) e f b p)
 
-  steps-cautious : Cautious M steps begun
-  steps-cautious = ops-apply (s .tree) (T .old) ops (T .good) ops begun (λ a i. i) (T .apart) (λ a i. begun-untouched a) begun-mid
+  steps-apply : Cautious M steps begun × (firstFault steps begun ≡ none → Applied (s .tree) (T .old) ops (T .good) ops begun (applyAll steps begun))
+  steps-apply = ops-apply (s .tree) (T .old) ops (T .good) ops begun (λ a i. i) (T .apart) (λ a i. begun-untouched a) begun-mid
 
   pub fault-is : commitFault s ≡ firstFault steps begun
   unfolding commitFault
@@ -120,10 +120,14 @@ module _ (s : Store) (ops : List Op) (T : Transacts s ops) where
     no-fault-first = sym fault-is ∙ f
 
     steps-through : Through M steps begun
-    steps-through = cautious-through M steps begun steps-cautious no-fault-first
+    steps-through = cautious-through M steps begun (steps-apply .0) no-fault-first
 
     pub applied-mid : M applied
     applied-mid = through-end M steps begun steps-through
+
+    -- Every key that existed has its backup, so it can be undone.
+    pub applied-safe : Safe (s .tree) ops (applied .tree)
+    applied-safe w i e h = steps-apply .1 no-fault-first .backs w i h
 
     tidy : Tidy final × Agrees (unlogged .tree) (unlogged .log) cleaned
     unfolding final cleaned
@@ -245,7 +249,7 @@ module _ (s : Store) (ops : List Op) (T : Transacts s ops) where
 
     before-through : Through M xs begun
     unfolding xs
-    before-through = cautious-before M steps begun steps-cautious
+    before-through = cautious-before M steps begun (steps-apply .0)
 
     failed : Store
     failed = applyAll xs begun

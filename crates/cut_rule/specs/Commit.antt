@@ -129,7 +129,7 @@ module _ (s : Store) (ops : List Op) (T : Transacts s ops) where
     pub applied-safe : Safe (s .tree) ops (applied .tree)
     applied-safe w i e h = steps-apply .1 no-fault-first .backs w i h
 
-    tidy : Tidy final × Agrees (unlogged .tree) (unlogged .log) cleaned
+    tidy : Tidy final × Agrees final (unlogged .log) unlogged
     unfolding final cleaned
     tidy = tidied unlogged (unfold apply in (applied-mid .inv .sorted)) (unfold apply in (applied-mid .inv .inside))
 
@@ -137,17 +137,11 @@ module _ (s : Store) (ops : List Op) (T : Transacts s ops) where
     final-tidy = tidy .0
 
     -- It has the plain names that stand after the operations' steps.
-    pub final-agrees : (d k : Name) → originalName d ≡ none → originalName k ≡ none → look (d, k) final ≡ look (d, k) (applyAll steps begun .tree)
-    unfolding final
-    final-agrees d k p q = tidy .1 .agrees d k p q ∙ unfold apply in refl
-
     pub unlogged-ended : Ended final unlogged
-    unlogged-ended = unfold apply in record {
-      same = refl;
-      sorted = applied-mid .inv .sorted;
-      inside = applied-mid .inv .inside;
-      agrees = λ d k p q. sym (final-agrees d k p q);
-    }
+    unlogged-ended = unfold apply in (tidy .1)
+
+    pub final-agrees : (d k : Name) → originalName d ≡ none → originalName k ≡ none → look (d, k) final ≡ look (d, k) (applied .tree)
+    final-agrees d k p q = sym (unlogged-ended .agrees d k p q) ∙ unfold apply in refl
 
     -- With either end: each step is one of the operations', or one of the end, of which E holds.
     module _ (ends : List (Store → List Step)) (E : Store → Type 0) where

@@ -20,7 +20,7 @@ use Rattle.model.specs.Store.{Store, stagingKey, stagingNames}
 use Rattle.model.specs.Image.{decode}
 use Rattle.model.specs.Step.{Step, renameFile, stepField}
 use Rattle.model.specs.Plan.{commitPlan}
-use Rattle.answers.specs.Answers.{answer, commit, commitStep, recover, recoverStep, hold, keep}
+use Rattle.answers.specs.Answers.{answer, commit, commitStep, recover, recoverStep, hold, keep, revert}
 use Rattle.laws.specs.Listings.{Once}
 
 -- A name ends in .bak, or in .tmp: as text, whatever stands before the dot.
@@ -180,6 +180,15 @@ heldImage b = hold b imageRoom .image
 -- "keep gives the ordinary commit's image": of every transaction that commits, whatever its operations, and byte for byte, for every length of the output.
 abbrev pub HoldKeep : Type 0
 HoldKeep = (b : Bytes) (out : ℕ) → commit b imageRoom .number ≡ 0 → (hold b imageRoom .number ≡ 0) × (keep (heldImage b) out ≡ commit b out)
+
+-- "revert after an uncut held commit gives exactly the collections, names and contents from before": hold answers 0, and revert, "unless given 2".
+abbrev pub RevertGives : Bytes → Store → ℕ → Type 0
+RevertGives b s out =
+    (hold b imageRoom .number ≡ 0) × ((revert (heldImage b) out .number ≡ 2 → ⊥) → revert (heldImage b) out ≡ answer 0 (settled (s .tree)))
+
+-- "For transactions under the cut rule's conditions": Writes of kinds 1 and 7, in any mix, with true marks.
+abbrev pub HoldRevert : Type 0
+HoldRevert = (b : Bytes) (s : Store) (ws : List Write) (out : ℕ) → Conditions b s ws → TrueMarks (s .tree) ws → RevertGives b s out
 
 -- 02, item 13: "w Writes, at least one, b of their keys already there, c distinct collections named by them, s staging files that no Write names".
 abbrev pub count : {A : Type 0} → (A → Bool) → List A → ℕ

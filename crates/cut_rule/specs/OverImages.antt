@@ -94,7 +94,7 @@ pub within-plan : (t : Bool) (a : Answer) → if_then_else_ t a (refusal 16) .nu
 within-plan true a e = refl
 within-plan false a e = absurd (omega arith)
 
-not-refused : (t : Bool) (a c : Answer) → a ≡ if_then_else_ t c (refusal 2) → (a .number ≡ 2 → ⊥) → a ≡ c
+pub not-refused : (t : Bool) (a c : Answer) → a ≡ if_then_else_ t c (refusal 2) → (a .number ≡ 2 → ⊥) → a ≡ c
 not-refused true a c e h = e
 not-refused false a c e h = absurd (h (ap (λ (x : Answer). x .number) e))
 

@@ -16,8 +16,8 @@ use Rattle.model.specs.Log.{Journal, committing, whole, journal}
 use Rattle.model.specs.Store.{Store}
 use Rattle.model.specs.Image.{encode}
 use Rattle.model.specs.Step.{Fault}
-use Rattle.model.specs.Plan.{commitEnd, commitFault, committedAt, recoverFault, recoverPlan, recoveredAt, recovered, withoutMark}
-use Rattle.answers.specs.Answers.{Answer, answer, refusal, stepAnswer, recover, recoverStep}
+use Rattle.model.specs.Plan.{commitFault, committedAt, recoverFault, recoverPlan, recoveredAt, recovered, withoutMark}
+use Rattle.answers.specs.Answers.{answer, refusal, recover, recoverStep}
 use Rattle.basic_laws.specs.MapLaws.{none≢some}
 use Rattle.laws.specs.ImageLaws.{decode-encode}
 use Rattle.laws.specs.StoreLaws.{Good, well-formed, bare}
@@ -30,7 +30,7 @@ use Rattle.cut_rule.specs.Directories.{Inv}
 use Rattle.cut_rule.specs.Clean.{Tidy, old-tidy}
 use Rattle.cut_rule.specs.Heal.{HealsFrom, Heals, recorded, undoing, ended, heals, heals-calm, heals-cut}
 use Rattle.cut_rule.specs.Commit.{treeAfter, after-tidy, cut-heals, failed-cut-heals}
-use Rattle.cut_rule.specs.OverImages.{twice, Found, found-in, within-plan, answered, transacts, cut-good, cut-image}
+use Rattle.cut_rule.specs.OverImages.{twice, Found, found-in, at-step, answered, transacts, cut-good, cut-image}
 use Rattle.cut_rule.specs.Writes.{suits, all-true, truly-true, truly-marked}
 
 -- No backup of a backup stands where what was done can be undone, so a cut of recovery leaves a well-formed store.
@@ -51,9 +51,8 @@ pub record Recovers (I : Store → Type 0) (x : Store) : Type 0 where
 pub step-image : (u : Store) (n : ℕ) → Good Valid u → recoverFault (journal (u .log)) (u .tree) ≡ none →
     recoverStep n (encode u) imageRoom stepRoom .number ≡ 0 → recoverStep n (encode u) imageRoom stepRoom .image ≡ encode (recoveredAt n u)
 step-image u n g c e =
-    let a : recoverStep n (encode u) imageRoom stepRoom ≡ stepAnswer n (recoverPlan (withoutMark u)) (recoveredAt n u) =
-    unfold recoverStep in (rw (decode-encode u (well-formed u g), c)) in
-    ap (λ (x : Answer). x .image) (a ∙ within-plan (leb n (length (recoverPlan (withoutMark u)))) _ (ap (λ (x : Answer). x .number) (sym a) ∙ e))
+    at-step (recoverStep n (encode u) imageRoom stepRoom) n (recoverPlan (withoutMark u)) (recoveredAt n u)
+    (unfold recoverStep in (rw (decode-encode u (well-formed u g), c))) e
 
 pub again : (I : Store → Type 0) (x : Store) → Recovers I x → (out : ℕ) (ms : List ℕ) (u : Store) → Good Valid u → I u → InPlans ms (encode u) →
     recover (cutRecoveries ms (encode u)) out ≡ if_then_else_ (leb imageRoom out) (answer 0 x) (refusal 2)
@@ -102,7 +101,7 @@ kinds-again b s ops n ms out C t m c e i =
     go none f =
         let log : Bool = isSome (committedAt n s .log) in
         from (treeAfter s ops T log) (after-tidy s ops T f log) (cut-heals s ops T f n (inr (λ z. marked-safe (s .tree) ops _ (T .good) m)))
-    go (some x) f = from (s .tree) (old-tidy (T .old)) (failed-cut-heals commitEnd s ops T m x f n)
+    go (some x) f = from (s .tree) (old-tidy (T .old)) (failed-cut-heals s ops T m x f n)
 
 -- Item 5.
 pub again-rule : AgainRule

@@ -237,7 +237,7 @@ module _ (s : Store) (ops : List Op) (T : Transacts s ops) where
         clean = unfold apply in (sym (ap (λ (u : Store). u .tree) (sweeps unlogged)))
 
   -- A commit of marked Writes, or of other operations, that fails: at each step recovery would heal it to the files from before, and at its end they stand.
-  module _ (ends : List (Store → List Step)) (m : Marked ops) (e : Fault) (f : commitFault s ≡ some e) where
+  module _ (m : Marked ops) (e : Fault) (f : commitFault s ≡ some e) where
     xs : List Step
     xs = stepsBeforeFault steps begun
 
@@ -255,7 +255,7 @@ module _ (s : Store) (ops : List Op) (T : Transacts s ops) where
     mid-heals : (u : Store) → M u → Heals ops (s .tree) u
     mid-heals u h = undoing (T .old) (T .good) (h .log) (h .inv) (marked-safe (s .tree) ops (u .tree) (T .good) m)
 
-    failed-through : Through (Heals ops (s .tree)) (inTurn run (commitParts ends ops (some e)) begun) begun
+    failed-through : Through (Heals ops (s .tree)) (inTurn run (commitParts commitEnd ops (some e)) begun) begun
     unfolding xs failed
     failed-through = unfold apply in (
       mid-heals begun begun-mid,
@@ -271,23 +271,23 @@ module _ (s : Store) (ops : List Op) (T : Transacts s ops) where
         backs : List (Store → List Step)
         backs = inTurn undoSteps (reverse ops) ∷ restoreBackups ∷ (λ s. removeLog ∷ syncJournal ∷ []) ∷ removeStagingFiles ∷ []
 
-    failed-heals : (n : ℕ) → Heals ops (s .tree) (applyAll (take n (planEnding ends s)) s)
+    failed-heals : (n : ℕ) → Heals ops (s .tree) (applyAll (take n (commitPlan s)) s)
     failed-heals zero = recorded (T .logged) refl
-    failed-heals (suc n) = rw (plan-is ends (some e) f) (through-take (Heals ops (s .tree)) n (inTurn run (commitParts ends ops (some e)) begun) begun failed-through)
+    failed-heals (suc n) = rw (plan-is commitEnd (some e) f) (through-take (Heals ops (s .tree)) n (inTurn run (commitParts commitEnd ops (some e)) begun) begun failed-through)
 
     emptied : Store → Store
     emptied u = record { tree = s .tree; staging = []; log = none; openMark = u .openMark }
 
-    failed-plan : applyAll (inTurn run (commitParts ends ops (some e)) begun) begun ≡ emptied failed
+    failed-plan : applyAll (inTurn run (commitParts commitEnd ops (some e)) begun) begun ≡ emptied failed
     unfolding xs failed emptied
     failed-plan =
-        applyAll-inTurn run (commitParts ends ops (some e)) begun
+        applyAll-inTurn run (commitParts commitEnd ops (some e)) begun
         ∙ unfold apply in (rolled-back (s .tree) failed ops (T .old) (T .good) (steady xs begun .bare (unfold apply in (T .bare))) (failed-mid .inv)
         (marked-safe (s .tree) ops (failed .tree) (T .good) m))
 
-    pub failed-end : endingAt ends (length (planEnding ends s)) s ≡ settled (s .tree)
+    pub failed-end : committedAt (length (commitPlan s)) s ≡ settled (s .tree)
     unfolding emptied
-    failed-end = whole-ending ends s ∙ ap (λ (xs : List Step). withoutMark (applyAll xs s)) (plan-is ends (some e) f) ∙ ap withoutMark failed-plan
+    failed-end = whole-ending commitEnd s ∙ ap (λ (xs : List Step). withoutMark (applyAll xs s)) (plan-is commitEnd (some e) f) ∙ ap withoutMark failed-plan
 
 -- The open mark, which goes with the last step, is no part of it.
 pub shut-heals : (j : Journal) (ops : List Op) (p : Map) (m : ℕ) (u : Store) → HealsFrom j ops p u → HealsFrom j ops p (withoutMarkAtEnd m u)
@@ -308,8 +308,8 @@ cut-heals s ops T f n z =
     subst (λ (l : Option Bytes). Heals ops (treeAfter s ops T (isSome l)) (withoutMarkAtEnd m u)) (sym (shut-log m u))
     (shut-heals (committing ops whole) ops (treeAfter s ops T (isSome (u .log))) m u (heals-at s ops T f n z))
 
-pub failed-cut-heals : (ends : List (Store → List Step)) (s : Store) (ops : List Op) → Transacts s ops → Marked ops → (e : Fault) → commitFault s ≡ some e →
-    (n : ℕ) → Heals ops (s .tree) (endingAt ends n s)
+pub failed-cut-heals : (s : Store) (ops : List Op) → Transacts s ops → Marked ops → (e : Fault) → commitFault s ≡ some e → (n : ℕ) →
+    Heals ops (s .tree) (committedAt n s)
 unfolding endingAt
-failed-cut-heals ends s ops T m e f n =
-    shut-heals (committing ops whole) ops (s .tree) (length (planEnding ends s) - n) (applyAll (take n (planEnding ends s)) s) (failed-heals s ops T ends m e f n)
+failed-cut-heals s ops T m e f n =
+    shut-heals (committing ops whole) ops (s .tree) (length (commitPlan s) - n) (applyAll (take n (commitPlan s)) s) (failed-heals s ops T m e f n)

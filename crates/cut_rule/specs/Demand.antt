@@ -20,7 +20,7 @@ use Rattle.model.specs.Store.{Store, stagingKey, stagingNames}
 use Rattle.model.specs.Image.{decode}
 use Rattle.model.specs.Step.{Step, renameFile, stepField}
 use Rattle.model.specs.Plan.{commitPlan}
-use Rattle.answers.specs.Answers.{answer, commit, commitStep, recover, recoverStep, hold, keep, revert}
+use Rattle.answers.specs.Answers.{Answer, answer, commit, commitStep, recover, recoverStep, hold, holdStep, keep, keepStep, revert}
 use Rattle.laws.specs.Listings.{Once}
 
 -- A name ends in .bak, or in .tmp: as text, whatever stands before the dot.
@@ -173,9 +173,12 @@ AgainRule =
     Either b s ws → TrulyMarked (s .tree) ws → commitStep n b imageRoom stepRoom .number ≡ 0 → InPlans ms (cutAt n b) →
     recover (cutRecoveries ms (cutAt n b)) out ≡ recover (cutAt n b) out
 
--- 02, item 6: what an uncut held commit hands back.
+-- 02, item 6: what an uncut held commit hands back; what its step entry hands back at n.
 abbrev pub heldImage : Bytes → Bytes
 heldImage b = hold b imageRoom .image
+
+abbrev pub holdCutAt : ℕ → Bytes → Bytes
+holdCutAt n b = holdStep n b imageRoom stepRoom .image
 
 -- "keep gives the ordinary commit's image": of every transaction that commits, whatever its operations, and byte for byte, for every length of the output.
 abbrev pub HoldKeep : Type 0
@@ -189,6 +192,35 @@ RevertGives b s out =
 -- "For transactions under the cut rule's conditions": Writes of kinds 1 and 7, in any mix, with true marks.
 abbrev pub HoldRevert : Type 0
 HoldRevert = (b : Bytes) (s : Store) (ws : List Write) (out : ℕ) → Conditions b s ws → TrueMarks (s .tree) ws → RevertGives b s out
+
+-- Beyond document 02: a held commit that goes through is cut after any of its steps n, its recoveries too, any number of times. Once one runs to its end the
+-- store is exactly the one from before, where no Held log stands at the cut (keep's step 0 gives 18), else exactly the one that hold hands back uncut.
+abbrev pub HoldGives : Bytes → Store → ℕ → List ℕ → ℕ → Type 0
+HoldGives b s n ms out =
+    let c : Bytes = holdCutAt n b in
+    let r : Answer = recover (cutRecoveries ms c) out in
+    holdStep n b imageRoom stepRoom .number ≡ 0 → InPlans ms c → (r .number ≡ 2 → ⊥) →
+    ((keepStep 0 c imageRoom stepRoom .number ≡ 18) × (r ≡ answer 0 (settled (s .tree))))
+    ⊎ ((keepStep 0 c imageRoom stepRoom .number ≡ 0) × (r ≡ hold b imageRoom))
+
+-- For marked Writes with true marks.
+abbrev pub HoldRule : Type 0
+HoldRule =
+    (b : Bytes) (s : Store) (ws : List Write) (n : ℕ) (ms : List ℕ) (out : ℕ) → Conditions b s ws → TrulyMarked (s .tree) ws → HoldGives b s n ms out
+
+-- "A held commit that fails rolls back as before": whatever its operations, it answers as the ordinary one, and so does its step entry.
+abbrev pub HoldFails : Type 0
+HoldFails =
+    (b : Bytes) → (commit b imageRoom .number ≡ 14) ⊎ (commit b imageRoom .number ≡ 15) →
+    ((out : ℕ) → hold b out ≡ commit b out) × ((n out stepOut : ℕ) → holdStep n b out stepOut ≡ commitStep n b out stepOut)
+
+-- So with true marks it hands back exactly the directories and files from before, and recovery from any cut of it does, recoveries cut any number of times.
+abbrev pub HoldFailing : Type 0
+HoldFailing =
+    (b : Bytes) (s : Store) (ws : List Write) (n : ℕ) (ms : List ℕ) (out : ℕ) → Failing b s ws → TrulyMarked (s .tree) ws →
+    let r : Answer = recover (cutRecoveries ms (holdCutAt n b)) out in
+    (heldImage b ≡ answer 0 (settled (s .tree)) .image)
+    × (holdStep n b imageRoom stepRoom .number ≡ 0 → InPlans ms (holdCutAt n b) → (r .number ≡ 2 → ⊥) → r ≡ answer 0 (settled (s .tree)))
 
 -- 02, item 13: "w Writes, at least one, b of their keys already there, c distinct collections named by them, s staging files that no Write names".
 abbrev pub count : {A : Type 0} → (A → Bool) → List A → ℕ

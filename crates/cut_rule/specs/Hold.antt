@@ -45,3 +45,47 @@ module _ (s : Store) (ops : List Op) (T : Transacts s ops) (f : commitFault s �
   -- Revert gives it the files from before.
   pub hold-reverts : Reverts ops (s .tree) onHold
   hold-reverts = undoing (T .old) (T .good) held-journal (applied-mid s ops T f .inv) (applied-safe s ops T f)
+
+  -- Cut anywhere, with marked Writes: recovery gives the files from before, or the log is Held, and recovery leaves the tree and the log.
+  abbrev pub OnHold : Store → Type 0
+  OnHold = Still (a .tree) (markedHeld (a .log))
+
+  hold-through : Through (λ u. M u ⊎ OnHold u) (inTurn run holdEnd a) a
+  unfolding apply
+  hold-through = (
+    inl (applied-mid s ops T f),
+    (
+      inl (applied-mid s ops T f),
+      (
+        inr begin,
+        through-map OnHold (λ u. M u ⊎ OnHold u) (λ u h. inr h) (removeStagingFiles v ++ []) v
+            (through-append OnHold (removeStagingFiles v) [] v st (through-end OnHold (removeStagingFiles v) v st)),
+      ),
+    ),
+  )
+    where
+      v : Store
+      v = record { tree = a .tree; staging = a .staging; log = markedHeld (a .log); openMark = a .openMark }
+
+      begin : OnHold v
+      begin = record { tree = refl; log = refl }
+
+      st : Through OnHold (removeStagingFiles v) v
+      st = unstage-through OnHold (still-unstaged (a .tree) (markedHeld (a .log))) (stagingNames (v .staging)) v begin
+
+  pub hold-cut : Marked ops → (n : ℕ) → Heals ops (s .tree) (heldAt n s) ⊎ OnHold (heldAt n s)
+  unfolding endingAt
+  hold-cut m n = shut (length (holdPlan s) - n) (applyAll (take n (holdPlan s)) s) (at n)
+    where
+      mid : (u : Store) → M u ⊎ OnHold u → Heals ops (s .tree) u ⊎ OnHold u
+      mid u (inl h) = inl (undoing (T .old) (T .good) (h .log) (h .inv) (marked-safe (s .tree) ops (u .tree) (T .good) m))
+      mid u (inr h) = inr h
+
+      at : (n : ℕ) → let u : Store = applyAll (take n (holdPlan s)) s in Heals ops (s .tree) u ⊎ OnHold u
+      at zero = inl (recorded (T .logged) refl)
+      at (suc n) = mid (applyAll (take (suc n) (holdPlan s)) s) (at-suc s ops T f holdEnd OnHold hold-through n)
+
+      shut : (k : ℕ) (u : Store) → Heals ops (s .tree) u ⊎ OnHold u → Heals ops (s .tree) (withoutMarkAtEnd k u) ⊎ OnHold (withoutMarkAtEnd k u)
+      shut k u (inl h) = inl (shut-heals (committing ops whole) ops (s .tree) k u h)
+      shut zero u (inr h) = inr record { tree = h .tree; log = h .log }
+      shut (suc k) u (inr h) = inr h

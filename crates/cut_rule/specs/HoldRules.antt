@@ -2,44 +2,50 @@
 use mathlib.Core.Path.{_≡_, refl, sym, _∙_, ap, subst}
 use Prim.Native.Nat.{ℕ}
 use native.Mathlib.Omega.{arith}
-use mathlib.Core.List.{List, map}
+use mathlib.Core.List.{List, [], map}
 use mathlib.Core.Option.{Option, none, some}
-use mathlib.Core.Bool.{Bool, true}
+use mathlib.Core.Bool.{Bool, true, false, _&&_}
+use mathlib.Core.Logic.{_⊎_, inl, inr}
 use lib.ListN.{length}
 use lib.Dec.{leb}
-use Rattle.basics.specs.Limits.{imageRoom}
+use Rattle.basics.specs.Limits.{imageRoom, stepRoom}
 use Rattle.basics.specs.Map.{Map}
 use Rattle.basics.specs.Base.{Bytes, caseOption, if_then_else_}
 use Rattle.model.specs.Operation.{Op, write}
 use Rattle.model.specs.Log.{journal, held, whole, isHeld}
 use Rattle.model.specs.Store.{Store}
 use Rattle.model.specs.Image.{encode, decode}
-use Rattle.model.specs.Plan.{commitFault, committedAt, commitPlan, heldAt, holdPlan, kept}
-use Rattle.answers.specs.Answers.{Answer, answer, refusal, endingStore, commitStore, commit, hold, keepStore, keep, revertStore, revert}
+use Rattle.model.specs.Step.{Step, Fault, commitNumber}
+use Rattle.model.specs.Plan.{commitFault, commitEnd, holdEnd, committedAt, commitPlan, heldAt, holdPlan, keepPlan, kept, withoutMark}
+use Rattle.answers.specs.Answers.{Answer, answer, refusal, endingStore, commitStore, stepAnswer, commit, commitStep, recover, hold, holdStep, keepStore, keep, keepStep, revertStore, revert}
+use Rattle.basic_laws.specs.Tests.{le-leb}
 use Rattle.basic_laws.specs.ValidNames.{Valid}
 use Rattle.laws.specs.ImageLaws.{decode-encode}
 use Rattle.laws.specs.StoreLaws.{Good, well-formed, bare}
 use Rattle.laws.specs.LogLaws.{found-whole}
-use Rattle.laws.specs.EndLaws.{keep-held, held-log}
-use Rattle.laws.specs.WellFormed.{hold-keeps}
+use Rattle.laws.specs.EndLaws.{keep-held, held-log, failing-plan, failing-at}
+use Rattle.laws.specs.WellFormed.{hold-keeps, recover-keeps-valid}
 use Rattle.answer_laws.specs.EntryLaws.{lent-good}
-use Rattle.cut_rule.specs.Demand.{settled, heldImage, HoldKeep, HoldRevert}
-use Rattle.cut_rule.specs.Kinds.{Suits, AllTrue, KindsRevert}
+use Rattle.cut_rule.specs.Demand.{settled, cutRecoveries, InPlans, heldImage, holdCutAt, HoldKeep, HoldRevert, HoldRule, HoldFails, HoldFailing}
+use Rattle.cut_rule.specs.Kinds.{Suits, AllTrue, KindsRevert, KindsHold}
 use Rattle.cut_rule.specs.StoreRule.{Transacts}
 use Rattle.cut_rule.specs.Clean.{Tidy, old-tidy}
-use Rattle.cut_rule.specs.Heal.{Reverts, reverts, reverts-calm}
-use Rattle.cut_rule.specs.Hold.{onHold, held-end, held-journal, hold-reverts}
-use Rattle.cut_rule.specs.OverImages.{Found, committed, transacts, not-refused}
-use Rattle.cut_rule.specs.Writes.{suits, all-true}
+use Rattle.cut_rule.specs.Heal.{Heals, recorded, undoing, ended, Still, still-calm, still-cut, still-recovered, Reverts, reverts, reverts-calm}
+use Rattle.cut_rule.specs.Hold.{onHold, held-end, held-journal, hold-reverts, OnHold, hold-cut}
+use Rattle.cut_rule.specs.OverImages.{Found, found-in, commit-gives, committed, transacts, at-step, not-refused}
+use Rattle.cut_rule.specs.Writes.{suits, all-true, truly-true, truly-marked}
+use Rattle.cut_rule.specs.KindsRule.{fault-of, not-4}
+use Rattle.cut_rule.specs.Theorem.{failing-commit, failing-rule}
+use Rattle.cut_rule.specs.Again.{Recovers, again, healing, again-rule, either}
 
--- An image whose commit answers 0 holds a store.
-decoded : (b : Bytes) → commit b imageRoom .number ≡ 0 → (s : Store) × (decode b ≡ some s)
+-- An image whose commit is not given 1 holds a store.
+decoded : (b : Bytes) → (commit b imageRoom .number ≡ 1 → ⊥) → (s : Store) × (decode b ≡ some s)
 unfolding commit
-decoded b e = go (decode b) refl e
+decoded b h = go (decode b) refl h
   where
-    go : (q : Option Store) → decode b ≡ q → caseOption q (refusal 1) commitStore .number ≡ 0 → (s : Store) × (decode b ≡ some s)
-    go none d e = absurd (omega arith)
-    go (some s) d e = (s, d)
+    go : (q : Option Store) → decode b ≡ q → (caseOption q (refusal 1) commitStore .number ≡ 1 → ⊥) → (s : Store) × (decode b ≡ some s)
+    go none d h = absurd (h refl)
+    go (some s) d h = (s, d)
 
 -- What hold gives where no step fails; what commit gives then.
 pub hold-done : (b : Bytes) (s : Store) → decode b ≡ some s → Found s × (commitFault s ≡ none) → hold b imageRoom ≡ answer 0 (heldAt (length (holdPlan s)) s)
@@ -64,10 +70,10 @@ hold-keep b out e = (
 )
   where
     s : Store
-    s = decoded b e .0
+    s = decoded b (λ z. omega arith) .0
 
     d : decode b ≡ some s
-    d = decoded b e .1
+    d = decoded b (λ z. omega arith) .1
 
     k : Found s × (commitFault s ≡ none)
     k = committed b s d e
@@ -125,3 +131,113 @@ kinds-revert b s ops out C t c = (
 
 pub hold-revert : HoldRevert
 hold-revert b s ws out C m = kinds-revert b s (map write ws) out (suits C) (all-true (s .tree) ws m) (C .committed)
+
+-- Recovery leaves what is on hold.
+staying : (tr : Map) (lg : Option Bytes) (ops : List Op) → journal lg ≡ held ops whole →
+    Recovers (Still tr lg) (record { tree = tr; staging = []; log = lg; openMark = false })
+staying tr lg ops e = record {
+  calm = still-calm tr lg ops e;
+  good = λ u g h. recover-keeps-valid u g (λ l z. let j = ap journal (h .log) ∙ e in let y : _≡_ {A = ℕ} 0 1 = cc in omega arith);
+  stays = still-cut tr lg ops e;
+  gives = λ u g h. still-recovered tr lg ops e u (bare u (well-formed u g)) h;
+}
+
+-- Keep's step 0 says whether a Held log stands.
+asked : (u : Store) (t : Bool) → Good Valid u → isHeld (journal (u .log)) ≡ t → keepStep 0 (encode u) imageRoom stepRoom .number ≡ (if t then 0 else 18)
+unfolding keepStep
+asked u true g q = let z = le-leb 0 (length (keepPlan (withoutMark u))) (omega arith) in rw (decode-encode u (well-formed u g), q, z)
+asked u false g q = rw (decode-encode u (well-formed u g), q)
+
+heals-free : (ops : List Op) (p : Map) (u : Store) → Heals ops p u → isHeld (journal (u .log)) ≡ false
+heals-free ops p u (recorded e q) = ap isHeld e
+heals-free ops p u (undoing o g e i k) = ap isHeld e
+heals-free ops p u (ended h) = ap (λ (l : Option Bytes). isHeld (journal l)) (h .same)
+
+pub kinds-hold : KindsHold
+unfolding H
+kinds-hold b s ops n ms out C t m c e i l = go (hold-cut s ops T₁ (f .1) m n)
+  where
+    f : Found s × (commitFault s ≡ none)
+    f = k b s ops C t c
+
+    T₁ : Transacts s ops
+    T₁ = T b s ops C t c
+
+    u : Store
+    u = heldAt n s
+
+    g : Good Valid u
+    g = hold-keeps s (lent-good b s (C .holds)) (f .1) n
+
+    x : holdCutAt n b ≡ encode u
+    x = at-step (holdStep n b imageRoom stepRoom) n (holdPlan s) u (unfold holdStep in (rw (C .holds, f .0 .found))) e
+
+    ask : (t : Bool) → isHeld (journal (u .log)) ≡ t → keepStep 0 (holdCutAt n b) imageRoom stepRoom .number ≡ (if t then 0 else 18)
+    ask t q = ap (λ (c : Bytes). keepStep 0 c imageRoom stepRoom .number) x ∙ asked u t g q
+
+    gives : (I : Store → Type 0) (y : Store) → Recovers I y → I u → recover (cutRecoveries ms (holdCutAt n b)) out ≡ answer 0 y
+    gives I y r h =
+        not-refused (leb imageRoom out) (recover (cutRecoveries ms (holdCutAt n b)) out) (answer 0 y)
+        (ap (λ (c : Bytes). recover (cutRecoveries ms c) out) x ∙ again I y r out ms u g h (subst (InPlans ms) x i)) l
+
+    lg : Option Bytes
+    lg = onHold s ops T₁ (f .1) .log
+
+    go : Heals ops (s .tree) u ⊎ OnHold s ops T₁ (f .1) u →
+        let c : Bytes = holdCutAt n b in
+        let r : Answer = recover (cutRecoveries ms c) out in
+        ((keepStep 0 c imageRoom stepRoom .number ≡ 18) × (r ≡ answer 0 (settled (s .tree)))) ⊎ ((keepStep 0 c imageRoom stepRoom .number ≡ 0) × (r ≡ hold b imageRoom))
+    go (inl h) = inl (
+      ask false (heals-free ops (s .tree) u h),
+      gives (Heals ops (s .tree)) (settled (s .tree)) (healing ops (s .tree) (old-tidy (T₁ .old)) m) h,
+    )
+    go (inr h) = inr (
+      ask true (ap isHeld (ap journal (h .log) ∙ held-journal s ops T₁ (f .1))),
+      gives (OnHold s ops T₁ (f .1)) (onHold s ops T₁ (f .1)) (staying (onHold s ops T₁ (f .1) .tree) lg ops (held-journal s ops T₁ (f .1))) h
+          ∙ sym (unfold H in (hold-is b s ops C t c)),
+    )
+
+pub hold-rule : HoldRule
+hold-rule b s ws n ms out C m =
+    kinds-hold b s (map write ws) n ms out (suits C) (all-true (s .tree) ws (truly-true (s .tree) ws m)) (truly-marked (s .tree) ws m) (C .committed)
+
+-- A held commit that fails is an ordinary one.
+pub hold-fails : HoldFails
+hold-fails b c = (
+  λ out. unfold hold commit endingStore in (rw (d, k .found) (ap (λ (u : Store). if_then_else_ (leb imageRoom out) (answer (commitNumber (commitFault s)) u) (refusal 2)) end)),
+  λ n out stepOut. unfold holdStep commitStep in (rw (d, k .found)
+      λ i. if_then_else_ (leb imageRoom out && leb stepRoom stepOut) (stepAnswer n (plan i) (failing-at holdEnd commitEnd s (f .0) (f .1) n i)) (refusal 2)),
+)
+  where
+    not-1 : (x : ℕ) → (x ≡ 14) ⊎ (x ≡ 15) → x ≡ 1 → ⊥
+    not-1 x (inl p) q = omega arith
+    not-1 x (inr p) q = omega arith
+
+    s : Store
+    s = decoded b (not-1 _ c) .0
+
+    d : decode b ≡ some s
+    d = decoded b (not-1 _ c) .1
+
+    k : Found s
+    k = found-in b s d (not-4 _ c)
+
+    f : (e : Fault) × (commitFault s ≡ some e)
+    f = fault-of (commitFault s) (subst (λ (a : Answer). (a .number ≡ 14) ⊎ (a .number ≡ 15)) (commit-gives b s d k) c)
+
+    plan : holdPlan s ≡ commitPlan s
+    plan = failing-plan holdEnd commitEnd s (f .0) (f .1)
+
+    end : heldAt (length (holdPlan s)) s ≡ committedAt (length (commitPlan s)) s
+    end = ap (λ (l : List Step). heldAt (length l) s) plan ∙ failing-at holdEnd commitEnd s (f .0) (f .1) (length (commitPlan s))
+
+pub hold-failing : HoldFailing
+hold-failing b s ws n ms out C m = (
+  ap (λ (a : Answer). a .image) (h .0 imageRoom) ∙ failing-commit b s ws C m,
+  subst (λ (a : Answer). a .number ≡ 0 → InPlans ms (a .image) → (recover (cutRecoveries ms (a .image)) out .number ≡ 2 → ⊥) →
+      recover (cutRecoveries ms (a .image)) out ≡ answer 0 (settled (s .tree))) (sym (h .1 n imageRoom stepRoom))
+      λ e i l. let r = again-rule b s ws n ms out (either not-4 C) m e i in r ∙ failing-rule b s ws n out C m e (subst (λ (a : Answer). a .number ≡ 2 → ⊥) r l),
+)
+  where
+    h : ((out : ℕ) → hold b out ≡ commit b out) × ((n out stepOut : ℕ) → holdStep n b out stepOut ≡ commitStep n b out stepOut)
+    h = hold-fails b (C .committed)

@@ -15,7 +15,7 @@ use Rattle.model.specs.Log.{journal, opsOf}
 use Rattle.model.specs.Store.{Store}
 use Rattle.model.specs.Image.{encode, decode}
 use Rattle.answers.specs.Answers.{commit, commitStep, recover}
-use Rattle.cut_rule.specs.Demand.{NoExtension, TrueMark, settled, cutAt, cutRecoveries, InPlans, RevertGives}
+use Rattle.cut_rule.specs.Demand.{NoExtension, TrueMark, settled, cutAt, cutRecoveries, InPlans, RevertGives, HoldGives}
 
 -- What an operation touches: a key of a collection, or a collection as a whole. A copy touches its destination; its source it only reads.
 pub data Place : Type 0 where
@@ -105,3 +105,9 @@ KindsAgain =
 abbrev pub KindsRevert : Type 0
 KindsRevert =
     (b : Bytes) (s : Store) (ops : List Op) (out : ℕ) → Suits b s ops → AllTrue (s .tree) ops → commit b imageRoom .number ≡ 0 → RevertGives b s out
+
+-- And cut.
+abbrev pub KindsHold : Type 0
+KindsHold =
+    (b : Bytes) (s : Store) (ops : List Op) (n : ℕ) (ms : List ℕ) (out : ℕ) → Suits b s ops → AllTrue (s .tree) ops → Marked ops →
+    commit b imageRoom .number ≡ 0 → HoldGives b s n ms out

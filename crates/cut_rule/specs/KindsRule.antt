@@ -11,7 +11,7 @@ use Rattle.basics.specs.Base.{Bytes, isSome, if_then_else_}
 use Rattle.basics.specs.Field.{hasTag}
 use Rattle.model.specs.Image.{encode}
 use Rattle.model.specs.Step.{Fault, commitNumber}
-use Rattle.model.specs.Plan.{commitEnd, commitFault, committedAt}
+use Rattle.model.specs.Plan.{commitFault, committedAt}
 use Rattle.answers.specs.Answers.{Answer, commit}
 use Rattle.cut_rule.specs.Demand.{settled, cutAt}
 use Rattle.cut_rule.specs.Kinds.{KindsRule, KindsFailing}
@@ -42,12 +42,12 @@ kinds-rule b s ops n out C t m c e l =
     by-log true = refl
     by-log false = sym (ap (λ (a : Answer). a .image) (commit-gives b s (C .holds) (k .0)) ∙ ap encode (committed-end s ops T (k .1)))
 
-fault-of : (q : Option Fault) → (commitNumber q ≡ 14) ⊎ (commitNumber q ≡ 15) → (e : Fault) × (q ≡ some e)
+pub fault-of : (q : Option Fault) → (commitNumber q ≡ 14) ⊎ (commitNumber q ≡ 15) → (e : Fault) × (q ≡ some e)
 fault-of none (inl e) = absurd (omega arith)
 fault-of none (inr e) = absurd (omega arith)
 fault-of (some e) h = (e, refl)
 
-not-4 : (x : ℕ) → (x ≡ 14) ⊎ (x ≡ 15) → x ≡ 4 → ⊥
+pub not-4 : (x : ℕ) → (x ≡ 14) ⊎ (x ≡ 15) → x ≡ 4 → ⊥
 not-4 x (inl p) q = omega arith
 not-4 x (inr p) q = omega arith
 
@@ -55,7 +55,7 @@ pub kinds-failing : KindsFailing
 kinds-failing b s ops C t m c = (
   image,
   λ n out e l.
-      recovers b s ops C t k n e (s .tree) out (old-tidy (T .old)) (failed-cut-heals commitEnd s ops T m (f .0) (f .1) n) l
+      recovers b s ops C t k n e (s .tree) out (old-tidy (T .old)) (failed-cut-heals s ops T m (f .0) (f .1) n) l
       ∙ ap withImage (both (hasTag 0x13 (cutAt n b))),
 )
   where
@@ -69,7 +69,7 @@ kinds-failing b s ops C t m c = (
     T = transacts b s ops C t k
 
     image : commit b imageRoom .image ≡ encode (settled (s .tree))
-    image = ap (λ (a : Answer). a .image) (commit-gives b s (C .holds) k) ∙ ap encode (failed-end s ops T commitEnd m (f .0) (f .1))
+    image = ap (λ (a : Answer). a .image) (commit-gives b s (C .holds) k) ∙ ap encode (failed-end s ops T m (f .0) (f .1))
 
     both : (x : Bool) → encode (settled (s .tree)) ≡ if_then_else_ x (encode (settled (s .tree))) (commit b imageRoom .image)
     both true = refl

@@ -20,7 +20,7 @@ use Rattle.model.specs.Store.{Store}
 use Rattle.model.specs.Image.{encode, decode}
 use Rattle.model.specs.Plan.{commitFault, commitPlan, committedAt, recoverFault, recovered}
 use Rattle.model.specs.Record.{transaction}
-use Rattle.model.specs.Step.{commitNumber}
+use Rattle.model.specs.Step.{Step, fieldAt, commitNumber}
 use Rattle.answers.specs.Answers.{Answer, answer, refusal, stepAnswer, endingStore, commit, commitStep, recoverStore, recover}
 use Rattle.basic_laws.specs.MapLaws.{none≢some}
 use Rattle.basic_laws.specs.Tests.{All, all-in, nil≢cons}
@@ -89,10 +89,13 @@ pub stepped : (b : Bytes) (s : Store) (n : ℕ) → decode b ≡ some s → Foun
 unfolding commitStep
 stepped b s n d c = rw (d, c .found)
 
--- The step number is within the plan.
-pub within-plan : (t : Bool) (a : Answer) → if_then_else_ t a (refusal 16) .number ≡ 0 → if_then_else_ t a (refusal 16) ≡ a
-within-plan true a e = refl
-within-plan false a e = absurd (omega arith)
+-- A step entry's image, where the step number is within the plan.
+pub at-step : (a : Answer) (n : ℕ) (plan : List Step) (u : Store) → a ≡ stepAnswer n plan u → a .number ≡ 0 → a .image ≡ encode u
+at-step a n plan u e z = go (leb n (length plan)) e
+  where
+    go : (t : Bool) → a ≡ if_then_else_ t (record { number = 0; image = encode u; step = fieldAt n plan }) (refusal 16) → a .image ≡ encode u
+    go true e = ap (λ (x : Answer). x .image) e
+    go false e = let y = ap (λ (x : Answer). x .number) e in absurd (omega arith)
 
 pub not-refused : (t : Bool) (a c : Answer) → a ≡ if_then_else_ t c (refusal 2) → (a .number ≡ 2 → ⊥) → a ≡ c
 not-refused true a c e h = e
@@ -158,9 +161,7 @@ module _ (b : Bytes) (s : Store) (ops : List Op) (C : Suits b s ops) (t : AllTru
 
   module _ (n : ℕ) (e : commitStep n b imageRoom stepRoom .number ≡ 0) where
     pub cut-image : cutAt n b ≡ encode (committedAt n s)
-    cut-image =
-        let a = stepped b s n (C .holds) k in
-        ap (λ (x : Answer). x .image) (a ∙ within-plan (leb n (length (commitPlan s))) _ (ap (λ (x : Answer). x .number) (sym a) ∙ e))
+    cut-image = at-step (commitStep n b imageRoom stepRoom) n (commitPlan s) (committedAt n s) (stepped b s n (C .holds) k) e
 
     pub log-there : isSome (committedAt n s .log) ≡ hasTag 0x13 (cutAt n b)
     log-there = sym (ap (hasTag 0x13) cut-image ∙ log-stood (committedAt n s) (well-formed (committedAt n s) (cut-good n)))

@@ -5,7 +5,7 @@ use native.Mathlib.Omega.{arith}
 use mathlib.Core.List.{List, [], _∷_, _++_, map}
 use mathlib.Core.Option.{Option, none, some}
 use mathlib.Core.Bool.{false}
-use lib.ListN.{length}
+use lib.ListN.{length, take}
 use lib.Seq.{take-length}
 use Rattle.basics.specs.Order.{Name}
 use Rattle.basics.specs.Map.{Map, look, del}
@@ -19,7 +19,7 @@ use Rattle.model.specs.Step.{syncDirectory, rewriteHeader, holdHeader, syncStag
 use Rattle.model.specs.Step.{applyAll, Fault}
 use Rattle.model.specs.Plan.{inTurn, run, opSteps, removeBackupFile, removeBackupsIn, removeBackups, removeStagingFiles, operationSteps, syncExisting}
 use Rattle.model.specs.Plan.{firstNamings, collectionOf, commitFault, commitParts, commitEnd, holdEnd, planEnding, endingAt, commitPlan, committedAt, holdPlan}
-use Rattle.model.specs.Plan.{heldAt, withoutMark, keepPlan, kept}
+use Rattle.model.specs.Plan.{heldAt, withoutMark, withoutMarkAtEnd, keepPlan, kept}
 use Rattle.laws.specs.StoreLaws.{Bare}
 use Rattle.laws.specs.Listings.{dels, dels-all}
 use Rattle.laws.specs.LogLaws.{mark-journal, hold-journal}
@@ -96,6 +96,18 @@ whole-ending ends s = rw (take-length (planEnding ends s), n-n (length (planEndi
   where
     n-n : (n : ℕ) → n - n ≡ 0
     n-n n = omega arith
+
+-- 02, item 6: "A held commit that fails rolls back as before": its plan has no end of its own, nor has a cut of it.
+pub failing-plan : (ends others : List (Store → List Step)) (s : Store) (e : Fault) → commitFault s ≡ some e → planEnding ends s ≡ planEnding others s
+unfolding planEnding
+failing-plan ends others s e f =
+    let plan : List (Store → List Step) → Option Fault → List Step =
+    λ ends q. rewriteHeader ∷ inTurn run (commitParts ends (opsOf (journal (s .log))) q) (apply rewriteHeader s) in
+    ap (plan ends) f ∙ sym (ap (plan others) f)
+
+pub failing-at : (ends others : List (Store → List Step)) (s : Store) (e : Fault) → commitFault s ≡ some e → (n : ℕ) → endingAt ends n s ≡ endingAt others n s
+unfolding endingAt
+failing-at ends others s e f n = ap (λ (plan : List Step). withoutMarkAtEnd (length plan - n) (applyAll (take n plan) s)) (failing-plan ends others s e f)
 
 unfoldable pub upToEnd : Store → Store
 upToEnd s =

@@ -222,6 +222,14 @@ HoldFailing =
     (heldImage b ≡ answer 0 (settled (s .tree)) .image)
     × (holdStep n b imageRoom stepRoom .number ≡ 0 → InPlans ms (holdCutAt n b) → (r .number ≡ 2 → ⊥) → r ≡ answer 0 (settled (s .tree)))
 
+-- Keep cut after any of its steps n: what it leaves is still the held image, byte for byte, or one that recovery, cut any number of times, brings to the
+-- ordinary commit's answer. Of every transaction that commits.
+abbrev pub KeepRule : Type 0
+KeepRule =
+    (b : Bytes) (n : ℕ) → commit b imageRoom .number ≡ 0 → keepStep n (heldImage b) imageRoom stepRoom .number ≡ 0 →
+    let c : Bytes = keepStep n (heldImage b) imageRoom stepRoom .image in
+    (c ≡ heldImage b) ⊎ ((ms : List ℕ) (out : ℕ) → InPlans ms c → recover (cutRecoveries ms c) out ≡ commit b out)
+
 -- 02, item 13: "w Writes, at least one, b of their keys already there, c distinct collections named by them, s staging files that no Write names".
 abbrev pub count : {A : Type 0} → (A → Bool) → List A → ℕ
 count p [] = 0

@@ -16,22 +16,22 @@ use Rattle.model.specs.Log.{journal, held, whole, isHeld}
 use Rattle.model.specs.Store.{Store}
 use Rattle.model.specs.Image.{encode, decode}
 use Rattle.model.specs.Step.{Step, Fault, commitNumber}
-use Rattle.model.specs.Plan.{commitFault, commitEnd, holdEnd, committedAt, commitPlan, heldAt, holdPlan, keepPlan, kept, withoutMark}
+use Rattle.model.specs.Plan.{commitFault, commitEnd, holdEnd, committedAt, commitPlan, heldAt, holdPlan, keepPlan, keptAt, kept, withoutMark}
 use Rattle.answers.specs.Answers.{Answer, answer, refusal, endingStore, commitStore, stepAnswer, commit, commitStep, recover, hold, holdStep, keepStore, keep, keepStep, revertStore, revert}
 use Rattle.basic_laws.specs.Tests.{le-leb}
 use Rattle.basic_laws.specs.ValidNames.{Valid}
 use Rattle.laws.specs.ImageLaws.{decode-encode}
 use Rattle.laws.specs.StoreLaws.{Good, well-formed, bare}
 use Rattle.laws.specs.LogLaws.{found-whole}
-use Rattle.laws.specs.EndLaws.{keep-held, held-log, failing-plan, failing-at}
-use Rattle.laws.specs.WellFormed.{hold-keeps, recover-keeps-valid}
+use Rattle.laws.specs.EndLaws.{hold-leaves, keep-held, held-log, failing-plan, failing-at}
+use Rattle.laws.specs.WellFormed.{hold-keeps, keep-keeps, recover-keeps-valid}
 use Rattle.answer_laws.specs.EntryLaws.{lent-good}
-use Rattle.cut_rule.specs.Demand.{settled, cutRecoveries, InPlans, heldImage, holdCutAt, HoldKeep, HoldRevert, HoldRule, HoldFails, HoldFailing}
+use Rattle.cut_rule.specs.Demand.{settled, cutRecoveries, InPlans, heldImage, holdCutAt, HoldKeep, HoldRevert, HoldRule, HoldFails, HoldFailing, KeepRule}
 use Rattle.cut_rule.specs.Kinds.{Suits, AllTrue, KindsRevert, KindsHold}
 use Rattle.cut_rule.specs.StoreRule.{Transacts}
 use Rattle.cut_rule.specs.Clean.{Tidy, old-tidy}
-use Rattle.cut_rule.specs.Heal.{Heals, recorded, undoing, ended, Still, still-calm, still-cut, still-recovered, Reverts, reverts, reverts-calm}
-use Rattle.cut_rule.specs.Hold.{onHold, held-end, held-journal, hold-reverts, OnHold, hold-cut}
+use Rattle.cut_rule.specs.Heal.{Ended, Heals, recorded, undoing, ended, Still, still-calm, still-cut, still-recovered, Reverts, reverts, reverts-calm}
+use Rattle.cut_rule.specs.Hold.{onHold, held-end, held-journal, hold-reverts, OnHold, hold-cut, heldFrom, keptTree, held-good, kept-tidy, keep-cut, keep-settles}
 use Rattle.cut_rule.specs.OverImages.{Found, found-in, commit-gives, committed, transacts, at-step, not-refused}
 use Rattle.cut_rule.specs.Writes.{suits, all-true, truly-true, truly-marked}
 use Rattle.cut_rule.specs.KindsRule.{fault-of, not-4}
@@ -241,3 +241,49 @@ hold-failing b s ws n ms out C m = (
   where
     h : ((out : ℕ) → hold b out ≡ commit b out) × ((n out stepOut : ℕ) → holdStep n b out stepOut ≡ commitStep n b out stepOut)
     h = hold-fails b (C .committed)
+
+-- Keep cut.
+pub keep-rule : KeepRule
+keep-rule b n c e = go (keep-cut s g (k .1) n)
+  where
+    s : Store
+    s = decoded b (λ z. omega arith) .0
+
+    d : decode b ≡ some s
+    d = decoded b (λ z. omega arith) .1
+
+    k : Found s × (commitFault s ≡ none)
+    k = committed b s d c
+
+    g : Good Valid s
+    g = lent-good b s d
+
+    u : Store
+    u = heldFrom s g (k .1)
+
+    p : Map
+    p = keptTree s g (k .1)
+
+    x : heldImage b ≡ encode u
+    x = ap (λ (a : Answer). a .image) (hold-done b s d k) ∙ ap encode (hold-leaves s (k .1))
+
+    is : isHeld (journal (u .log)) ≡ true
+    is =
+        ap (λ (v : Store). isHeld (journal (v .log))) (sym (hold-leaves s (k .1)))
+        ∙ ap isHeld (held-log s (k .0 .ops) (k .1) (found-whole s (k .0 .ops) (k .0 .found)))
+
+    cut : keepStep n (heldImage b) imageRoom stepRoom .image ≡ encode (keptAt n u)
+    cut =
+        at-step (keepStep n (heldImage b) imageRoom stepRoom) n (keepPlan (withoutMark u)) (keptAt n u)
+        (ap (λ (c : Bytes). keepStep n c imageRoom stepRoom) x
+        ∙ unfold keepStep in (rw (decode-encode u (well-formed u (held-good s g (k .1))), is))) e
+
+    go : (keptAt n u ≡ u) ⊎ Ended p (keptAt n u) →
+        let c : Bytes = keepStep n (heldImage b) imageRoom stepRoom .image in
+        (c ≡ heldImage b) ⊎ ((ms : List ℕ) (out : ℕ) → InPlans ms c → recover (cutRecoveries ms c) out ≡ commit b out)
+    go (inl q) = inl (cut ∙ ap encode q ∙ sym x)
+    go (inr h) = inr λ ms out i.
+        ap (λ (c : Bytes). recover (cutRecoveries ms c) out) cut
+        ∙ again (Heals [] p) (settled p) (healing [] p (kept-tidy s g (k .1)) (λ w i e. absurd i)) out ms (keptAt n u) (keep-keeps u (held-good s g (k .1)) n)
+        (ended h) (subst (InPlans ms) cut i)
+        ∙ sym (commit-done b s out d k ∙ ap (λ (y : Store). if_then_else_ (leb imageRoom out) (answer 0 y) (refusal 2)) (keep-settles s g (k .1)))

@@ -102,7 +102,7 @@ not-refused true a c e h = e
 not-refused false a c e h = absurd (h (ap (λ (x : Answer). x .number) e))
 
 -- A file stands in a directory.
-inside : (u : Store) → Good Valid u → (d f : Name) → Has (d, f) (u .tree) → Has (d, []) (u .tree)
+pub inside : (u : Store) → Good Valid u → (d f : Name) → Has (d, f) (u .tree) → Has (d, []) (u .tree)
 inside u g d [] h = h
 inside u g d (y ∷ ys) h = g .tree .node d (y ∷ ys) (h .0) (h .1) .inside (λ e. nil≢cons (sym e))
 

@@ -34,7 +34,7 @@ use Rattle.cut_rule.specs.OverImages.{twice, Found, found-in, at-step, a
 use Rattle.cut_rule.specs.Writes.{suits, all-true, truly-true, truly-marked}
 
 -- No backup of a backup stands where what was done can be undone, so a cut of recovery leaves a well-formed store.
-none-twice : (ops : List Op) (p : Map) (u : Store) → Inv p ops (u .tree) → NoneNamed DotBakBak (u .tree)
+pub none-twice : (ops : List Op) (p : Map) (u : Store) → Inv p ops (u .tree) → NoneNamed DotBakBak (u .tree)
 none-twice ops p u i d f h = (
   λ z. let t = twice d z in none≢some (sym (i .dirsOnce d (t .0) (t .1) (t .2) (t .3) f) ∙ h .1),
   λ z. let t = twice f z in none≢some (sym (i .filesOnce d f (t .0) (t .1) (t .2) (t .3)) ∙ h .1),

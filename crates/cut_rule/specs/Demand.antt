@@ -20,7 +20,7 @@ use Rattle.model.specs.Store.{Store, stagingKey, stagingNames}
 use Rattle.model.specs.Image.{decode}
 use Rattle.model.specs.Step.{Step, renameFile, stepField}
 use Rattle.model.specs.Plan.{commitPlan}
-use Rattle.answers.specs.Answers.{Answer, answer, commit, commitStep, recover, recoverStep, hold, holdStep, keep, keepStep, revert}
+use Rattle.answers.specs.Answers.{Answer, answer, commit, commitStep, recover, recoverStep, hold, holdStep, keep, keepStep, revert, revertStep}
 use Rattle.laws.specs.Listings.{Once}
 
 -- A name ends in .bak, or in .tmp: as text, whatever stands before the dot.
@@ -229,6 +229,36 @@ KeepRule =
     (b : Bytes) (n : ℕ) → commit b imageRoom .number ≡ 0 → keepStep n (heldImage b) imageRoom stepRoom .number ≡ 0 →
     let c : Bytes = keepStep n (heldImage b) imageRoom stepRoom .image in
     (c ≡ heldImage b) ⊎ ((ms : List ℕ) (out : ℕ) → InPlans ms c → recover (cutRecoveries ms c) out ≡ commit b out)
+
+-- A revert that is cut after so many steps; a recovery, cut or not, as after each loss of power.
+pub data Act : Type 0 where
+  reverted recovered : ℕ → Act
+
+abbrev pub act : Act → Bytes → Answer
+act (reverted m) c = revertStep m c imageRoom stepRoom
+act (recovered m) c = recoverStep m c imageRoom stepRoom
+
+-- Any number of them, one after the other, in any order; each number is one of a step, or 0.
+abbrev pub cutActs : List Act → Bytes → Bytes
+cutActs [] c = c
+cutActs (a ∷ l) c = cutActs l (act a c .image)
+
+abbrev pub InActs : List Act → Bytes → Type 0
+InActs [] c = Unit {0}
+InActs (a ∷ l) c = (act a c .number ≡ 0) × InActs l (act a c .image)
+
+-- What they leave of a held commit: revert then gives exactly the store from before; or the log is gone, revert gives 18, and recovery, cut any number of
+-- times, gives exactly the store from before.
+abbrev pub ActsGive : Bytes → Store → List Act → Type 0
+ActsGive b s acts =
+    let c : Bytes = cutActs acts (heldImage b) in
+    InActs acts (heldImage b) →
+    (revert c imageRoom ≡ answer 0 (settled (s .tree)))
+    ⊎ ((revert c imageRoom .number ≡ 18) × ((ms : List ℕ) → InPlans ms c → recover (cutRecoveries ms c) imageRoom ≡ answer 0 (settled (s .tree))))
+
+-- For marked Writes with true marks. A revert that was cut and is then kept may lose a key: keep reads no entry.
+abbrev pub RevertRule : Type 0
+RevertRule = (b : Bytes) (s : Store) (ws : List Write) (acts : List Act) → Conditions b s ws → TrulyMarked (s .tree) ws → ActsGive b s acts
 
 -- 02, item 13: "w Writes, at least one, b of their keys already there, c distinct collections named by them, s staging files that no Write names".
 abbrev pub count : {A : Type 0} → (A → Bool) → List A → ℕ

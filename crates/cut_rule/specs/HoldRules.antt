@@ -2,7 +2,7 @@
 use mathlib.Core.Path.{_≡_, refl, sym, _∙_, ap, subst}
 use Prim.Native.Nat.{ℕ}
 use native.Mathlib.Omega.{arith}
-use mathlib.Core.List.{List, [], map}
+use mathlib.Core.List.{List, [], _∷_, map}
 use mathlib.Core.Option.{Option, none, some}
 use mathlib.Core.Bool.{Bool, true, false, _&&_}
 use mathlib.Core.Logic.{_⊎_, inl, inr}
@@ -16,27 +16,28 @@ use Rattle.model.specs.Log.{journal, held, whole, isHeld}
 use Rattle.model.specs.Store.{Store}
 use Rattle.model.specs.Image.{encode, decode}
 use Rattle.model.specs.Step.{Step, Fault, commitNumber}
-use Rattle.model.specs.Plan.{commitFault, commitEnd, holdEnd, committedAt, commitPlan, heldAt, holdPlan, keepPlan, keptAt, kept, withoutMark}
-use Rattle.answers.specs.Answers.{Answer, answer, refusal, endingStore, commitStore, stepAnswer, commit, commitStep, recover, hold, holdStep, keepStore, keep, keepStep, revertStore, revert}
+use Rattle.model.specs.Plan.{commitFault, commitEnd, holdEnd, committedAt, commitPlan, heldAt, holdPlan, keepPlan, keptAt, kept, recoveredAt, revertPlan, revertedAt, withoutMark}
+use Rattle.answers.specs.Answers.{Answer, answer, refusal, endingStore, commitStore, stepAnswer, commit, commitStep, recover, hold, holdStep, keepStore, keep, keepStep, revertStore, revert, revertStep}
 use Rattle.basic_laws.specs.Tests.{le-leb}
 use Rattle.basic_laws.specs.ValidNames.{Valid}
 use Rattle.laws.specs.ImageLaws.{decode-encode}
 use Rattle.laws.specs.StoreLaws.{Good, well-formed, bare}
 use Rattle.laws.specs.LogLaws.{found-whole}
 use Rattle.laws.specs.EndLaws.{hold-leaves, keep-held, held-log, failing-plan, failing-at}
-use Rattle.laws.specs.WellFormed.{hold-keeps, keep-keeps, recover-keeps-valid}
+use Rattle.laws.specs.WellFormed.{hold-keeps, keep-keeps, recover-keeps-valid, revert-keeps-named}
 use Rattle.answer_laws.specs.EntryLaws.{lent-good}
-use Rattle.cut_rule.specs.Demand.{settled, cutRecoveries, InPlans, heldImage, holdCutAt, HoldKeep, HoldRevert, HoldRule, HoldFails, HoldFailing, KeepRule}
-use Rattle.cut_rule.specs.Kinds.{Suits, AllTrue, KindsRevert, KindsHold}
+use Rattle.cut_rule.specs.Demand
+use Rattle.cut_rule.specs.Demand.{Act, act, cutActs, InActs, RevertRule, settled, cutRecoveries, InPlans, heldImage, holdCutAt, HoldKeep, HoldRevert, HoldRule, HoldFails, HoldFailing, KeepRule}
+use Rattle.cut_rule.specs.Kinds.{Suits, AllTrue, Marked, KindsRevert, KindsHold, KindsActs}
 use Rattle.cut_rule.specs.StoreRule.{Transacts}
 use Rattle.cut_rule.specs.Clean.{Tidy, old-tidy}
-use Rattle.cut_rule.specs.Heal.{Ended, Heals, recorded, undoing, ended, Still, still-calm, still-cut, still-recovered, Reverts, reverts, reverts-calm}
+use Rattle.cut_rule.specs.Heal.{Ended, Heals, recorded, undoing, ended, Still, still-calm, still-cut, still-recovered, heals-calm, heals-cut, Reverts, reverts, reverts-calm, reverts-cut}
 use Rattle.cut_rule.specs.Hold.{onHold, held-end, held-journal, hold-reverts, OnHold, hold-cut, heldFrom, keptTree, held-good, kept-tidy, keep-cut, keep-settles}
 use Rattle.cut_rule.specs.OverImages.{Found, found-in, commit-gives, committed, transacts, at-step, not-refused}
 use Rattle.cut_rule.specs.Writes.{suits, all-true, truly-true, truly-marked}
 use Rattle.cut_rule.specs.KindsRule.{fault-of, not-4}
 use Rattle.cut_rule.specs.Theorem.{failing-commit, failing-rule}
-use Rattle.cut_rule.specs.Again.{Recovers, again, healing, again-rule, either}
+use Rattle.cut_rule.specs.Again.{none-twice, Recovers, step-image, again, recovered-good, healing, again-rule, either}
 
 -- An image whose commit is not given 1 holds a store.
 decoded : (b : Bytes) → (commit b imageRoom .number ≡ 1 → ⊥) → (s : Store) × (decode b ≡ some s)
@@ -287,3 +288,82 @@ keep-rule b n c e = go (keep-cut s g (k .1) n)
         ∙ again (Heals [] p) (settled p) (healing [] p (kept-tidy s g (k .1)) (λ w i e. absurd i)) out ms (keptAt n u) (keep-keeps u (held-good s g (k .1)) n)
         (ended h) (subst (InPlans ms) cut i)
         ∙ sym (commit-done b s out d k ∙ ap (λ (y : Store). if_then_else_ (leb imageRoom out) (answer 0 y) (refusal 2)) (keep-settles s g (k .1)))
+
+-- Reverts and recoveries, cut, one after the other.
+record Left (ops : List Op) (p : Map) (c : Bytes) : Type 0 where
+  store : Store
+  image : c ≡ encode store
+  good : Good Valid store
+  state : Reverts ops p store
+
+not-held : (u : Store) (m : ℕ) → Good Valid u → isHeld (journal (u .log)) ≡ false →
+    (revertStep m (encode u) imageRoom stepRoom .number ≡ 18) × (revert (encode u) imageRoom .number ≡ 18)
+unfolding revertStep revert revertStore
+not-held u m g h = let w = decode-encode u (well-formed u g) in (rw (w, h), rw (w, h))
+
+module _ (ops : List Op) (p : Map) (t : Tidy p) (m : Marked ops) where
+  refused : {A : Type 0} (u : Store) (n : ℕ) → Good Valid u → isHeld (journal (u .log)) ≡ false → revertStep n (encode u) imageRoom stepRoom .number ≡ 0 → A
+  refused u n g h e = let z : _≡_ {A = ℕ} 18 0 = sym (not-held u n g h .0) ∙ e in absurd (omega arith)
+
+  -- One of either keeps it.
+  one : (a : Act) (u : Store) → Good Valid u → Reverts ops p u → act a (encode u) .number ≡ 0 → Left ops p (act a (encode u) .image)
+  one (Demand.reverted n) u g (undoing o k e i z) a = record {
+    store = revertedAt n u;
+    image =
+        at-step (revertStep n (encode u) imageRoom stepRoom) n (revertPlan (withoutMark u)) (revertedAt n u)
+        (unfold revertStep in (rw (decode-encode u (well-formed u g), ap isHeld e, reverts-calm ops p u (undoing o k e i z)))) a;
+    good = revert-keeps-named u g (none-twice _ p u i) n;
+    state = reverts-cut ops p t m u n (undoing o k e i z);
+  }
+  one (Demand.reverted n) u g (recorded e q) a = refused u n g (ap isHeld e) a
+  one (Demand.reverted n) u g (ended h) a = refused u n g (ap (λ (l : Option Bytes). isHeld (journal l)) (h .same)) a
+  one (Demand.recovered n) u g h a = record {
+    store = recoveredAt n u;
+    image = step-image u n g (heals-calm (held ops whole) ops p u (inr refl) h) a;
+    good = recovered-good (held ops whole) ops p u g h n;
+    state = heals-cut (held ops whole) ops p t m (inr refl) u n h;
+  }
+
+  acted : (acts : List Act) (c : Bytes) → Left ops p c → InActs acts c → Left ops p (cutActs acts c)
+  acted [] c l i = l
+  acted (a ∷ acts) c l i =
+      acted acts (act a c .image)
+      (subst (λ (c : Bytes). Left ops p (act a c .image)) (sym (l .image))
+      (one a (l .store) (l .good) (l .state) (subst (λ (c : Bytes). act a c .number ≡ 0) (l .image) (i .0)))) (i .1)
+
+  -- What is left then.
+  finish : (c : Bytes) → Left ops p c →
+      (revert c imageRoom ≡ answer 0 (settled p))
+      ⊎ ((revert c imageRoom .number ≡ 18) × ((ms : List ℕ) → InPlans ms c → recover (cutRecoveries ms c) imageRoom ≡ answer 0 (settled p)))
+  finish c l = go (l .store) (l .image) (l .good) (l .state)
+    where
+      Result : Type 0
+      Result =
+          (revert c imageRoom ≡ answer 0 (settled p))
+          ⊎ ((revert c imageRoom .number ≡ 18) × ((ms : List ℕ) → InPlans ms c → recover (cutRecoveries ms c) imageRoom ≡ answer 0 (settled p)))
+
+      free : (u : Store) → c ≡ encode u → Good Valid u → isHeld (journal (u .log)) ≡ false → Heals ops p u → Result
+      free u x g h r = inr (
+        ap (λ (c : Bytes). revert c imageRoom .number) x ∙ not-held u 0 g h .1,
+        λ ms i. ap (λ (c : Bytes). recover (cutRecoveries ms c) imageRoom) x
+            ∙ again (Heals ops p) (settled p) (healing ops p t m) imageRoom ms u g r (subst (InPlans ms) x i),
+      )
+
+      go : (u : Store) → c ≡ encode u → Good Valid u → Reverts ops p u → Result
+      go u x g (undoing o k e i z) = inl (ap (λ (c : Bytes). revert c imageRoom) x ∙ revert-answers ops p u imageRoom t g e (undoing o k e i z))
+      go u x g (recorded e q) = free u x g (ap isHeld e) (recorded e q)
+      go u x g (ended h) = free u x g (ap (λ (l : Option Bytes). isHeld (journal l)) (h .same)) (ended h)
+
+pub kinds-acts : KindsActs
+kinds-acts b s ops acts C t m c i =
+    let o = old-tidy (T b s ops C t c .old) in
+    finish ops (s .tree) o m (cutActs acts (heldImage b)) (acted ops (s .tree) o m acts (heldImage b) record {
+      store = H b s ops C t c;
+      image = ap (λ (a : Answer). a .image) (hold-is b s ops C t c);
+      good = H-good b s ops C t c;
+      state = H-reverts b s ops C t c;
+    } i)
+
+pub revert-rule : RevertRule
+revert-rule b s ws acts C m =
+    kinds-acts b s (map write ws) acts (suits C) (all-true (s .tree) ws (truly-true (s .tree) ws m)) (truly-marked (s .tree) ws m) (C .committed)

@@ -15,7 +15,7 @@ use Rattle.model.specs.Log.{journal, opsOf}
 use Rattle.model.specs.Store.{Store}
 use Rattle.model.specs.Image.{encode, decode}
 use Rattle.answers.specs.Answers.{commit, commitStep, recover}
-use Rattle.cut_rule.specs.Demand.{NoExtension, TrueMark, settled, cutAt, cutRecoveries, InPlans, RevertGives, HoldGives}
+use Rattle.cut_rule.specs.Demand.{NoExtension, TrueMark, settled, cutAt, cutRecoveries, InPlans, RevertGives, HoldGives, Act, ActsGive}
 
 -- What an operation touches: a key of a collection, or a collection as a whole. A copy touches its destination; its source it only reads.
 pub data Place : Type 0 where
@@ -106,8 +106,13 @@ abbrev pub KindsRevert : Type 0
 KindsRevert =
     (b : Bytes) (s : Store) (ops : List Op) (out : ℕ) → Suits b s ops → AllTrue (s .tree) ops → commit b imageRoom .number ≡ 0 → RevertGives b s out
 
--- And cut.
+-- The held commit cut; its revert cut.
 abbrev pub KindsHold : Type 0
 KindsHold =
     (b : Bytes) (s : Store) (ops : List Op) (n : ℕ) (ms : List ℕ) (out : ℕ) → Suits b s ops → AllTrue (s .tree) ops → Marked ops →
     commit b imageRoom .number ≡ 0 → HoldGives b s n ms out
+
+abbrev pub KindsActs : Type 0
+KindsActs =
+    (b : Bytes) (s : Store) (ops : List Op) (acts : List Act) → Suits b s ops → AllTrue (s .tree) ops → Marked ops → commit b imageRoom .number ≡ 0 →
+    ActsGive b s acts

@@ -17,7 +17,8 @@ use Rattle.model.specs.Store.{Store}
 use Rattle.model.specs.Image.{encode, decode}
 use Rattle.model.specs.Step.{Step, Fault, commitNumber}
 use Rattle.model.specs.Plan.{commitFault, commitEnd, holdEnd, committedAt, commitPlan, heldAt, holdPlan, keepPlan, keptAt, kept, recoveredAt, revertPlan, revertedAt, withoutMark}
-use Rattle.answers.specs.Answers.{Answer, answer, refusal, endingStore, commitStore, stepAnswer, commit, commitStep, recover, hold, holdStep, keepStore, keep, keepStep, revertStore, revert, revertStep}
+use Rattle.answers.specs.Answers.{Answer, answer, refusal, endingStore, commitStore, stepAnswer, commit, commitStep, recover, hold, holdStep, keepStore, keep}
+use Rattle.answers.specs.Answers.{keepStep, revertStore, revert, revertStep}
 use Rattle.basic_laws.specs.Tests.{le-leb}
 use Rattle.basic_laws.specs.ValidNames.{Valid}
 use Rattle.laws.specs.ImageLaws.{decode-encode}
@@ -27,11 +28,13 @@ use Rattle.laws.specs.EndLaws.{hold-leaves, keep-held, held-log, failing-plan, 
 use Rattle.laws.specs.WellFormed.{hold-keeps, keep-keeps, recover-keeps-valid, revert-keeps-named}
 use Rattle.answer_laws.specs.EntryLaws.{lent-good}
 use Rattle.cut_rule.specs.Demand
-use Rattle.cut_rule.specs.Demand.{Act, act, cutActs, InActs, RevertRule, settled, cutRecoveries, InPlans, heldImage, holdCutAt, HoldKeep, HoldRevert, HoldRule, HoldFails, HoldFailing, KeepRule}
+use Rattle.cut_rule.specs.Demand.{Act, act, cutActs, InActs, RevertRule, settled, cutRecoveries, InPlans, heldImage, holdCutAt, HoldKeep, HoldRevert}
+use Rattle.cut_rule.specs.Demand.{HoldRule, HoldFails, HoldFailing, KeepRule}
 use Rattle.cut_rule.specs.Kinds.{Suits, AllTrue, Marked, KindsRevert, KindsHold, KindsActs}
 use Rattle.cut_rule.specs.StoreRule.{Transacts}
 use Rattle.cut_rule.specs.Clean.{Tidy, old-tidy}
-use Rattle.cut_rule.specs.Heal.{Ended, Heals, recorded, undoing, ended, Still, still-calm, still-cut, still-recovered, heals-calm, heals-cut, Reverts, reverts, reverts-calm, reverts-cut}
+use Rattle.cut_rule.specs.Heal.{Ended, Heals, recorded, undoing, ended, Still, still-calm, still-cut, still-recovered, heals-calm, heals-cut, Reverts}
+use Rattle.cut_rule.specs.Heal.{reverts, reverts-calm, reverts-cut}
 use Rattle.cut_rule.specs.Hold.{onHold, held-end, held-journal, hold-reverts, OnHold, hold-cut, heldFrom, keptTree, held-good, kept-tidy, keep-cut, keep-settles}
 use Rattle.cut_rule.specs.OverImages.{Found, found-in, commit-gives, committed, transacts, at-step, not-refused}
 use Rattle.cut_rule.specs.Writes.{suits, all-true, truly-true, truly-marked}

@@ -6,7 +6,6 @@ use mathlib.Core.List.{List, [], _∷_, map}
 use mathlib.Core.Option.{Option, none, some}
 use mathlib.Core.Bool.{Bool}
 use mathlib.Core.Logic.{inl, inr}
-use lib.ListN.{length}
 use lib.Dec.{leb}
 use Rattle.basics.specs.Limits.{imageRoom, stepRoom}
 use Rattle.basics.specs.Map.{Map}

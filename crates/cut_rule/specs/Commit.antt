@@ -14,7 +14,7 @@ use Rattle.basics.specs.Name.{originalName}
 use Rattle.model.specs.Operation.{Op, write, delete, deleteAll, createCollection, deleteCollection, copyCollection}
 use Rattle.model.specs.Log.{Journal, committing, whole, opsOf}
 use Rattle.model.specs.Store.{Store, stagingNames}
-use Rattle.model.specs.Step.{Step, rewriteHeader, syncStaging, syncLog, removeLog, syncJournal, syncCollections, syncDirectory, apply, applyAll, Fault}
+use Rattle.model.specs.Step.{Step, rewriteHeader, syncStaging, syncLog, removeLog, syncJournal, syncDirectory, apply, applyAll, Fault}
 use Rattle.model.specs.Plan.{inTurn, run, undoSteps, restoreBackups, removeBackups, removeStagingFiles, syncExisting, firstNamings, collectionOf, firstFault}
 use Rattle.model.specs.Plan.{stepsBeforeFault, operationSteps, commitFault, commitParts, commitEnd, commitPlan, planEnding, withoutMark}
 use Rattle.model.specs.Plan.{withoutMarkAtEnd, committedAt, endingAt}

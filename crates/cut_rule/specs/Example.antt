@@ -24,7 +24,7 @@ use Rattle.model.specs.Plan.{opSteps, undoSteps, restoreFile, restoreDirectory,
 use Rattle.model.specs.Plan
 use Rattle.model.specs.Plan.{commitPlan, planEnding, endingAt, recoverPlan, recoveredAt, revertPlan, revertedAt, keepPlan, keptAt}
 use Rattle.model.specs.Record.{transaction}
-use Rattle.answers.specs.Answers.{Answer, answer, endingStore, commit, recoverStore, recover, commitStep, recoverStep, hold, holdStep, keep, keepStep}
+use Rattle.answers.specs.Answers.{answer, endingStore, commit, recoverStore, recover, commitStep, recoverStep, hold, holdStep, keep, keepStep}
 use Rattle.answers.specs.Answers.{revertStore, revert, revertStep}
 use Rattle.basic_laws.specs.MapLaws.{key-dec, none≢some, look-tail}
 use Rattle.cut_rule.specs.Demand.{NoExtension, Unmarked, TrulyMarked, Conditions, backupRename, Renamed, cutAt, settled, allWritesDone, cutRecoveries}

@@ -2,16 +2,15 @@
 use mathlib.Core.Path.{_≡_, refl, _∙_, ap, subst, sym}
 use Prim.Native.Nat.{ℕ, zero, suc, _-_}
 use mathlib.Core.List.{List, [], _∷_, _++_, map}
-use mathlib.Core.Option.{Option, none}
+use mathlib.Core.Option.{none}
 use mathlib.Core.Bool.{false}
 use mathlib.Core.Logic.{_⊎_, inl, inr}
 use lib.ListN.{length, take}
 use Rattle.basics.specs.Map.{Map}
-use Rattle.basics.specs.Base.{Bytes}
 use Rattle.model.specs.Operation.{Op}
 use Rattle.model.specs.Log.{journal, opsOf, committing, held, whole}
 use Rattle.model.specs.Store.{Store, stagingNames}
-use Rattle.model.specs.Step.{Step, rewriteHeader, syncStaging, syncLog, holdHeader, markedHeld, apply, applyAll}
+use Rattle.model.specs.Step.{Step, rewriteHeader, syncStaging, syncLog, markedHeld, apply, applyAll}
 use Rattle.model.specs.Plan.{inTurn, run, removeBackups, removeStagingFiles, operationSteps, syncExisting, firstNamings, collectionOf, commitFault, holdEnd}
 use Rattle.model.specs.Plan.{endingAt, commitPlan, committedAt, holdPlan, heldAt, withoutMarkAtEnd, keepPlan, keptAt}
 use Rattle.basic_laws.specs.ValidNames.{Valid}

@@ -247,8 +247,8 @@ abbrev pub InActs : List Act → Bytes → Type 0
 InActs [] c = Unit {0}
 InActs (a ∷ l) c = (act a c .number ≡ 0) × InActs l (act a c .image)
 
--- What they leave of a held commit: revert then gives exactly the store from before; or the log is gone, revert gives 18, and recovery, cut any number of
--- times, gives exactly the store from before.
+-- What they leave of a held commit: revert then gives exactly the store from before; or no Held log stands any more, revert gives 18, and recovery, cut any
+-- number of times, gives exactly the store from before.
 abbrev pub ActsGive : Bytes → Store → List Act → Type 0
 ActsGive b s acts =
     let c : Bytes = cutActs acts (heldImage b) in

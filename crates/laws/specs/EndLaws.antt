@@ -88,7 +88,7 @@ pub sweeps : (u : Store) → applyAll (removeBackups u) u ≡ withTree (swept (u
 unfolding swept
 sweeps u = in-dirs (dirs (u .tree)) .does u
 
--- All steps of a commit, with either end; one without a failing step up to its end.
+-- All steps of a commit, with either end.
 pub whole-ending : (ends : List (Store → List Step)) (s : Store) →
     endingAt ends (length (planEnding ends s)) s ≡ withoutMark (applyAll (planEnding ends s) s)
 unfolding endingAt
@@ -109,6 +109,7 @@ pub failing-at : (ends others : List (Store → List Step)) (s : Store) (e : Fau
 unfolding endingAt
 failing-at ends others s e f n = ap (λ (plan : List Step). withoutMarkAtEnd (length plan - n) (applyAll (take n plan) s)) (failing-plan ends others s e f)
 
+-- A commit without a failing step, up to its end; and behind it.
 unfoldable pub upToEnd : Store → Store
 upToEnd s =
     let ops : List Op = opsOf (journal (s .log)) in

@@ -5,65 +5,75 @@ use native.Mathlib.Omega.{arith}
 use mathlib.Core.List.{List, [], _∷_, map}
 use mathlib.Core.Option.{Option, none, some}
 use mathlib.Core.Bool.{Bool}
-use mathlib.Core.Logic.{inr}
-use lib.ListN.{length}
+use mathlib.Core.Logic.{inl, inr}
 use lib.Dec.{leb}
 use Rattle.basics.specs.Limits.{imageRoom, stepRoom}
 use Rattle.basics.specs.Map.{Map}
-use Rattle.basics.specs.Base.{Bytes, isSome}
+use Rattle.basics.specs.Base.{Bytes, if_then_else_, isSome}
 use Rattle.model.specs.Operation.{Op, Write, write}
-use Rattle.model.specs.Log.{journal}
+use Rattle.model.specs.Log.{Journal, committing, whole, journal}
 use Rattle.model.specs.Store.{Store}
 use Rattle.model.specs.Image.{encode}
 use Rattle.model.specs.Step.{Fault}
-use Rattle.model.specs.Plan.{commitFault, committedAt, recoverPlan, recoveredAt, withoutMark}
-use Rattle.answers.specs.Answers.{Answer, stepAnswer, recover, recoverStep}
+use Rattle.model.specs.Plan.{commitFault, committedAt, recoverFault, recoverPlan, recoveredAt, recovered, withoutMark}
+use Rattle.answers.specs.Answers.{answer, refusal, recover, recoverStep}
 use Rattle.basic_laws.specs.MapLaws.{none≢some}
 use Rattle.laws.specs.ImageLaws.{decode-encode}
-use Rattle.laws.specs.StoreLaws.{Good, well-formed}
+use Rattle.laws.specs.StoreLaws.{Good, well-formed, bare}
 use Rattle.basic_laws.specs.ValidNames.{Valid, DotBakBak}
 use Rattle.laws.specs.WellFormed.{NoneNamed, recover-keeps-valid, recover-keeps-named}
-use Rattle.cut_rule.specs.Demand.{Meets, Either, cutAt, cutRecoveries, InPlans, AgainRule}
+use Rattle.cut_rule.specs.Demand.{Meets, Either, settled, cutAt, cutRecoveries, InPlans, AgainRule}
 use Rattle.cut_rule.specs.Kinds.{Marked, KindsAgain}
 use Rattle.cut_rule.specs.StoreRule.{Transacts, marked-safe}
 use Rattle.cut_rule.specs.Directories.{Inv}
 use Rattle.cut_rule.specs.Clean.{Tidy, old-tidy}
-use Rattle.cut_rule.specs.Heal.{Heals, recorded, undoing, ended, heals-calm, heals-cut}
+use Rattle.cut_rule.specs.Heal.{HealsFrom, Heals, recorded, undoing, ended, heals, heals-calm, heals-cut}
 use Rattle.cut_rule.specs.Commit.{treeAfter, after-tidy, cut-heals, failed-cut-heals}
-use Rattle.cut_rule.specs.OverImages.{twice, Found, found-in, within-plan, answered, transacts, cut-good, cut-image}
+use Rattle.cut_rule.specs.OverImages.{twice, Found, found-in, at-step, answered, transacts, cut-good, cut-image}
 use Rattle.cut_rule.specs.Writes.{suits, all-true, truly-true, truly-marked}
 
 -- No backup of a backup stands where what was done can be undone, so a cut of recovery leaves a well-formed store.
-none-twice : (ops : List Op) (p : Map) (u : Store) → Inv p ops (u .tree) → NoneNamed DotBakBak (u .tree)
+pub none-twice : (ops : List Op) (p : Map) (u : Store) → Inv p ops (u .tree) → NoneNamed DotBakBak (u .tree)
 none-twice ops p u i d f h = (
   λ z. let t = twice d z in none≢some (sym (i .dirsOnce d (t .0) (t .1) (t .2) (t .3) f) ∙ h .1),
   λ z. let t = twice f z in none≢some (sym (i .filesOnce d f (t .0) (t .1) (t .2) (t .3)) ∙ h .1),
 )
 
-recovered-good : (ops : List Op) (p : Map) (u : Store) → Good Valid u → Heals ops p u → (n : ℕ) → Good Valid (recoveredAt n u)
-recovered-good ops p u g (recorded e q) = recover-keeps-valid u g (λ l z. let y : _≡_ {A = ℕ} 0 1 = cc in omega arith)
-recovered-good ops p u g (undoing o k e i z) = recover-keeps-named u g (none-twice _ p u i)
-recovered-good ops p u g (ended h) = recover-keeps-valid u g (λ l z. let y : _≡_ {A = ℕ} 0 1 = cc (ap journal (h .same)) in omega arith)
+-- What makes recovery give x wherever it is cut: I holds at every step of it, and at the end it gives x.
+pub record Recovers (I : Store → Type 0) (x : Store) : Type 0 where
+  pub calm : (u : Store) → I u → recoverFault (journal (u .log)) (u .tree) ≡ none
+  pub good : (u : Store) → Good Valid u → I u → (n : ℕ) → Good Valid (recoveredAt n u)
+  pub stays : (u : Store) (n : ℕ) → I u → I (recoveredAt n u)
+  pub gives : (u : Store) → Good Valid u → I u → recovered u ≡ x
 
 -- Recovery's step entry.
-step-image : (ops : List Op) (p : Map) (u : Store) (m : ℕ) → Good Valid u → Heals ops p u → recoverStep m (encode u) imageRoom stepRoom .number ≡ 0 →
-    recoverStep m (encode u) imageRoom stepRoom .image ≡ encode (recoveredAt m u)
-step-image ops p u m g h e =
-    let a : recoverStep m (encode u) imageRoom stepRoom ≡ stepAnswer m (recoverPlan (withoutMark u)) (recoveredAt m u) =
-    unfold recoverStep in (rw (decode-encode u (well-formed u g), heals-calm ops p u h)) in
-    ap (λ (x : Answer). x .image) (a ∙ within-plan (leb m (length (recoverPlan (withoutMark u)))) _ (ap (λ (x : Answer). x .number) (sym a) ∙ e))
+pub step-image : (u : Store) (n : ℕ) → Good Valid u → recoverFault (journal (u .log)) (u .tree) ≡ none →
+    recoverStep n (encode u) imageRoom stepRoom .number ≡ 0 → recoverStep n (encode u) imageRoom stepRoom .image ≡ encode (recoveredAt n u)
+step-image u n g c e =
+    at-step (recoverStep n (encode u) imageRoom stepRoom) n (recoverPlan (withoutMark u)) (recoveredAt n u)
+    (unfold recoverStep in (rw (decode-encode u (well-formed u g), c))) e
 
--- From any store that recovery heals.
-again : (ops : List Op) (p : Map) → Tidy p → Marked ops → (out : ℕ) (ms : List ℕ) (u : Store) → Good Valid u → Heals ops p u → InPlans ms (encode u) →
-    recover (cutRecoveries ms (encode u)) out ≡ recover (encode u) out
-again ops p t m out [] u g h i = refl
-again ops p t m out (n ∷ ns) u g h i =
-    let v : Store = recoveredAt n u in
-    let e : recoverStep n (encode u) imageRoom stepRoom .image ≡ encode v = step-image ops p u n g h (i .0) in
-    let k : Good Valid v = recovered-good ops p u g h n in
-    let l : Heals ops p v = heals-cut ops p t m u n h in
+pub again : (I : Store → Type 0) (x : Store) → Recovers I x → (out : ℕ) (ms : List ℕ) (u : Store) → Good Valid u → I u → InPlans ms (encode u) →
+    recover (cutRecoveries ms (encode u)) out ≡ if_then_else_ (leb imageRoom out) (answer 0 x) (refusal 2)
+again I x r out [] u g h i = answered u x out g (r .calm u h) (r .gives u g h)
+again I x r out (n ∷ ns) u g h i =
+    let e : recoverStep n (encode u) imageRoom stepRoom .image ≡ encode (recoveredAt n u) = step-image u n g (r .calm u h) (i .0) in
     ap (λ (c : Bytes). recover (cutRecoveries ns c) out) e
-    ∙ again ops p t m out ns v k l (subst (InPlans ns) e (i .1)) ∙ answered ops p v out t k l ∙ sym (answered ops p u out t g h)
+    ∙ again I x r out ns (recoveredAt n u) (r .good u g h n) (r .stays u n h) (subst (InPlans ns) e (i .1))
+
+-- Of what a commit or a held one did.
+pub recovered-good : (j : Journal) (ops : List Op) (p : Map) (u : Store) → Good Valid u → HealsFrom j ops p u → (n : ℕ) → Good Valid (recoveredAt n u)
+recovered-good j ops p u g (recorded e q) = recover-keeps-valid u g (λ l z. let y : _≡_ {A = ℕ} 0 1 = cc in omega arith)
+recovered-good j ops p u g (undoing o k e i z) = recover-keeps-named u g (none-twice _ p u i)
+recovered-good j ops p u g (ended h) = recover-keeps-valid u g (λ l z. let y : _≡_ {A = ℕ} 0 1 = cc (ap journal (h .same)) in omega arith)
+
+pub healing : (ops : List Op) (p : Map) → Tidy p → Marked ops → Recovers (Heals ops p) (settled p)
+healing ops p t m = record {
+  calm = λ u h. heals-calm (committing ops whole) ops p u (inl refl) h;
+  good = λ u g h. recovered-good (committing ops whole) ops p u g h;
+  stays = λ u n h. heals-cut (committing ops whole) ops p t m (inl refl) u n h;
+  gives = λ u g h. heals ops p u t (bare u (well-formed u g)) h;
+}
 
 pub kinds-again : KindsAgain
 kinds-again b s ops n ms out C t m c e i =
@@ -80,7 +90,11 @@ kinds-again b s ops n ms out C t m c e i =
 
     from : (p : Map) → Tidy p → Heals ops p (committedAt n s) →
         recover (cutRecoveries ms (encode (committedAt n s))) out ≡ recover (encode (committedAt n s)) out
-    from p y h = again ops p y m out ms (committedAt n s) (cut-good b s ops C t k n) h (subst (InPlans ms) image i)
+    from p y h =
+        let r = healing ops p y m in
+        let g = cut-good b s ops C t k n in
+        again (Heals ops p) (settled p) r out ms (committedAt n s) g h (subst (InPlans ms) image i)
+        ∙ sym (again (Heals ops p) (settled p) r out [] (committedAt n s) g h tt)
 
     go : (q : Option Fault) → commitFault s ≡ q → recover (cutRecoveries ms (encode (committedAt n s))) out ≡ recover (encode (committedAt n s)) out
     go none f =

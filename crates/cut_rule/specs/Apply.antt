@@ -509,15 +509,83 @@ module _ (o : Map) (old : OldTree o) (ops : List Op) (good : AllGood o ops) wher
   op-applies (deleteCollection c) u i t m = op-deleteCollection c u (good (deleteCollection c) i) t m
   op-applies (copyCollection a b x) u i t m = op-copy a b x u i t m
 
+  -- A Write's key that existed has its backup then, and the others leave it.
+  write-backs : (w : Write) (u : Store) → WriteGood o w → Untouched o (placeOf (write w)) u → firstFault (opSteps (write w) u) u ≡ none → Has (target w) o →
+      Has (backup w) (applyAll (opSteps (write w) u) u .tree)
+  unfolding opSteps
+  write-backs w u g t f z = go (look (w .collection, []) (u .tree)) refl (look (target w) (u .tree)) refl f
+    where
+      step : Step
+      step = renameFile (w .collection) (w .key) (backupName (w .key))
+
+      move : Step
+      move = moveStaged (w .staged) (w .collection) (w .key)
+
+      go : (a : Option ℕ) → look (w .collection, []) (u .tree) ≡ a → (b : Option ℕ) → look (target w) (u .tree) ≡ b →
+          let xs = ifMissing a (makeDirectory (w .collection) ∷ []) ++ ifPresent b (step ∷ []) ++ move ∷ [] in
+          firstFault xs u ≡ none → Has (backup w) (applyAll xs u .tree)
+      go none a b q f = none≢some (sym a ∙ t .1 ∙ g .stands .1)
+      go (some y) a none q f = none≢some (sym q ∙ t .0 ∙ z .1)
+      go (some y) a (some x) q f =
+          let v = apply step u in
+          let h = move-stands w v (fault-head move [] v (fault-head step (move ∷ []) u f .1) .0) in (
+            x,
+            rw (move-tree w v (h .0) (h .1)) (look-put-other (target w) (backup w) (h .0) (v .tree)
+                (λ y. name-apart (g .key .file) (original-backup (w .key) (g .key .named)) (sym (file-eq y))) ∙ rename-backup u (w .collection) (w .key) x (g .key) q),
+          )
+
+  backup-outside : {c k : Name} → KeyGood c k → (p : Place) → PlaceGood p → Apart (key c k) p → Outside p (c, backupName k)
+  backup-outside {c} {k} g (key d j) h z = (
+    λ e. name-apart (h .file) (original-backup k (g .named)) (sym (file-eq e)),
+    λ e. z (λ i. (dir-eq e i, some-inj (sym (original-backup k (g .named)) ∙ ap originalName (file-eq e) ∙ original-backup j (h .named)) i)),
+  )
+  backup-outside {c} {k} g (collection d) h z = (z, λ e. none≢some (sym (g .dir) ∙ e))
+
+  -- What the steps of operations made of a store, if none failed.
+  pub record Applied (l : List Op) (u v : Store) : Type 0 where
+    frame : (j : Key) → ((b : Op) → In b l → Outside (placeOf b) j) → look j (v .tree) ≡ look j (u .tree)
+    pub backs : (w : Write) → In (write w) l → Has (target w) o → Has (backup w) (v .tree)
+
   -- One after the other: since their places are apart, each meets its own untouched.
   pub ops-apply : (l : List Op) (u : Store) → ((a : Op) → In a l → In a ops) → AllApart l → ((a : Op) → In a l → Untouched o (placeOf a) u) → Mid u →
-      Cautious Mid (inTurn opSteps l u) u
-  ops-apply [] u sub z t m = m
+      Cautious Mid (inTurn opSteps l u) u × (firstFault (inTurn opSteps l u) u ≡ none → Applied l u (applyAll (inTurn opSteps l u) u))
+  unfolding Frame
+  ops-apply [] u sub z t m = (m, λ e. record { frame = λ j z. refl; backs = λ w i. absurd i })
   ops-apply (a ∷ l) u sub z t m =
-      let one = op-applies a u (sub a (inl refl)) (t a (inl refl)) m in
-      let xs = opSteps a u in
-      cautious-then Mid xs (inTurn opSteps l (applyAll xs u)) u (one .0)
-      (λ e. ops-apply l (applyAll xs u) (λ b i. sub b (inr i)) (z .1)
-      (λ b i. untouched-after o (placeOf a) (placeOf b) (place-good o a (good a (sub a (inl refl)))) (place-good o b (good b (sub b (inr i))))
-      (z .0 b i) u (applyAll xs u) (one .1 e) (t b (inr i)))
-      (through-end Mid xs u (cautious-through Mid xs u (one .0) e)))
+      let rest : firstFault xs u ≡ none → Cautious Mid ys v × (firstFault ys v ≡ none → Applied l v (applyAll ys v)) =
+      λ e. ops-apply l v (λ b i. sub b (inr i)) (z .1) (still e) (through-end Mid xs u (cautious-through Mid xs u (one .0) e)) in (
+        cautious-then Mid xs ys u (one .0) (λ e. rest e .0),
+        λ f. let k = fault-append xs ys u f in let r = rest (k .0) .1 (k .1) in
+            rw (applyAll-append xs ys u) record {
+              frame = λ j y. r .frame j (λ b i. y b (inr i)) ∙ one .1 (k .0) j (y a (inl refl));
+              backs = λ w i h. backs w i h (k .0) r;
+            },
+      )
+    where
+      xs : List Step
+      xs = opSteps a u
+
+      v : Store
+      v = applyAll xs u
+
+      ys : List Step
+      ys = inTurn opSteps l v
+
+      one : Applies (placeOf a) xs u
+      one = op-applies a u (sub a (inl refl)) (t a (inl refl)) m
+
+      still : firstFault xs u ≡ none → (b : Op) → In b l → Untouched o (placeOf b) v
+      still e b i =
+          untouched-after o (placeOf a) (placeOf b) (place-good o a (good a (sub a (inl refl)))) (place-good o b (good b (sub b (inr i))))
+          (z .0 b i) u v (one .1 e) (t b (inr i))
+
+      backs : (w : Write) → In (write w) (a ∷ l) → Has (target w) o → firstFault xs u ≡ none → Applied l v (applyAll ys v) → Has (backup w) (applyAll ys v .tree)
+      backs w (inr i) h e r = r .backs w i h
+      backs w (inl q) h e r =
+          let g : WriteGood o w = good (write w) (sub (write w) (inl q)) in
+          let b = write-backs w u g (t (write w) (inl q)) (subst (λ (c : Op). firstFault (opSteps c u) u ≡ none) (sym q) e) h in (
+            b .0,
+            r .frame (backup w) (λ c i. backup-outside (g .key) (placeOf c) (place-good o c (good c (sub c (inr i))))
+                (subst (λ (d : Op). Apart (placeOf d) (placeOf c)) (sym q) (z .0 c i)))
+                ∙ subst (λ (d : Op). look (backup w) (applyAll (opSteps d u) u .tree) ≡ some (b .0)) q (b .1),
+          )

@@ -157,9 +157,11 @@ clean-all p log s t h =
     (all .0, same-plain (applyAll (removeBackups s) s .tree) p (last .sorted) (t .sorted) (last .agrees) (all .1) (tidy-none t))
 
 -- What is left is tidy, and has the plain names of the tree.
-pub tidied : (s : Store) → Sorted (s .tree) → Within (s .tree) →
-    Tidy (applyAll (removeBackups s) s .tree) × Agrees (s .tree) (s .log) (applyAll (removeBackups s) s)
-tidied s h w = (record { sorted = last .sorted; inside = last .inside; plain = λ d f z. go d f z (originalName d) refl (originalName f) refl }, last)
+pub tidied : (s : Store) → Sorted (s .tree) → Within (s .tree) → let p = applyAll (removeBackups s) s .tree in Tidy p × Agrees p (s .log) s
+tidied s h w = (
+  record { sorted = last .sorted; inside = last .inside; plain = λ d f z. go d f z (originalName d) refl (originalName f) refl },
+  record { same = refl; sorted = h; inside = w; agrees = λ d f p q. sym (last .agrees d f p q) },
+)
   where
     v : Store
     v = applyAll (removeBackups s) s

@@ -17,7 +17,7 @@ use Rattle.model.specs.Store.{Store, stagingKey, stagingNames, dirs, files}
 use Rattle.model.specs.Image.{encode}
 use Rattle.model.specs.Step.{Step, rewriteHeader, makeDirectory, renameFile, moveStaged, removeFile, removeStaging, apply, applyAll, fieldAt}
 use Rattle.model.specs.Plan.{inTurn, run, opSteps, removeBackupFile, removeBackupsIn, removeBackups, removeStagingFiles, syncExisting, firstNamings}
-use Rattle.model.specs.Plan.{collectionOf, firstFault, commitFault, commitParts, commitPlan, committedAt}
+use Rattle.model.specs.Plan.{collectionOf, firstFault, commitFault, commitParts, commitEnd, commitPlan, committedAt}
 use Rattle.answers.specs.Answers.{Answer, refusal}
 use Rattle.basic_laws.specs.OrderLaws.{keyLaws, lt≢eq, gt≢eq}
 use Rattle.basic_laws.specs.MapLaws.{Sorted, none≢some, some-inj, look-put-other, look-del-other, sorted-del, look-all}
@@ -32,7 +32,7 @@ use Rattle.cut_rule.specs.StoreRule.{old-file, WriteGood, Transacts}
 use Rattle.cut_rule.specs.Files.{file-eq, dir-eq, name-apart}
 use Rattle.cut_rule.specs.Clean.{Tidy, old-tidy, clean-all}
 use Rattle.cut_rule.specs.Apply.{rename-tree, move-tree, move-stands}
-use Rattle.cut_rule.specs.Commit.{steps, fault-is, plan-is, behind, unlogged, final, final-tidy, unlogged-ended, syncs-same}
+use Rattle.cut_rule.specs.Commit.{steps, fault-is, plan-is, unlogged, final, final-tidy, unlogged-ended, syncs-same}
 use Rattle.cut_rule.specs.OverImages.{committed, stepped, transacts}
 use Rattle.cut_rule.specs.Writes.{in-ops, suits, all-true}
 
@@ -361,7 +361,7 @@ module _ (s : Store) (ws : List Write) (T : Transacts s (map write ws)) (distinc
   plan-length : commitFault s ≡ none →
       length (commitPlan s) ≡ 6 + length ws + 2 * count (existedIn s) ws + length (firstNamings [] collections) + unnamed (map (λ w. w .staged) ws) (s .staging)
   unfolding apply
-  plan-length f = rw (plan-is s (map write ws) T none f) total
+  plan-length f = rw (plan-is s (map write ws) T commitEnd none f) total
     where
       u₀ : Store
       u₀ = apply rewriteHeader s
@@ -426,20 +426,20 @@ module _ (s : Store) (ws : List Write) (T : Transacts s (map write ws)) (distinc
           length-map (stagingNames (u₃ .staging)) removeStaging ∙ ap (λ (m : Map). length (stagingNames m)) (falls .staged ∙ c .staged)
           ∙ sym (unnamed-dels (map (λ w. w .staged) ws) (s .staging) (T .bare))
 
-      rest : length (inTurn run (behind s (map write ws) T) u₁) ≡ 3 + (count (existedIn s) ws + unnamed (map (λ w. w .staged) ws) (s .staging))
+      rest : length (inTurn run commitEnd u₁) ≡ 3 + (count (existedIn s) ws + unnamed (map (λ w. w .staged) ws) (s .staging))
       rest =
           let a = length-append (removeBackups u₂) (removeStagingFiles u₃ ++ []) in
           let b = length-append (removeStagingFiles u₃) [] in
           omega (arith, a, b, baks, unstaged)
 
-      total : length (rewriteHeader ∷ inTurn run (commitParts (map write ws) none) u₀)
+      total : length (rewriteHeader ∷ inTurn run (commitParts commitEnd (map write ws) none) u₀)
           ≡ 6 + length ws + 2 * count (existedIn s) ws + length (firstNamings [] collections) + unnamed (map (λ w. w .staged) ws) (s .staging)
       total =
-          let zs : List Step = inTurn run (behind s (map write ws) T) (applyAll ys u₁) in
+          let zs : List Step = inTurn run commitEnd (applyAll ys u₁) in
           let a = length-append xs (ys ++ zs) in
           let b = length-append ys zs in
-          let d : length zs ≡ length (inTurn run (behind s (map write ws) T) u₁) =
-          ap (λ (v : Store). length (inTurn run (behind s (map write ws) T) v)) (syncs-same l u₁) in
+          let d : length zs ≡ length (inTurn run commitEnd u₁) =
+          ap (λ (v : Store). length (inTurn run commitEnd v)) (syncs-same l u₁) in
           let g = c .steps in
           omega (arith, a, b, d, g, rest, syncs)
 

@@ -1,5 +1,5 @@
--- The cut rule over images: 01, 'The words of demand 3', and 02, items 4, 5 and 13. Quotes are from 01, or from 02 where an item is named. Theorem.antt,
--- Again.antt and Count.antt prove what is stated here.
+-- The cut rule over images: 01, 'The words of demand 3', and 02, items 4, 5, 6 and 13. Quotes are from 01, or from 02 where an item is named. Theorem.antt,
+-- Again.antt, HoldRules.antt and Count.antt prove what is stated here.
 use mathlib.Core.Path.{_≡_}
 use Prim.Native.Nat.{ℕ, _+_, _*_, _≤_}
 use mathlib.Core.List.{List, [], _∷_, _++_, map}
@@ -20,7 +20,7 @@ use Rattle.model.specs.Store.{Store, stagingKey, stagingNames}
 use Rattle.model.specs.Image.{decode}
 use Rattle.model.specs.Step.{Step, renameFile, stepField}
 use Rattle.model.specs.Plan.{commitPlan}
-use Rattle.answers.specs.Answers.{answer, commit, commitStep, recover, recoverStep}
+use Rattle.answers.specs.Answers.{Answer, answer, commit, commitStep, recover, recoverStep, hold, holdStep, keep, keepStep, revert, revertStep}
 use Rattle.laws.specs.Listings.{Once}
 
 -- A name ends in .bak, or in .tmp: as text, whatever stands before the dot.
@@ -172,6 +172,93 @@ AgainRule =
     (b : Bytes) (s : Store) (ws : List Write) (n : ℕ) (ms : List ℕ) (out : ℕ) →
     Either b s ws → TrulyMarked (s .tree) ws → commitStep n b imageRoom stepRoom .number ≡ 0 → InPlans ms (cutAt n b) →
     recover (cutRecoveries ms (cutAt n b)) out ≡ recover (cutAt n b) out
+
+-- 02, item 6: what an uncut held commit hands back; what its step entry hands back at n.
+abbrev pub heldImage : Bytes → Bytes
+heldImage b = hold b imageRoom .image
+
+abbrev pub holdCutAt : ℕ → Bytes → Bytes
+holdCutAt n b = holdStep n b imageRoom stepRoom .image
+
+-- "keep gives the ordinary commit's image": of every transaction that commits, whatever its operations, and byte for byte, for every length of the output.
+abbrev pub HoldKeep : Type 0
+HoldKeep = (b : Bytes) (out : ℕ) → commit b imageRoom .number ≡ 0 → (hold b imageRoom .number ≡ 0) × (keep (heldImage b) out ≡ commit b out)
+
+-- "revert after an uncut held commit gives exactly the collections, names and contents from before": hold answers 0, and revert, "unless given 2".
+abbrev pub RevertGives : Bytes → Store → ℕ → Type 0
+RevertGives b s out =
+    (hold b imageRoom .number ≡ 0) × ((revert (heldImage b) out .number ≡ 2 → ⊥) → revert (heldImage b) out ≡ answer 0 (settled (s .tree)))
+
+-- "For transactions under the cut rule's conditions": Writes of kinds 1 and 7, in any mix, with true marks.
+abbrev pub HoldRevert : Type 0
+HoldRevert = (b : Bytes) (s : Store) (ws : List Write) (out : ℕ) → Conditions b s ws → TrueMarks (s .tree) ws → RevertGives b s out
+
+-- Beyond document 02: a held commit that goes through is cut after any of its steps n, its recoveries too, any number of times. Once one runs to its end the
+-- store is exactly the one from before, where no Held log stands at the cut (keep's step 0 gives 18), else exactly the one that hold hands back uncut.
+abbrev pub HoldGives : Bytes → Store → ℕ → List ℕ → ℕ → Type 0
+HoldGives b s n ms out =
+    let c : Bytes = holdCutAt n b in
+    let r : Answer = recover (cutRecoveries ms c) out in
+    holdStep n b imageRoom stepRoom .number ≡ 0 → InPlans ms c → (r .number ≡ 2 → ⊥) →
+    ((keepStep 0 c imageRoom stepRoom .number ≡ 18) × (r ≡ answer 0 (settled (s .tree))))
+    ⊎ ((keepStep 0 c imageRoom stepRoom .number ≡ 0) × (r ≡ hold b imageRoom))
+
+-- For marked Writes with true marks.
+abbrev pub HoldRule : Type 0
+HoldRule =
+    (b : Bytes) (s : Store) (ws : List Write) (n : ℕ) (ms : List ℕ) (out : ℕ) → Conditions b s ws → TrulyMarked (s .tree) ws → HoldGives b s n ms out
+
+-- "A held commit that fails rolls back as before": whatever its operations, it answers as the ordinary one, and so does its step entry.
+abbrev pub HoldFails : Type 0
+HoldFails =
+    (b : Bytes) → (commit b imageRoom .number ≡ 14) ⊎ (commit b imageRoom .number ≡ 15) →
+    ((out : ℕ) → hold b out ≡ commit b out) × ((n out stepOut : ℕ) → holdStep n b out stepOut ≡ commitStep n b out stepOut)
+
+-- So with true marks it hands back exactly the directories and files from before, and recovery from any cut of it does, recoveries cut any number of times.
+abbrev pub HoldFailing : Type 0
+HoldFailing =
+    (b : Bytes) (s : Store) (ws : List Write) (n : ℕ) (ms : List ℕ) (out : ℕ) → Failing b s ws → TrulyMarked (s .tree) ws →
+    let r : Answer = recover (cutRecoveries ms (holdCutAt n b)) out in
+    (heldImage b ≡ answer 0 (settled (s .tree)) .image)
+    × (holdStep n b imageRoom stepRoom .number ≡ 0 → InPlans ms (holdCutAt n b) → (r .number ≡ 2 → ⊥) → r ≡ answer 0 (settled (s .tree)))
+
+-- Keep cut after any of its steps n: what it leaves is still the held image, byte for byte, or one that recovery, cut any number of times, brings to the
+-- ordinary commit's answer. Of every transaction that commits.
+abbrev pub KeepRule : Type 0
+KeepRule =
+    (b : Bytes) (n : ℕ) → commit b imageRoom .number ≡ 0 → keepStep n (heldImage b) imageRoom stepRoom .number ≡ 0 →
+    let c : Bytes = keepStep n (heldImage b) imageRoom stepRoom .image in
+    (c ≡ heldImage b) ⊎ ((ms : List ℕ) (out : ℕ) → InPlans ms c → recover (cutRecoveries ms c) out ≡ commit b out)
+
+-- A revert that is cut after so many steps; a recovery, cut or not, as after each loss of power.
+pub data Act : Type 0 where
+  reverted recovered : ℕ → Act
+
+abbrev pub act : Act → Bytes → Answer
+act (reverted m) c = revertStep m c imageRoom stepRoom
+act (recovered m) c = recoverStep m c imageRoom stepRoom
+
+-- Any number of them, one after the other, in any order; each number is one of a step, or 0.
+abbrev pub cutActs : List Act → Bytes → Bytes
+cutActs [] c = c
+cutActs (a ∷ l) c = cutActs l (act a c .image)
+
+abbrev pub InActs : List Act → Bytes → Type 0
+InActs [] c = Unit {0}
+InActs (a ∷ l) c = (act a c .number ≡ 0) × InActs l (act a c .image)
+
+-- What they leave of a held commit: revert then gives exactly the store from before; or no Held log stands any more, revert gives 18, and recovery, cut any
+-- number of times, gives exactly the store from before.
+abbrev pub ActsGive : Bytes → Store → List Act → Type 0
+ActsGive b s acts =
+    let c : Bytes = cutActs acts (heldImage b) in
+    InActs acts (heldImage b) →
+    (revert c imageRoom ≡ answer 0 (settled (s .tree)))
+    ⊎ ((revert c imageRoom .number ≡ 18) × ((ms : List ℕ) → InPlans ms c → recover (cutRecoveries ms c) imageRoom ≡ answer 0 (settled (s .tree))))
+
+-- For marked Writes with true marks. A revert that was cut and is then kept may lose a key: keep reads no entry.
+abbrev pub RevertRule : Type 0
+RevertRule = (b : Bytes) (s : Store) (ws : List Write) (acts : List Act) → Conditions b s ws → TrulyMarked (s .tree) ws → ActsGive b s acts
 
 -- 02, item 13: "w Writes, at least one, b of their keys already there, c distinct collections named by them, s staging files that no Write names".
 abbrev pub count : {A : Type 0} → (A → Bool) → List A → ℕ

@@ -1,11 +1,11 @@
--- The ten-step case meets the conditions of the cut rule: they are no empty ones.
+-- The ten-step case meets the conditions of the cut rule: they are no empty ones. So it is cut, counted, held, reverted and kept here.
 use mathlib.Core.Path.{_≡_, refl, sym, _∙_, ap}
 use Prim.Native.Nat.{ℕ, _≤_}
 use native.Mathlib.Omega.{arith}
 use mathlib.Core.List.{[], _∷_, _++_, map}
 use mathlib.Core.Option.{Option, none, some}
 use mathlib.Core.Bool.{true, false}
-use mathlib.Core.Logic.{inl, inr}
+use mathlib.Core.Logic.{_⊎_, inl, inr}
 use lib.ListN.{length, length-append}
 use Rattle.basics.specs.Order.{Name, Key, cmpKey}
 use Rattle.basics.specs.Map.{Map, look, put, del, Has}
@@ -16,20 +16,23 @@ use Rattle.basics.specs.Name.{refusedNames, validName}
 use Rattle.basics.specs.Crc32.{crc32, register, feedByte, shifts, shift, addPolynomial}
 use Rattle.basics.specs.Field.{littleEndian, fromLittleEndian, encodeField, encodeFields, fieldsFrom, decodeFields, hasTag}
 use Rattle.model.specs.Operation.{Write, write, target, fieldTable, fieldTags, makers, validValue, opOfFields, decodePayload}
-use Rattle.model.specs.Log.{header, validHeader, firstPayload, walk, entries, readJournal, markCommitting, journal, opsOf}
+use Rattle.model.specs.Log.{header, validHeader, firstPayload, walk, entries, readJournal, markCommitting, markHeld, journal, opsOf}
 use Rattle.model.specs.Store.{Store, dirs, files, validNode, validNodes, validStaged, ascending, wellFormed}
 use Rattle.model.specs.Image.{imageFields, encode, treeOf, stagingOf, logOf, storeOf, decode}
 use Rattle.model.specs.Step.{removeDir, renameDir, apply, zeroSeparated, tagAndNames, stepField, stepFault}
 use Rattle.model.specs.Plan.{opSteps, undoSteps, restoreFile, restoreDirectory, removeBackupFile, removeBackupsIn, firstNamings, syncExisting, commitFault}
-use Rattle.model.specs.Plan.{commitPlan, committedAt, recoverPlan, recoveredAt, recovered}
+use Rattle.model.specs.Plan
+use Rattle.model.specs.Plan.{commitPlan, planEnding, endingAt, recoverPlan, recoveredAt, revertPlan, revertedAt, keepPlan, keptAt}
 use Rattle.model.specs.Record.{transaction}
-use Rattle.answers.specs.Answers.{answer, commitStore, commit, recoverStore, recover, commitStep, recoverStep}
+use Rattle.answers.specs.Answers.{answer, endingStore, commit, recoverStore, recover, commitStep, recoverStep, hold, holdStep, keep, keepStep}
+use Rattle.answers.specs.Answers.{revertStore, revert, revertStep}
 use Rattle.basic_laws.specs.MapLaws.{key-dec, none≢some, look-tail}
 use Rattle.cut_rule.specs.Demand.{NoExtension, Unmarked, TrulyMarked, Conditions, backupRename, Renamed, cutAt, settled, allWritesDone, cutRecoveries}
-use Rattle.cut_rule.specs.Demand.{InPlans, ListedOnce, stepCount}
+use Rattle.cut_rule.specs.Demand.{InPlans, ListedOnce, stepCount, heldImage, holdCutAt, reverted, recovered, cutActs, InActs}
 use Rattle.cut_rule.specs.Theorem.{demand-3, marked-rule}
 use Rattle.cut_rule.specs.Again.{again-rule, either, done-not-4}
 use Rattle.cut_rule.specs.Writes.{truly-true}
+use Rattle.cut_rule.specs.HoldRules.{hold-keep, hold-revert, hold-rule, revert-rule}
 use Rattle.cut_rule.specs.Count.{step-count}
 
 db : Name
@@ -98,6 +101,7 @@ record Computed : Type 0 where
   log8 : hasTag 0x13 (cutAt 8 ten) ≡ false
   recovers4 : recover (cutAt 4 ten) imageRoom .number ≡ 0
   recovers8 : recover (cutAt 8 ten) imageRoom .number ≡ 0
+  reverts : revert (heldImage ten) imageRoom .number ≡ 0
   written : allWritesDone (store .staging) (write9 ∷ []) tree7 ≡ ((db, []), 0) ∷ ((db, a), 9) ∷ []
 
 computed : Computed
@@ -105,13 +109,13 @@ unfolding ten store tree7 write9 db a crc32 register feedByte shifts shift addPo
     encodeFields fieldsFrom decodeFields hasTag
     lastDot extension stripExtension backupExtension stagingExtension backupName originalName stripTmp isNameByte refusedNames validName
     fieldTable fieldTags makers validValue opOfFields decodePayload
-    header validHeader firstPayload walk entries readJournal markCommitting
+    header validHeader firstPayload walk entries readJournal markCommitting markHeld
     cmpKey look put del dirs files validNode validNodes validStaged ascending wellFormed
     imageFields encode treeOf stagingOf logOf storeOf decode
     removeDir renameDir apply zeroSeparated tagAndNames stepField stepFault
-    opSteps undoSteps restoreFile restoreDirectory removeBackupFile removeBackupsIn firstNamings syncExisting commitFault commitPlan committedAt
-    recoverPlan recovered
-    transaction commitStore commit recoverStore recover commitStep allWritesDone
+    opSteps undoSteps restoreFile restoreDirectory removeBackupFile removeBackupsIn firstNamings syncExisting commitFault planEnding endingAt
+    recoverPlan Plan.recovered revertPlan Plan.reverted
+    transaction endingStore commit recoverStore recover commitStep allWritesDone hold revertStore revert
 computed = record {
   holds = refl;
   writes = refl;
@@ -124,6 +128,7 @@ computed = record {
   log8 = refl;
   recovers4 = refl;
   recovers8 = refl;
+  reverts = refl;
   written = refl;
 }
 
@@ -211,19 +216,27 @@ record ComputedMarked : Type 0 where
   recovers5 : recover (cutAt 5 tenMarked) imageRoom .number ≡ 0
   cuts : InPlans (2 ∷ 0 ∷ 1 ∷ []) (cutAt 5 tenMarked)
   counted : stepCount storeMarked (write9Marked ∷ []) (db ∷ []) ≡ 10
+  holds7 : holdStep 7 tenMarked imageRoom stepRoom .number ≡ 0
+  holds8 : holdStep 8 tenMarked imageRoom stepRoom .number ≡ 0
+  held7 : keepStep 0 (holdCutAt 7 tenMarked) imageRoom stepRoom .number ≡ 18
+  held8 : keepStep 0 (holdCutAt 8 tenMarked) imageRoom stepRoom .number ≡ 0
+  recovers7 : recover (holdCutAt 7 tenMarked) imageRoom .number ≡ 0
+  recovers8 : recover (holdCutAt 8 tenMarked) imageRoom .number ≡ 0
+  acts : InActs (reverted 1 ∷ recovered 0 ∷ reverted 1 ∷ []) (heldImage tenMarked)
+  reverts : revert (cutActs (reverted 1 ∷ recovered 0 ∷ reverted 1 ∷ []) (heldImage tenMarked)) imageRoom .number ≡ 0
 
 computedMarked : ComputedMarked
 unfolding tenMarked storeMarked tree7 write9Marked db a crc32 register feedByte shifts shift addPolynomial littleEndian fromLittleEndian encodeField
     encodeFields fieldsFrom decodeFields hasTag
     lastDot extension stripExtension backupExtension stagingExtension backupName originalName stripTmp isNameByte refusedNames validName
     fieldTable fieldTags makers validValue opOfFields decodePayload
-    header validHeader firstPayload walk entries readJournal markCommitting
+    header validHeader firstPayload walk entries readJournal markCommitting markHeld
     cmpKey look put del dirs files validNode validNodes validStaged ascending wellFormed
     imageFields encode treeOf stagingOf logOf storeOf decode
     removeDir renameDir apply zeroSeparated tagAndNames stepField stepFault
-    opSteps undoSteps restoreFile restoreDirectory removeBackupFile removeBackupsIn firstNamings syncExisting commitFault commitPlan committedAt
-    recoverPlan recoveredAt recovered
-    transaction commitStore commit recoverStore recover commitStep recoverStep
+    opSteps undoSteps restoreFile restoreDirectory removeBackupFile removeBackupsIn firstNamings syncExisting commitFault planEnding endingAt
+    recoverPlan recoveredAt Plan.recovered revertPlan revertedAt Plan.reverted keepPlan keptAt
+    transaction endingStore commit recoverStore recover commitStep recoverStep hold holdStep keepStep revertStore revert revertStep
 computedMarked = record {
   holds = refl;
   writes = refl;
@@ -237,6 +250,14 @@ computedMarked = record {
   recovers5 = refl;
   cuts = (refl, (refl, (refl, tt)));
   counted = refl;
+  holds7 = refl;
+  holds8 = refl;
+  held7 = refl;
+  held8 = refl;
+  recovers7 = refl;
+  recovers8 = refl;
+  acts = (refl, (refl, (refl, tt)));
+  reverts = refl;
 }
 
 metMarked : Conditions tenMarked storeMarked (write9Marked ∷ [])
@@ -286,3 +307,40 @@ ten-steps =
   where
     listed : ListedOnce (db ∷ []) (write9Marked ∷ [])
     listed = ((λ i. i, tt), λ d. unfold write9Marked in ((λ i. i), λ i. i))
+
+-- 02, item 6: held and reverted it is a=7, with a Write of kind 1 too; held and kept it is what commit gives.
+held-reverted : revert (heldImage ten) imageRoom ≡ answer 0 (settled tree7)
+unfolding store
+held-reverted =
+    hold-revert ten store (write9 ∷ []) imageRoom met (λ w i x e. none≢some (sym (unmarked w i) ∙ e)) .1 (not-2 _ (computed .reverts))
+
+held-kept : keep (heldImage ten) imageRoom ≡ commit ten imageRoom
+held-kept = hold-keep ten imageRoom (computed .commits) .1
+
+-- Held, and cut after 7 steps: recovery gives a=7. After 8, the Held header's rewriting: what is held.
+not-second : {A B : Type 0} {x : ℕ} (p q : ℕ) → x ≡ p → (p ≡ q → ⊥) → A ⊎ ((x ≡ q) × B) → A
+not-second p q e n (inl h) = h
+not-second p q e n (inr h) = absurd (n (sym e ∙ h .0))
+
+not-first : {A B : Type 0} {x : ℕ} (p q : ℕ) → x ≡ p → (p ≡ q → ⊥) → ((x ≡ q) × A) ⊎ B → B
+not-first p q e n (inl h) = absurd (n (sym e ∙ h .0))
+not-first p q e n (inr h) = h
+
+held-after-7 : recover (holdCutAt 7 tenMarked) imageRoom ≡ answer 0 (settled tree7)
+unfolding storeMarked
+held-after-7 =
+    not-second 18 0 (computedMarked .held7) (λ z. omega arith)
+    (hold-rule tenMarked storeMarked (write9Marked ∷ []) 7 [] imageRoom metMarked marked (computedMarked .holds7) tt (not-2 _ (computedMarked .recovers7))) .1
+
+held-after-8 : recover (holdCutAt 8 tenMarked) imageRoom ≡ hold tenMarked imageRoom
+unfolding storeMarked
+held-after-8 =
+    not-first 0 18 (computedMarked .held8) (λ z. omega arith)
+    (hold-rule tenMarked storeMarked (write9Marked ∷ []) 8 [] imageRoom metMarked marked (computedMarked .holds8) tt (not-2 _ (computedMarked .recovers8))) .1
+
+-- Held; a revert cut after a step, a recovery, a revert cut again: revert gives a=7.
+reverted-again : revert (cutActs (reverted 1 ∷ recovered 0 ∷ reverted 1 ∷ []) (heldImage tenMarked)) imageRoom ≡ answer 0 (settled tree7)
+unfolding storeMarked
+reverted-again =
+    not-second 0 18 (computedMarked .reverts) (λ z. omega arith)
+    (revert-rule tenMarked storeMarked (write9Marked ∷ []) (reverted 1 ∷ recovered 0 ∷ reverted 1 ∷ []) metMarked marked (computedMarked .acts))

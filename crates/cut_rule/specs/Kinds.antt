@@ -1,5 +1,5 @@
 -- The cut rule for operations of every kind, over images: beyond document 02, whose rule speaks of Writes alone. KindsRule.antt proves it, Again.antt where
--- recovery is cut too.
+-- recovery is cut too, HoldRules.antt where the commit is held.
 use mathlib.Core.Path.{_≡_}
 use Prim.Native.Nat.{ℕ}
 use mathlib.Core.List.{List, [], _∷_}
@@ -15,7 +15,7 @@ use Rattle.model.specs.Log.{journal, opsOf}
 use Rattle.model.specs.Store.{Store}
 use Rattle.model.specs.Image.{encode, decode}
 use Rattle.answers.specs.Answers.{commit, commitStep, recover}
-use Rattle.cut_rule.specs.Demand.{NoExtension, TrueMark, settled, cutAt, cutRecoveries, InPlans}
+use Rattle.cut_rule.specs.Demand.{NoExtension, TrueMark, settled, cutAt, cutRecoveries, InPlans, RevertGives, HoldGives, Act, ActsGive}
 
 -- What an operation touches: a key of a collection, or a collection as a whole. A copy touches its destination; its source it only reads.
 pub data Place : Type 0 where
@@ -100,3 +100,19 @@ KindsAgain =
     (b : Bytes) (s : Store) (ops : List Op) (n : ℕ) (ms : List ℕ) (out : ℕ) →
     Suits b s ops → AllTrue (s .tree) ops → Marked ops → (commit b imageRoom .number ≡ 4 → ⊥) → commitStep n b imageRoom stepRoom .number ≡ 0 →
     InPlans ms (cutAt n b) → recover (cutRecoveries ms (cutAt n b)) out ≡ recover (cutAt n b) out
+
+-- A held commit that goes through, reverted (02, item 6): Writes of kind 1 too, since each key that existed has its backup then.
+abbrev pub KindsRevert : Type 0
+KindsRevert =
+    (b : Bytes) (s : Store) (ops : List Op) (out : ℕ) → Suits b s ops → AllTrue (s .tree) ops → commit b imageRoom .number ≡ 0 → RevertGives b s out
+
+-- The held commit cut; its revert cut.
+abbrev pub KindsHold : Type 0
+KindsHold =
+    (b : Bytes) (s : Store) (ops : List Op) (n : ℕ) (ms : List ℕ) (out : ℕ) → Suits b s ops → AllTrue (s .tree) ops → Marked ops →
+    commit b imageRoom .number ≡ 0 → HoldGives b s n ms out
+
+abbrev pub KindsActs : Type 0
+KindsActs =
+    (b : Bytes) (s : Store) (ops : List Op) (acts : List Act) → Suits b s ops → AllTrue (s .tree) ops → Marked ops → commit b imageRoom .number ≡ 0 →
+    ActsGive b s acts

@@ -42,12 +42,12 @@ kinds-rule b s ops n out C t m c e l =
     by-log true = refl
     by-log false = sym (ap (λ (a : Answer). a .image) (commit-gives b s (C .holds) (k .0)) ∙ ap encode (committed-end s ops T (k .1)))
 
-fault-of : (q : Option Fault) → (commitNumber q ≡ 14) ⊎ (commitNumber q ≡ 15) → (e : Fault) × (q ≡ some e)
+pub fault-of : (q : Option Fault) → (commitNumber q ≡ 14) ⊎ (commitNumber q ≡ 15) → (e : Fault) × (q ≡ some e)
 fault-of none (inl e) = absurd (omega arith)
 fault-of none (inr e) = absurd (omega arith)
 fault-of (some e) h = (e, refl)
 
-not-4 : (x : ℕ) → (x ≡ 14) ⊎ (x ≡ 15) → x ≡ 4 → ⊥
+pub not-4 : (x : ℕ) → (x ≡ 14) ⊎ (x ≡ 15) → x ≡ 4 → ⊥
 not-4 x (inl p) q = omega arith
 not-4 x (inr p) q = omega arith
 

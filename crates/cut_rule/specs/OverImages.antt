@@ -15,13 +15,13 @@ use Rattle.basics.specs.Base.{Bytes, caseOption, if_then_else_, isSome, In}
 use Rattle.basics.specs.Name.{lastDot, extension, backupExtension, stagingExtension, stripExtension, originalName, stripTmp}
 use Rattle.basics.specs.Field.{hasTag}
 use Rattle.model.specs.Operation.{Op, Write, write, delete, deleteAll, createCollection, deleteCollection, copyCollection}
-use Rattle.model.specs.Log.{recording, whole, opsOf}
+use Rattle.model.specs.Log.{recording, committing, whole, journal, opsOf}
 use Rattle.model.specs.Store.{Store}
 use Rattle.model.specs.Image.{encode, decode}
-use Rattle.model.specs.Plan.{commitFault, commitPlan, committedAt}
+use Rattle.model.specs.Plan.{commitFault, commitPlan, committedAt, recoverFault, recovered}
 use Rattle.model.specs.Record.{transaction}
-use Rattle.model.specs.Step.{commitNumber}
-use Rattle.answers.specs.Answers.{Answer, answer, refusal, stepAnswer, commitStore, commit, commitStep, recoverStore, recover}
+use Rattle.model.specs.Step.{Step, fieldAt, commitNumber}
+use Rattle.answers.specs.Answers.{Answer, answer, refusal, stepAnswer, endingStore, commit, commitStep, recoverStore, recover}
 use Rattle.basic_laws.specs.MapLaws.{none≢some}
 use Rattle.basic_laws.specs.Tests.{All, all-in, nil≢cons}
 use Rattle.basic_laws.specs.NameLaws.{strip-some, original-backup}
@@ -65,7 +65,7 @@ pub record Found (s : Store) : Type 0 where
   pub found : transaction s ≡ some ops
 
 pub found-in : (b : Bytes) (s : Store) → decode b ≡ some s → (commit b imageRoom .number ≡ 4 → ⊥) → Found s
-unfolding commit commitStore
+unfolding commit endingStore
 found-in b s d h = go (transaction s) refl (rw d at h)
   where
     go : (q : Option (List Op)) → transaction s ≡ q →
@@ -76,7 +76,7 @@ found-in b s d h = go (transaction s) refl (rw d at h)
 -- What commit gives then.
 pub commit-gives : (b : Bytes) (s : Store) → decode b ≡ some s → Found s →
     commit b imageRoom ≡ answer (commitNumber (commitFault s)) (committedAt (length (commitPlan s)) s)
-unfolding commit commitStore
+unfolding commit endingStore
 commit-gives b s d c = rw (d, c .found)
 
 pub committed : (b : Bytes) (s : Store) → decode b ≡ some s → commit b imageRoom .number ≡ 0 → Found s × (commitFault s ≡ none)
@@ -89,27 +89,28 @@ pub stepped : (b : Bytes) (s : Store) (n : ℕ) → decode b ≡ some s → Foun
 unfolding commitStep
 stepped b s n d c = rw (d, c .found)
 
--- The step number is within the plan.
-pub within-plan : (t : Bool) (a : Answer) → if_then_else_ t a (refusal 16) .number ≡ 0 → if_then_else_ t a (refusal 16) ≡ a
-within-plan true a e = refl
-within-plan false a e = absurd (omega arith)
+-- A step entry's image, where the step number is within the plan.
+pub at-step : (a : Answer) (n : ℕ) (plan : List Step) (u : Store) → a ≡ stepAnswer n plan u → a .number ≡ 0 → a .image ≡ encode u
+at-step a n plan u e z = go (leb n (length plan)) e
+  where
+    go : (t : Bool) → a ≡ if_then_else_ t (record { number = 0; image = encode u; step = fieldAt n plan }) (refusal 16) → a .image ≡ encode u
+    go true e = ap (λ (x : Answer). x .image) e
+    go false e = let y = ap (λ (x : Answer). x .number) e in absurd (omega arith)
 
-not-refused : (t : Bool) (a c : Answer) → a ≡ if_then_else_ t c (refusal 2) → (a .number ≡ 2 → ⊥) → a ≡ c
+pub not-refused : (t : Bool) (a c : Answer) → a ≡ if_then_else_ t c (refusal 2) → (a .number ≡ 2 → ⊥) → a ≡ c
 not-refused true a c e h = e
 not-refused false a c e h = absurd (h (ap (λ (x : Answer). x .number) e))
 
 -- A file stands in a directory.
-inside : (u : Store) → Good Valid u → (d f : Name) → Has (d, f) (u .tree) → Has (d, []) (u .tree)
+pub inside : (u : Store) → Good Valid u → (d f : Name) → Has (d, f) (u .tree) → Has (d, []) (u .tree)
 inside u g d [] h = h
 inside u g d (y ∷ ys) h = g .tree .node d (y ∷ ys) (h .0) (h .1) .inside (λ e. nil≢cons (sym e))
 
--- What recovery answers where it heals.
-pub answered : (ops : List Op) (p : Map) (u : Store) (out : ℕ) → Tidy p → Good Valid u → Heals ops p u →
-    recover (encode u) out ≡ if_then_else_ (leb imageRoom out) (answer 0 (settled p)) (refusal 2)
+-- What recovery answers where it refuses nothing.
+pub answered : (u x : Store) (out : ℕ) → Good Valid u → recoverFault (journal (u .log)) (u .tree) ≡ none → recovered u ≡ x →
+    recover (encode u) out ≡ if_then_else_ (leb imageRoom out) (answer 0 x) (refusal 2)
 unfolding recover recoverStore
-answered ops p u out t g h =
-    let w = well-formed u g in
-    rw (decode-encode u w, heals-calm ops p u h, heals ops p u t (bare u w) h)
+answered u x out g c e = rw (decode-encode u (well-formed u g), c, e)
 
 -- An operation of a log that meets the conditions.
 op-good : (t : Map) (a : Op) → ValidOp a → PlainPlace (placeOf a) → ((w : Write) → a ≡ write w → Has (w .collection, []) t) → TrueOf t a → OpGood t a
@@ -160,9 +161,7 @@ module _ (b : Bytes) (s : Store) (ops : List Op) (C : Suits b s ops) (t : AllTru
 
   module _ (n : ℕ) (e : commitStep n b imageRoom stepRoom .number ≡ 0) where
     pub cut-image : cutAt n b ≡ encode (committedAt n s)
-    cut-image =
-        let a = stepped b s n (C .holds) k in
-        ap (λ (x : Answer). x .image) (a ∙ within-plan (leb n (length (commitPlan s))) _ (ap (λ (x : Answer). x .number) (sym a) ∙ e))
+    cut-image = at-step (commitStep n b imageRoom stepRoom) n (commitPlan s) (committedAt n s) (stepped b s n (C .holds) k) e
 
     pub log-there : isSome (committedAt n s .log) ≡ hasTag 0x13 (cutAt n b)
     log-there = sym (ap (hasTag 0x13) cut-image ∙ log-stood (committedAt n s) (well-formed (committedAt n s) (cut-good n)))
@@ -172,4 +171,6 @@ module _ (b : Bytes) (s : Store) (ops : List Op) (C : Suits b s ops) (t : AllTru
         recover (cutAt n b) out ≡ answer 0 (settled p)
     recovers p out t h l =
         not-refused (leb imageRoom out) (recover (cutAt n b) out) (answer 0 (settled p))
-        (ap (λ (c : Bytes). recover c out) cut-image ∙ answered ops p (committedAt n s) out t (cut-good n) h) l
+        (ap (λ (c : Bytes). recover c out) cut-image
+        ∙ answered (committedAt n s) (settled p) out (cut-good n) (heals-calm (committing ops whole) ops p (committedAt n s) (inl refl) h)
+        (heals ops p (committedAt n s) t (bare (committedAt n s) (well-formed (committedAt n s) (cut-good n))) h)) l

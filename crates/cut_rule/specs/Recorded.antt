@@ -16,7 +16,7 @@ use Rattle.basics.specs.Field.{littleEndian, hasTag}
 use Rattle.basics.specs.Crc32.{crc32, register, feedByte, shifts, shift, addPolynomial}
 use Rattle.model.specs.Operation as Operation
 use Rattle.model.specs.Operation.{Op, Write, target}
-use Rattle.model.specs.Log.{recording, whole, journal, opsOf, header, validHeader, walk, entries, readJournal, appendOperation}
+use Rattle.model.specs.Log.{recording, whole, journal, isHeld, opsOf, header, validHeader, walk, entries, readJournal, appendOperation}
 use Rattle.model.specs.Store.{Store, stagingKey, validNumber}
 use Rattle.model.specs.Image.{decode}
 use Rattle.model.specs.Record.{Outcome, refuse, give, beginTransaction, require, appended, recordWrite}
@@ -46,7 +46,7 @@ GivesTrue (give u) = TrueLog u
 
 begin-true : (s : Store) → GivesTrue (beginTransaction s)
 unfolding beginTransaction
-begin-true s = go (s .openMark)
+begin-true s = go (s .openMark) (isHeld (journal (s .log)))
   where
     begun : Store
     begun = record { tree = s .tree; staging = s .staging; log = some (header 0); openMark = true }
@@ -54,9 +54,10 @@ begin-true s = go (s .openMark)
     empty : journal (begun .log) ≡ recording [] whole
     empty = unfold readJournal validHeader header littleEndian crc32 register feedByte shifts shift addPolynomial entries walk in refl
 
-    go : (t : Bool) → GivesTrue (if_then_else_ t (refuse 3) (give begun))
-    go true = tt
-    go false = record { ops = []; reads = empty; marks = λ w i. absurd i }
+    go : (t h : Bool) → GivesTrue (if_then_else_ t (refuse 3) (if_then_else_ h (refuse 17) (give begun)))
+    go true h = tt
+    go false true = tt
+    go false false = record { ops = []; reads = empty; marks = λ w i. absurd i }
 
 write-true : (c key st : Name) (x : ℕ) (s : Store) → TrueLog s → GivesTrue (recordWrite c key st x s)
 unfolding recordWrite

@@ -18,9 +18,9 @@ use Rattle.model.specs.Store.{Store}
 use Rattle.model.specs.Image.{encode}
 use Rattle.model.specs.Step.{Step, rewriteHeader, syncStaging, syncLog, removeLog, syncJournal, syncCollections, makeDirectory, renameFile, moveStaged, fieldAt}
 use Rattle.model.specs.Step.{renameDirectory, copyFile, removeFile, removeDirectory, removeStaging, syncDirectory, apply, applyAll, zeroSeparated, tagAndNames}
-use Rattle.model.specs.Step.{stepField}
+use Rattle.model.specs.Step.{holdHeader, stepField}
 use Rattle.model.specs.Plan.{inTurn, run, opSteps, removeBackups, removeStagingFiles, collectionOf, firstNamings, syncExisting, commitFault, commitParts}
-use Rattle.model.specs.Plan.{commitPlan, committedAt}
+use Rattle.model.specs.Plan.{commitEnd, commitPlan, committedAt}
 use Rattle.answers.specs.Answers.{Answer, refusal, stepAnswer}
 use Rattle.basic_laws.specs.MapLaws.{key-dec, none≢some, some-inj, look-put-same, look-put-other, look-del-other}
 use Rattle.basic_laws.specs.Tests.{and-both, All, all-in, nil≢cons}
@@ -33,7 +33,7 @@ use Rattle.cut_rule.specs.Demand.{Conditions, backupRename, NoneWaits}
 use Rattle.cut_rule.specs.StoreRule.{KeyGood, Transacts, safe-unless}
 use Rattle.cut_rule.specs.Walk.{steady}
 use Rattle.cut_rule.specs.Apply.{rename-tree}
-use Rattle.cut_rule.specs.Commit.{SafeAt, plan-is, behind}
+use Rattle.cut_rule.specs.Commit.{SafeAt, plan-is}
 use Rattle.cut_rule.specs.OverImages.{Found, committed, stepped}
 use Rattle.cut_rule.specs.Writes.{one-of, in-ops, of-ops}
 use Rattle.cut_rule.specs.Files.{file-eq}
@@ -95,6 +95,7 @@ module _ (d a c : Name) (dz : zeros d ≡ 0) (az : zeros a ≡ 0) (cz : zeros c 
     where
       go : (x : Step) → tagAndNames x .0 ≡ 0x24 → zeroSeparated (tagAndNames x .1) ≡ d ++ 0 ∷ (a ++ 0 ∷ c) → x ≡ renameFile d a c
       go rewriteHeader t v = absurd (omega arith)
+      go holdHeader t v = absurd (omega arith)
       go syncStaging t v = absurd (omega arith)
       go syncLog t v = absurd (omega arith)
       go removeLog t v = absurd (omega arith)
@@ -254,7 +255,7 @@ module _ (w : Write) where
         each : (a : Op) (done : List Step) (u : Store) → (v : Write) × In v ws × (a ≡ write v) → Left done u → Runs Left done (opSteps a u) u
         each a done u v h = subst (λ (b : Op). Runs Left done (opSteps b u) u) (sym (v .2)) (write-left (v .0) (keys (v .0) (v .1)) (keys w i .named) done u h)
 
-    plan-left : Runs Left (rewriteHeader ∷ []) (inTurn run (commitParts (map write ws) none) (apply rewriteHeader s)) (apply rewriteHeader s)
+    plan-left : Runs Left (rewriteHeader ∷ []) (inTurn run (commitParts commitEnd (map write ws) none) (apply rewriteHeader s)) (apply rewriteHeader s)
     plan-left = unfold apply in (k₀, (k₁, runs-append Left done₂ xs (ys ++ zs) begun h (runs-append Left (done₂ ++ xs) ys zs u k last)))
       where
         begun : Store
@@ -291,7 +292,7 @@ module _ (w : Write) where
         v = applyAll ys u
 
         zs : List Step
-        zs = inTurn run (behind s (map write ws) T) v
+        zs = inTurn run (commitEnd) v
 
         k₃ : Left (done₂ ++ xs ++ ys) v
         k₃ = runs-end Left (done₂ ++ xs) ys u k
@@ -311,8 +312,8 @@ module _ (w : Write) where
     unfolding Left
     at-cut zero = λ l i. absurd i
     at-cut (suc n) =
-        rw (plan-is s (map write ws) T none f)
-        (runs-take Left (rewriteHeader ∷ []) (inTurn run (commitParts (map write ws) none) (apply rewriteHeader s)) (apply rewriteHeader s) plan-left n)
+        rw (plan-is s (map write ws) T commitEnd none f)
+        (runs-take Left (rewriteHeader ∷ []) (inTurn run (commitParts commitEnd (map write ws) none) (apply rewriteHeader s)) (apply rewriteHeader s) plan-left n)
 
 -- Where no key of kind 1 waits, undoing takes no old file away.
 pub none-waits : (b : Bytes) (s : Store) (ws : List Write) (n : ℕ) → Conditions b s ws → Transacts s (map write ws) → NoneWaits n b s ws →

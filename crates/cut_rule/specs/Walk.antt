@@ -1,28 +1,17 @@
 -- Walks over steps: what holds before and after every step, and what the steps of each element of a list leave.
 use mathlib.Core.Path.{_≡_, refl, sym, _∙_, ap, subst}
 use Prim.Native.Nat.{ℕ, zero, suc}
-use mathlib.Core.List.{List, [], _∷_, _++_, map}
+use mathlib.Core.List.{List, [], _∷_, _++_}
 use mathlib.Core.Option.{Option, none, some}
 use mathlib.Core.Logic.{_⊎_, inl, inr}
 use lib.ListN.{take}
-use Rattle.basics.specs.Order.{Name}
-use Rattle.basics.specs.Map.{Map}
 use Rattle.basics.specs.Base.{In, caseOption}
-use Rattle.model.specs.Store.{Store, stagingKey, stagingNames}
-use Rattle.model.specs.Step.{Step, rewriteHeader, syncStaging, syncLog, removeLog, syncJournal, syncCollections, makeDirectory, renameFile, moveStaged}
-use Rattle.model.specs.Step.{renameDirectory, copyFile, removeFile, removeDirectory, removeStaging, syncDirectory, marked, apply, applyAll, Fault, stepFault}
-use Rattle.model.specs.Plan.{inTurn, removeStagingFiles, firstFault, stepsBeforeFault}
+use Rattle.model.specs.Store.{Store, stagingKey}
+use Rattle.model.specs.Step.{Step, rewriteHeader, holdHeader, syncStaging, syncLog, removeLog, syncJournal, syncCollections, makeDirectory, renameFile, moveStaged}
+use Rattle.model.specs.Step.{renameDirectory, copyFile, removeFile, removeDirectory, removeStaging, syncDirectory, marked, markedHeld, apply, applyAll, Fault, stepFault}
+use Rattle.model.specs.Plan.{inTurn, firstFault, stepsBeforeFault}
 use Rattle.laws.specs.StoreLaws.{Bare, bare-del}
-use Rattle.laws.specs.Listings.{dels, dels-all}
 use Rattle.laws.specs.Runs.{applyAll-append, fault-head}
-
-abbrev pub runOver : {A : Type 0} → (A → Store → List Step) → List A → Store → Store
-runOver g [] s = s
-runOver g (a ∷ l) s = runOver g l (applyAll (g a s) s)
-
-pub applyAll-inTurn : {A : Type 0} (g : A → Store → List Step) (l : List A) (s : Store) → applyAll (inTurn g l s) s ≡ runOver g l s
-applyAll-inTurn g [] s = refl
-applyAll-inTurn g (a ∷ l) s = applyAll-append (g a s) (inTurn g l (applyAll (g a s) s)) s ∙ applyAll-inTurn g l (applyAll (g a s) s)
 
 -- No step touches the open mark, puts a staging file elsewhere, or brings a log.
 pub record Steady (s u : Store) : Type 0 where
@@ -33,6 +22,7 @@ pub record Steady (s u : Store) : Type 0 where
 apply-steady : (x : Step) (s : Store) → Steady s (apply x s)
 unfolding apply
 apply-steady rewriteHeader s = record { mark = refl; bare = λ b. b; gone = ap marked }
+apply-steady holdHeader s = record { mark = refl; bare = λ b. b; gone = ap markedHeld }
 apply-steady syncStaging s = record { mark = refl; bare = λ b. b; gone = λ e. e }
 apply-steady syncLog s = record { mark = refl; bare = λ b. b; gone = λ e. e }
 apply-steady removeLog s = record { mark = refl; bare = λ b. b; gone = λ e. refl }
@@ -54,18 +44,6 @@ steady (x ∷ xs) s =
     let a = apply-steady x s in
     let r = steady xs (apply x s) in
     record { mark = r .mark ∙ a .mark; bare = λ b. r .bare (a .bare b); gone = λ e. r .gone (a .gone e) }
-
--- Emptying the staging folder.
-abbrev pub withStaging : Map → Store → Store
-withStaging m s = record { tree = s .tree; staging = m; log = s .log; openMark = s .openMark }
-
-unstage : (l : List Name) (s : Store) → applyAll (map removeStaging l) s ≡ withStaging (dels (map stagingKey l) (s .staging)) s
-unfolding apply
-unstage [] s = refl
-unstage (f ∷ l) s = unstage l (apply (removeStaging f) s)
-
-pub staging-gone : (s : Store) → Bare (s .staging) → applyAll (removeStagingFiles s) s ≡ withStaging [] s
-staging-gone s b = unstage (stagingNames (s .staging)) s ∙ ap (λ (m : Map). withStaging m s) (dels-all (s .staging) b)
 
 -- What holds before and after every step.
 abbrev pub Through : (Store → Type 0) → List Step → Store → Type 0

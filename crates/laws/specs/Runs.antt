@@ -1,5 +1,5 @@
 -- Running plans: what holds after every step, and after every step before the first that fails.
-use mathlib.Core.Path.{_≡_, refl, sym}
+use mathlib.Core.Path.{_≡_, refl, sym, _∙_}
 use Prim.Native.Nat.{ℕ, zero, suc}
 use mathlib.Core.List.{List, [], _∷_, _++_, append-nil}
 use mathlib.Core.Option.{Option, none, some}
@@ -15,6 +15,15 @@ use Rattle.basic_laws.specs.MapLaws.{none≢some}
 pub applyAll-append : (xs ys : List Step) (s : Store) → applyAll (xs ++ ys) s ≡ applyAll ys (applyAll xs s)
 applyAll-append [] ys s = refl
 applyAll-append (x ∷ xs) ys s = applyAll-append xs ys (apply x s)
+
+-- The store after a walk over a list.
+abbrev pub runOver : {A : Type 0} → (A → Store → List Step) → List A → Store → Store
+runOver g [] s = s
+runOver g (a ∷ l) s = runOver g l (applyAll (g a s) s)
+
+pub applyAll-inTurn : {A : Type 0} (g : A → Store → List Step) (l : List A) (s : Store) → applyAll (inTurn g l s) s ≡ runOver g l s
+applyAll-inTurn g [] s = refl
+applyAll-inTurn g (a ∷ l) s = applyAll-append (g a s) (inTurn g l (applyAll (g a s) s)) s ∙ applyAll-inTurn g l (applyAll (g a s) s)
 
 -- A plan without a failing step has none in its parts.
 pub fault-head : (x : Step) (xs : List Step) (u : Store) → firstFault (x ∷ xs) u ≡ none → (stepFault x u ≡ none) × (firstFault xs (apply x u) ≡ none)

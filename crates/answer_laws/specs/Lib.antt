@@ -1,5 +1,6 @@
 pub mod EntryLaws
 pub mod CauseLaws
+pub mod Spread
 pub mod Bounds
 pub mod Accepted
 pub mod Exceptions

@@ -316,7 +316,9 @@ module _ (z : ℕ) where
     follow-all z (removeStagingFiles s ++ []) s (all-append Undoing (removeStagingFiles s) [] (undoes-unstage s) tt) h,
     ap (λ (u : Store). u .staging) (applyAll-append (removeStagingFiles s) [] s ∙ staging-gone s (h .bare)),
   )
-  emptied (p ∷ parts) a s h = rw (applyAll-append (p s) (inSequence (parts ++ removeStagingFiles ∷ []) (applyAll (p s) s)) s) (emptied parts (a .1) (applyAll (p s) s) (follow-all z (p s) s (a .0 s) h))
+  emptied (p ∷ parts) a s h =
+      let u : Store = applyAll (p s) s in
+      rw (applyAll-append (p s) (inSequence (parts ++ removeStagingFiles ∷ []) u) s) (emptied parts (a .1) u (follow-all z (p s) s (a .0 s) h))
 
   recover-ends : (j : Journal) (s : Store) → Followed z s → Ends (inSequence (recoverParts j)) s
   recover-ends j s h = let f = front j in rw (f .behind) (emptied (f .parts) (f .undo) s h)

@@ -9,7 +9,7 @@ use mathlib.Core.Bool.{Bool, true, false, false≢true}
 use mathlib.Core.Logic.{_⊎_, inl, inr, _↔_}
 use lib.Dec.{leb, eqb, eqb-refl}
 use Rattle.basics.specs.Limits.{imageRoom, numberLimit}
-use Rattle.basics.specs.Order.{Cmp, lt, eq, gt, Name, Key, cmpKey, caseCmp}
+use Rattle.basics.specs.Order.{Name, Key}
 use Rattle.basics.specs.Map.{Map, look, put, Has}
 use Rattle.basics.specs.Base.{Bytes, caseOption, if_then_else_, In}
 use Rattle.model.specs.Log.{Journal, journal, isHeld}
@@ -18,10 +18,10 @@ use Rattle.model.specs.Image.{encode, decode}
 use Rattle.model.specs.Step.{withTree}
 use Rattle.model.specs.Plan.{recoverFault, recovered, unheld, reverted, kept, discardedCause}
 use Rattle.answers.specs.Answers.{Answer, answer, refusal, recoverStore, recover, revertStore, revert, keepStore, keep, recoverCause}
-use Rattle.basic_laws.specs.MapLaws.{Sorted, key-dec, none≢some, some-inj, ext, look-put-same, look-put-other, sorted-put, look-all}
+use Rattle.basic_laws.specs.MapLaws.{Sorted, key-dec, none≢some, some-inj, look-put-same, look-put-other, sorted-put, put-put, put-same, look-all}
 use Rattle.basic_laws.specs.Tests.{All, of-T, eqb-eq}
 use Rattle.basic_laws.specs.ValidNames.{Valid, Restored, DotBak, validRestores}
-use Rattle.laws.specs.StoreLaws.{Good, Bare, bare, well-formed, good-names, name-dec}
+use Rattle.laws.specs.StoreLaws.{Good, bare, bare-put, well-formed, good-names, name-dec}
 use Rattle.laws.specs.EndLaws.{withStaging}
 use Rattle.laws.specs.WellFormed.{NoneNamed, accepted-exactly, recover-keeps, recovered-keeps, revert-keeps, reverted-keeps, keep-keeps, kept-keeps}
 use Rattle.laws.specs.Numbers.{renumbered, renumber, put-renumbered, fault-same, recovered-renumbered, reverted-renumbered, kept-renumbered}
@@ -102,20 +102,6 @@ replaced-zero : (y : ℕ) → replaced y 0 ≡ 0
 replaced-zero y = replaced-other y 0 not-zero
 
 -- A map in which it does not stand; in which it stands at one place, or was put there.
-put-put : (k : Key) (x y : ℕ) (t : Map) → Sorted t → put k y (put k x t) ≡ put k y t
-put-put k x y t s = ext (put k y (put k x t)) (put k y t) (sorted-put k y (put k x t) (sorted-put k x t s)) (sorted-put k y t s) λ j. at j (key-dec j k)
-  where
-    at : (j : Key) → Dec (j ≡ k) → look j (put k y (put k x t)) ≡ look j (put k y t)
-    at j (yes p) = rw p (look-put-same k y (put k x t) ∙ sym (look-put-same k y t))
-    at j (no p) = look-put-other k j y (put k x t) p ∙ look-put-other k j x t p ∙ sym (look-put-other k j y t p)
-
-put-same : (k : Key) (x : ℕ) (t : Map) → Sorted t → look k t ≡ some x → put k x t ≡ t
-put-same k x t s e = ext (put k x t) t (sorted-put k x t s) s λ j. at j (key-dec j k)
-  where
-    at : (j : Key) → Dec (j ≡ k) → look j (put k x t) ≡ look j t
-    at j (yes p) = rw p (look-put-same k x t ∙ sym e)
-    at j (no p) = look-put-other k j x t p
-
 fixed : (y : ℕ) (t : Map) → Sorted t → Nowhere unused t → renumbered (replaced y) t ≡ t
 fixed y t s h = go t (look-all (λ k x. replaced y x ≡ x) t s (λ k x e. replaced-other y x (λ z. h k (e ∙ ap (λ (n : ℕ). some n) z))))
   where
@@ -172,16 +158,6 @@ two-ways x y k t s only = go (look k t) refl
     go : (q : Option ℕ) → look k t ≡ q → Differ x y k t
     go none e = inl (away (λ z. none≢some (sym e ∙ z)))
     go (some n) e = by n e (eqb n unused) refl
-
-bare-put : (f : Name) (x : ℕ) (m : Map) → Bare m → Bare (put (stagingKey f) x m)
-unfolding put
-bare-put f x [] b = (refl, tt)
-bare-put f x (n ∷ r) b = go (cmpKey (stagingKey f) (n .0)) (bare-put f x r (b .1))
-  where
-    go : (c : Cmp) → Bare (put (stagingKey f) x r) → Bare (caseCmp c ((stagingKey f, x) ∷ n ∷ r) ((stagingKey f, x) ∷ r) (n ∷ put (stagingKey f) x r))
-    go lt h = (refl, b)
-    go eq h = (refl, b .1)
-    go gt h = (b .0, h)
 
 -- The store of which both are.
 record Common (s u : Store) : Type 0 where
@@ -336,6 +312,10 @@ record Quiet (F : Store → Store) : Type 0 where
   follows : (s : Store) → Followed unused s → Followed unused (F s)
   keeps : (s : Store) → Good Valid s → Good Restored (F s)
 
+same-log : (s u : Store) → Altered s u → s .log ≡ u .log
+same-log s u (inl a) = sym (ap (λ (v : Store). v .log) (a .altered))
+same-log s u (inr a) = sym (ap (λ (v : Store). v .log) (a .altered))
+
 module _ (s u : Store) (g : Good Valid s) (h : Good Valid u) (a : Altered s u) where
   one : Common s u
   one = common s g u a
@@ -355,8 +335,8 @@ module _ (s u : Store) (g : Good Valid s) (h : Good Valid u) (a : Altered s u) w
     at-most-one-file e =
         file-alone (F s) (F u) (ap (λ (v : Store). v .staging) first-end ∙ ap (renumbered (replaced (one .x))) (e (one .store) (one .followed))) at-most-one
 
-    handed : (Apart : Store → Store → Type 0) → Apart (F s) (F u) → Handed Apart (answer 0 (F s)) (answer 0 (F u))
-    handed Apart p = record {
+    handed : {Apart : Store → Store → Type 0} → Apart (F s) (F u) → Handed Apart (answer 0 (F s)) (answer 0 (F u))
+    handed p = record {
       first = F s;
       second = F u;
       given = refl;
@@ -364,9 +344,6 @@ module _ (s u : Store) (g : Good Valid s) (h : Good Valid u) (a : Altered s u) w
       apart = p;
       read = read-alike (F s) (F u) (q .keeps s g) (q .keeps u h) at-most-one;
     }
-
-  same-log : s .log ≡ u .log
-  same-log = ap (λ (v : Store). v .log) (one .first) ∙ sym (ap (λ (v : Store). v .log) (one .second))
 
   same-fault : (view : Journal → Journal) → recoverFault (view (journal (s .log))) (s .tree) ≡ recoverFault (view (journal (u .log))) (u .tree)
   same-fault view =
@@ -377,16 +354,16 @@ module _ (s u : Store) (g : Good Valid s) (h : Good Valid u) (a : Altered s u) w
       ∙ sym (ap (λ (v : Store). recoverFault (view (journal (v .log))) (v .tree)) (one .second))
 
 -- By the ways in which the entries answer.
-refused : (Apart : Store → Store → Type 0) (n : ℕ) → (n ≡ 0 → ⊥) → Alike Apart (refusal n) (refusal n)
-refused Apart n h = (refl, λ e. absurd (h e))
+refused : {Apart : Store → Store → Type 0} (n : ℕ) → (n ≡ 0 → ⊥) → Alike Apart (refusal n) (refusal n)
+refused n h = (refl, λ e. absurd (h e))
 
-on-test : (Apart : Store → Store → Type 0) (t v : Bool) → t ≡ v → (n : ℕ) → (n ≡ 0 → ⊥) → (x y : Answer) → Alike Apart x y →
+on-test : {Apart : Store → Store → Type 0} (t v : Bool) → t ≡ v → (n : ℕ) → (n ≡ 0 → ⊥) → (x y : Answer) → Alike Apart x y →
     Alike Apart (if t then x else refusal n) (if v then y else refusal n)
-on-test Apart t v e n h x y a = rw e (go v)
+on-test {Apart} t v e n h x y a = rw e (go v)
   where
     go : (t : Bool) → Alike Apart (if t then x else refusal n) (if t then y else refusal n)
     go true = a
-    go false = refused Apart n h
+    go false = refused n h
 
 fault-not-zero : (j : Journal) (t : Map) (n : ℕ) → recoverFault j t ≡ some n → n ≡ 0 → ⊥
 fault-not-zero j t n e z = go (recover-numbers [] j t n e)
@@ -397,13 +374,13 @@ fault-not-zero j t n e z = go (recover-numbers [] j t n e)
     go (inr (inr (inl p))) = omega arith
     go (inr (inr (inr p))) = absurd p
 
-on-fault : (Apart : Store → Store → Type 0) (j : Journal) (t : Map) (p : Option ℕ) (x y : Answer) → recoverFault j t ≡ p → Handed Apart x y → x .number ≡ y .number →
+on-fault : {Apart : Store → Store → Type 0} (j : Journal) (t : Map) (p : Option ℕ) (x y : Answer) → recoverFault j t ≡ p → Handed Apart x y → x .number ≡ y .number →
     Alike Apart (caseOption (recoverFault j t) x refusal) (caseOption p y refusal)
-on-fault Apart j t p x y e h m = rw e (go p e)
+on-fault {Apart} j t p x y e h m = rw e (go p e)
   where
     go : (q : Option ℕ) → recoverFault j t ≡ q → Alike Apart (caseOption q x refusal) (caseOption q y refusal)
     go none f = (m, λ z. h)
-    go (some n) f = refused Apart n (fault-not-zero j t n f)
+    go (some n) f = refused n (fault-not-zero j t n f)
 
 recovery-quiet : Quiet recovered
 recovery-quiet = record { commutes = recovered-renumbered; follows = λ s h. recovered-follows unused s h .0; keeps = λ s g. recovered-keeps s (recover-keeps s g) }
@@ -425,8 +402,8 @@ recover-not-spread b c s u d e a out =
     let g = lent-good b s d in
     let h = lent-good c u e in
     let p = at-most-one-file s u g h a recovery-quiet (λ v k. recovered-follows unused v k .1) in
-    rw (d, e) (on-test AtMostOneFile (leb imageRoom out) (leb imageRoom out) refl 2 (λ z. omega arith) _ _
-    (on-fault AtMostOneFile (journal (s .log)) (s .tree) _ _ _ (same-fault s u g h a (λ j. j)) (handed s u g h a recovery-quiet AtMostOneFile p) refl))
+    rw (d, e) (on-test (leb imageRoom out) (leb imageRoom out) refl 2 (λ z. omega arith) _ _
+    (on-fault (journal (s .log)) (s .tree) _ _ _ (same-fault s u g h a (λ j. j)) (handed s u g h a recovery-quiet p) refl))
 
 pub revert-not-spread : NotSpread AtMostOneFile revert
 unfolding revert revertStore
@@ -434,9 +411,9 @@ revert-not-spread b c s u d e a out =
     let g = lent-good b s d in
     let h = lent-good c u e in
     let p = at-most-one-file s u g h a revert-quiet (λ v k. reverted-follows unused v k .1) in
-    rw (d, e) (on-test AtMostOneFile (leb imageRoom out) (leb imageRoom out) refl 2 (λ z. omega arith) _ _
-    (on-test AtMostOneFile _ _ (ap (λ (l : Option Bytes). isHeld (journal l)) (same-log s u g h a)) 18 (λ z. omega arith) _ _
-    (on-fault AtMostOneFile (unheld (journal (s .log))) (s .tree) _ _ _ (same-fault s u g h a unheld) (handed s u g h a revert-quiet AtMostOneFile p) refl)))
+    rw (d, e) (on-test (leb imageRoom out) (leb imageRoom out) refl 2 (λ z. omega arith) _ _
+    (on-test _ _ (ap (λ (l : Option Bytes). isHeld (journal l)) (same-log s u a)) 18 (λ z. omega arith) _ _
+    (on-fault (unheld (journal (s .log))) (s .tree) _ _ _ (same-fault s u g h a unheld) (handed s u g h a revert-quiet p) refl)))
 
 -- Keep too, which leaves the staging files: one of them may be what differs.
 pub keep-not-spread : NotSpread AtMostOne keep
@@ -444,15 +421,14 @@ unfolding keep keepStore
 keep-not-spread b c s u d e a out =
     let g = lent-good b s d in
     let h = lent-good c u e in
-    rw (d, e) (on-test AtMostOne (leb imageRoom out) (leb imageRoom out) refl 2 (λ z. omega arith) _ _
-    (on-test AtMostOne _ _ (ap (λ (l : Option Bytes). isHeld (journal l)) (same-log s u g h a)) 18 (λ z. omega arith) _ _
-    (refl, λ z. handed s u g h a keep-quiet AtMostOne (at-most-one s u g h a keep-quiet))))
+    rw (d, e) (on-test (leb imageRoom out) (leb imageRoom out) refl 2 (λ z. omega arith) _ _
+    (on-test _ _ (ap (λ (l : Option Bytes). isHeld (journal l)) (same-log s u a)) 18 (λ z. omega arith) _ _
+    (refl, λ z. handed s u g h a keep-quiet (at-most-one s u g h a keep-quiet))))
 
--- 02, item 1: how the log broke that recovery or revert discards; the same for both.
+-- 02, item 1: how the log broke that recovery discards, and revert; the same for both images.
 pub same-cause : (b c : Bytes) (s u : Store) → decode b ≡ some s → decode c ≡ some u → Altered s u → recoverCause b ≡ recoverCause c
 unfolding recoverCause
-same-cause b c s u d e a = rw (d, e, same-log s u (lent-good b s d) (lent-good c u e) a)
+same-cause b c s u d e a = rw (d, e, same-log s u a)
 
-pub same-revert-cause : (b c : Bytes) (s u : Store) → decode b ≡ some s → decode c ≡ some u → Altered s u →
-    discardedCause (unheld (journal (s .log))) ≡ discardedCause (unheld (journal (u .log)))
-same-revert-cause b c s u d e a = rw (same-log s u (lent-good b s d) (lent-good c u e) a)
+pub same-revert-cause : (s u : Store) → Altered s u → discardedCause (unheld (journal (s .log))) ≡ discardedCause (unheld (journal (u .log)))
+same-revert-cause s u a = rw (same-log s u a)

@@ -4,3 +4,4 @@ pub mod Again
 pub mod Steps
 pub mod Refusals
 pub mod Demand1
+pub mod Spread

@@ -3,7 +3,7 @@
 use mathlib.Core.Path.{_≡_, refl, sym, _∙_, ap}
 use Prim.Native.Nat.{ℕ, suc}
 use native.Mathlib.Omega.{arith}
-use mathlib.Core.List.{List, [], _∷_}
+use mathlib.Core.List.{[], _∷_}
 use mathlib.Core.Option.{Option, none, some}
 use mathlib.Core.Bool.{Bool, true, false, false≢true}
 use mathlib.Core.Logic.{_⊎_, inl, inr, _↔_}
@@ -20,10 +20,10 @@ use Rattle.model.specs.Plan.{recoverFault, recovered, unheld, reverted, kept, d
 use Rattle.answers.specs.Answers.{Answer, answer, refusal, recoverStore, recover, revertStore, revert, keepStore, keep, recoverCause}
 use Rattle.basic_laws.specs.MapLaws.{Sorted, key-dec, none≢some, some-inj, look-put-same, look-put-other, sorted-put, put-put, put-same, look-all}
 use Rattle.basic_laws.specs.Tests.{All, of-T, eqb-eq}
-use Rattle.basic_laws.specs.ValidNames.{Valid, Restored, DotBak, validRestores}
+use Rattle.basic_laws.specs.ValidNames.{Valid, Restored, validRestores}
 use Rattle.laws.specs.StoreLaws.{Good, bare, bare-put, well-formed, good-names, name-dec}
 use Rattle.laws.specs.EndLaws.{withStaging}
-use Rattle.laws.specs.WellFormed.{NoneNamed, accepted-exactly, recover-keeps, recovered-keeps, revert-keeps, reverted-keeps, keep-keeps, kept-keeps}
+use Rattle.laws.specs.WellFormed.{accepted-exactly, recover-keeps, recovered-keeps, revert-keeps, reverted-keeps, keep-keeps, kept-keeps}
 use Rattle.laws.specs.Numbers.{renumbered, renumber, put-renumbered, fault-same, recovered-renumbered, reverted-renumbered, kept-renumbered}
 use Rattle.laws.specs.OnePlace.{Nowhere, OnlyAt, OnePlace, inFile, inStaging, Followed, recovered-follows, reverted-follows, kept-follows}
 use Rattle.answer_laws.specs.EntryLaws.{lent-good, recover-numbers}

@@ -2,7 +2,6 @@
 -- to two files.
 use mathlib.Core.Path.{_≡_, refl}
 use Prim.Native.Nat.{ℕ, suc}
-use Prim.Native.String.{String}
 use mathlib.Core.List.{List, [], _∷_, _++_, map}
 use lib.ListN.{take, drop}
 use Rattle.basics.specs.Limits.{imageRoom, stepRoom}

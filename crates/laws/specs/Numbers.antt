@@ -3,7 +3,7 @@ use mathlib.Core.Path.{_≡_, refl, sym, _∙_, ap}
 use Prim.Native.Nat.{ℕ}
 use mathlib.Core.List.{List, [], _∷_, _++_, map, reverse}
 use mathlib.Core.Option.{Option, none, some}
-use mathlib.Core.Bool.{Bool, true, false, not, _&&_, _||_}
+use mathlib.Core.Bool.{Bool, not, _&&_, _||_}
 use Rattle.basics.specs.Order.{Cmp, lt, eq, gt, Name, Key, cmpName, cmpKey, caseCmp}
 use Rattle.basics.specs.Map.{Map, look, put, del}
 use Rattle.basics.specs.Base.{caseOption, if_then_else_, ifEmpty, isSome, ifPresent, ifMissing, anyOf}
@@ -14,7 +14,7 @@ use Rattle.model.specs.Store.{Store, stagingKey, dirs, files, stagingNames, has
 use Rattle.model.specs.Step.{Step, rewriteHeader, holdHeader, syncStaging, syncLog, removeLog, syncJournal, syncCollections, makeDirectory, renameFile, moveStaged}
 use Rattle.model.specs.Step.{renameDirectory, copyFile, removeFile, removeDirectory, removeStaging, syncDirectory, removeDir, renameDir, withTree, apply, applyAll}
 use Rattle.model.specs.Plan.{inTurn, run, inSequence, undoSteps, restoreFile, restoreDirectory, restoreBackups, removeBackupFile, removeBackupsIn, removeBackups, removeStagingFiles}
-use Rattle.model.specs.Plan.{removeStandingLog, isNewArtifact, recoverFault, recoverParts, unheld, recoverPlan, revertPlan, keepPlan, shut, recovered, reverted, kept, withoutMark}
+use Rattle.model.specs.Plan.{isNewArtifact, recoverFault, recoverParts, unheld, recoverPlan, revertPlan, keepPlan, shut, recovered, reverted, kept, withoutMark}
 use Rattle.basic_laws.specs.Tests.{All, all-every}
 
 -- The same directories, files and staging files, each number changed by one function.

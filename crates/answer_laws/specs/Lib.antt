@@ -1,5 +1,7 @@
 pub mod EntryLaws
 pub mod CauseLaws
+pub mod Spread
+pub mod SpreadExamples
 pub mod Bounds
 pub mod Accepted
 pub mod Exceptions

@@ -174,6 +174,21 @@ put-back k x t s e = ext _ t (sorted-put k x _ (sorted-del k t s)) s (λ j. at j
     at j (yes q) = rw q (look-put-same k x (del k t) ∙ sym e)
     at j (no q) = look-put-other k j x (del k t) q ∙ look-del-other k j t q
 
+-- Of two puts at one place the second counts; a number that stands there is put to no effect.
+pub put-put : (k : Key) (x y : ℕ) (t : Map) → Sorted t → put k y (put k x t) ≡ put k y t
+put-put k x y t s = ext (put k y (put k x t)) (put k y t) (sorted-put k y (put k x t) (sorted-put k x t s)) (sorted-put k y t s) λ j. at j (key-dec j k)
+  where
+    at : (j : Key) → Dec (j ≡ k) → look j (put k y (put k x t)) ≡ look j (put k y t)
+    at j (yes p) = rw p (look-put-same k y (put k x t) ∙ sym (look-put-same k y t))
+    at j (no p) = look-put-other k j y (put k x t) p ∙ look-put-other k j x t p ∙ sym (look-put-other k j y t p)
+
+pub put-same : (k : Key) (x : ℕ) (t : Map) → Sorted t → look k t ≡ some x → put k x t ≡ t
+put-same k x t s e = ext (put k x t) t (sorted-put k x t s) s λ j. at j (key-dec j k)
+  where
+    at : (j : Key) → Dec (j ≡ k) → look j (put k x t) ≡ look j t
+    at j (yes p) = rw p (look-put-same k x t ∙ sym e)
+    at j (no p) = look-put-other k j x t p
+
 -- A removal and a put at different places, in either order.
 pub commute : (k j : Key) (v : ℕ) (t : Map) → Sorted t → (j ≡ k → ⊥) → del j (put k v t) ≡ put k v (del j t)
 commute k j v t s h = ext _ _ (sorted-del j (put k v t) (sorted-put k v t s)) (sorted-put k v (del j t) (sorted-del j t s)) λ i. go i (key-dec i k) (key-dec i j)

@@ -5,3 +5,4 @@ pub mod Steps
 pub mod Refusals
 pub mod Demand1
 pub mod Inventories
+pub mod Spread

@@ -18,7 +18,7 @@ use Rattle.basics.specs.Base.{Bytes, caseOption, sameBytes}
 use Rattle.basics.specs.Name.{validName}
 use Rattle.basics.specs.Field.{littleEndian}
 use Rattle.model.specs.Log.{header, markCommitting, markHeld}
-use Rattle.model.specs.Store.{Store, dirs, fileCount, validNumber, validStaged, wellFormed}
+use Rattle.model.specs.Store.{Store, stagingKey, dirs, fileCount, validNumber, validStaged, wellFormed}
 use Rattle.model.specs.Step.{removeDir, renameDir, marked, markedHeld}
 use Rattle.basic_laws.specs.Tests.{and-made, leb-le, le-leb, All, all-of, of-all, all-imp}
 use Rattle.basic_laws.specs.ValidNames.{Valid}
@@ -246,6 +246,16 @@ bare-del k (n ∷ r) h = go (bare-del k r (h .1)) (cmpKey k (n .0))
     go ih lt = (h .0, ih)
     go ih eq = ih
     go ih gt = (h .0, ih)
+
+pub bare-put : (f : Name) (x : ℕ) (m : Map) → Bare m → Bare (put (stagingKey f) x m)
+unfolding put
+bare-put f x [] b = (refl, tt)
+bare-put f x (n ∷ r) b = go (cmpKey (stagingKey f) (n .0)) (bare-put f x r (b .1))
+  where
+    go : (c : Cmp) → Bare (put (stagingKey f) x r) → Bare (caseCmp c ((stagingKey f, x) ∷ n ∷ r) ((stagingKey f, x) ∷ r) (n ∷ put (stagingKey f) x r))
+    go lt h = (refl, b)
+    go eq h = (refl, b .1)
+    go gt h = (b .0, h)
 
 pub bare-staged : (m : Map) → All (λ n. validStaged n ≡ true) m → Bare m
 bare-staged [] h = tt

@@ -4,7 +4,7 @@ use mathlib.Core.Path.{sym, _∙_}
 use native.Mathlib.Omega.{arith}
 use lib.Seq.{length-take-le}
 use borrow.Author.Needs.{needs}
-use Rattle.wal.proofs.Headers.{short-log, wrong-magic, wrong-crc, is-recording, is-committing, no-status, Opened}
+use Rattle.wal.proofs.Headers.{short-log, wrong-magic, wrong-crc, is-recording, is-committing, is-held, no-status, Opened}
 use Rattle.wal.proofs.open_wal.Statement.{statement}
 use Rattle.wal.proofs.open_wal.Tie as tie
 
@@ -42,7 +42,10 @@ returns-5 : tie.Need-returns-5
 returns-5 c = is-committing (opened (c .before .before .before)) (sym (c .before .before .before .before .before .u32-at .ensures) ∙ c .before .before .if3 .left) (c .match .keys2)
 
 returns-6 : tie.Need-returns-6
-returns-6 c = no-status (opened (c .before .before .before)) (sym (c .before .before .before .before .before .u32-at .ensures) ∙ c .before .before .if3 .left) (c .match .rest .0 .1) (c .match .rest .1)
+returns-6 c = is-held (opened (c .before .before .before)) (sym (c .before .before .before .before .before .u32-at .ensures) ∙ c .before .before .if3 .left) (c .match .keys3)
+
+returns-7 : tie.Need-returns-7
+returns-7 c = no-status (opened (c .before .before .before)) (sym (c .before .before .before .before .before .u32-at .ensures) ∙ c .before .before .if3 .left) (c .match .rest .0 .0 .1) (c .match .rest .0 .1) (c .match .rest .1)
 
 pub open-wal-spec : {M : Type 1} → statement M
 open-wal-spec =
@@ -58,4 +61,5 @@ open-wal-spec =
     shared-slice-read-status
     returns-4
     returns-5
-    returns-6)
+    returns-6
+    returns-7)

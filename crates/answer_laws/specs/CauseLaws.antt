@@ -72,6 +72,6 @@ module _ {s u : Store} (a : BrokenAlike s u) where
     unfolding recoverStep
     same-step n out stepOut = rw (p, q, same-fault, same-plan, same-at n)
 
-    pub own-causes : (recoverCause b ≡ causeNumber (a .one)) × (recoverCause d ≡ causeNumber (a .other))
+    pub own-causes : (out : ℕ) → (recoverCause b out .cause ≡ causeNumber (a .one)) × (recoverCause d out .cause ≡ causeNumber (a .other))
     unfolding recoverCause
-    own-causes = (rw (p, a .log), rw (q, a .other-log))
+    own-causes out = (rw (p, a .log), rw (q, a .other-log))

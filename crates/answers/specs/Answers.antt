@@ -4,13 +4,13 @@ use mathlib.Core.List.{List, [], _∷_, _++_}
 use mathlib.Core.Bool.{Bool, false, _&&_}
 use lib.ListN.{length, drop}
 use lib.Dec.{leb}
-use Rattle.basics.specs.Limits.{imageRoom, keysRoom, stepRoom, hitRoom}
+use Rattle.basics.specs.Limits.{imageRoom, keysRoom, stepRoom, hitRoom, logLimit}
 use Rattle.basics.specs.Order.{Name}
 use Rattle.basics.specs.Map.{Node}
 use Rattle.basics.specs.Base.{Bytes, caseOption, if_then_else_, ifEmpty, flatMap}
 use Rattle.basics.specs.Name.{validName}
 use Rattle.basics.specs.Field.{encodeFields}
-use Rattle.model.specs.Log.{journal, isHeld}
+use Rattle.model.specs.Log.{Ending, whole, truncated, undecodable, tooMany, endingCause, validHeader, entries, journal, isHeld}
 use Rattle.model.specs.Store.{Store, firstBackup, hasPendingWork}
 use Rattle.model.specs.Image.{hitFields, encode, decode}
 use Rattle.model.specs.Step.{Step, fieldAt, commitNumber}
@@ -122,9 +122,32 @@ revertStore s = ifHeld s (caseOption (recoverFault (unheld (journal (s .log))) (
 unfoldable pub revert : Bytes → ℕ → Answer
 revert b out = onImage b (leb imageRoom out) revertStore
 
--- 02, item 1: how the log broke that recovery discards, where its number is 0. The entries do not hand it out yet.
-unfoldable pub recoverCause : Bytes → ℕ
-recoverCause b = caseOption (decode b) 0 λ s. discardedCause (journal (s .log))
+-- A number, and how the log broke. 02, item 1: "1 entry header too short, 2 payload missing (length 0 or past the end), 3 checksum wrong"; 0 for neither.
+pub record Broke : Type 0 where
+  pub number : ℕ
+  pub cause : ℕ
+
+-- `cda_storage_recover`: "Recovery also hands that number back when it discards a truncated Committing log, and 0 whenever else it is done".
+unfoldable pub recoverCause : Bytes → ℕ → Broke
+recoverCause b out = record { number = recover b out .number; cause = caseOption (decode b) 0 λ s. discardedCause (journal (s .log)) }
+
+-- `cda_storage_revert`: "Revert does what recovery does for a Committing log" (02, item 6).
+unfoldable pub revertCause : Bytes → ℕ → Broke
+revertCause b out = record { number = revert b out .number; cause = caseOption (decode b) 0 λ s. discardedCause (unheld (journal (s .log))) }
+
+-- The number where a log alone is read: what "doesn't decode" is 11 and "one byte more" 12 (01, Corners, wal.rs), whatever its status; a truncated log is read.
+abbrev pub readingNumber : Ending → ℕ
+readingNumber whole = 0
+readingNumber (truncated c) = 0
+readingNumber undecodable = 11
+readingNumber tooMany = 12
+
+-- `cda_storage_log_cause`: 1 for a log over the limit, 21 for one without a valid header, 11, 12. 02, item 1: "The log reading shall say which it met".
+unfoldable pub logCause : Bytes → Broke
+logCause l =
+    if leb (length l) logLimit then
+    (if validHeader l then record { number = readingNumber (entries l .end); cause = endingCause (entries l .end) } else record { number = 21; cause = 0 })
+    else record { number = 1; cause = 0 }
 
 -- 01, Sixteen numbers: "16. The step number is past the plan's end."
 abbrev pub stepAnswer : ℕ → List Step → Store → Answer

@@ -12,23 +12,26 @@ use Rattle.basics.specs.Base.{Bytes, flatMap}
 use Rattle.basics.specs.Name.{lastDot, extension, stripExtension, backupExtension, stagingExtension, backupName, originalName, stripTmp, isNameByte, refusedNames, validName, lowerByte, lower}
 use Rattle.basics.specs.Crc32.{crc32, register, feedByte, shifts, shift, addPolynomial, polynomial}
 use Rattle.basics.specs.Field.{littleEndian, fromLittleEndian, encodeField, encodeFields, fieldsFrom, decodeFields, hasTag}
-use Rattle.basics.specs.Worked.{text, digit, pairs, hex, bit, Row, row, equal, agree}
+use Rattle.basics.specs.Worked.{text, digit, pairs, hex, bit, times, Row, row, equal, agree}
 use Rattle.model.specs.Operation.{fieldTable, fieldTags, kind, values, tagged, encodePayload, makers, validValue, opOfFields, decodePayload}
-use Rattle.model.specs.Log.{header, entry, validHeader, firstPayload, walk, entries, readJournal, markCommitting, markHeld, appendOperation}
+use Rattle.model.specs.Log.{header, entry, validHeader, firstPayload, firstCause, walk, entries, readJournal, markCommitting, markHeld, appendOperation}
 use Rattle.model.specs.Store.{dirs, files, validNode, validNodes, validStaged, ascending, wellFormed, hasBackupFiles, firstBackup, hasPendingWork}
 use Rattle.model.specs.Image.{hitFields, imageFields, encode, treeOf, stagingOf, logOf, storeOf, decode}
 use Rattle.model.specs.Step.{removeDir, renameDir, apply, zeroSeparated, tagAndNames, stepField, stepFault}
 use Rattle.model.specs.Plan.{opSteps, undoSteps, restoreFile, restoreDirectory, removeBackupFile, removeBackupsIn, firstNamings, syncExisting, commitFault, planEnding, endingAt, isNewArtifact, recoverPlan, recoveredAt, recovered, revertPlan, revertedAt, reverted, keepPlan, keptAt, kept}
 use Rattle.model.specs.Record.{transaction, beginTransaction, discard, recordWrite, keyList}
-use Rattle.answers.specs.Answers.{Answer, Pending, begin, rollback, write, endingStore, commit, hold, recoverStore, recover, keepStore, keep, revertStore, revert, commitStep, holdStep, recoverStep, keepStep, revertStep, pending, listKeys, findBackup, decimal, listingLine, listing}
+use Rattle.answers.specs.Answers.{Answer, Pending, begin, rollback, write, endingStore, commit, hold, recoverStore, recover, keepStore, keep, revertStore, revert, Broke, recoverCause, revertCause, logCause, commitStep, holdStep, recoverStep, keepStep, revertStep, pending, listKeys, findBackup, decimal, listingLine, listing}
 use Rattle.answers.specs.Inventory.{contents, collections, escaped, quoted, object, fileMember, collectionMember, inventoryText, inventory}
 
--- An answer as its number, its image and its step field; the pending question's as its number and 1 for yes.
+-- An answer as its number, its image and its step field; the pending question's as its number and 1 for yes; a number and how the log broke.
 flat : Answer → Bytes
 flat a = a .number ∷ a .image ++ a .step
 
 asked : Pending → Bytes
 asked a = a .number ∷ bit (a .yes?)
+
+broke : Broke → Bytes
+broke a = a .number ∷ a .cause ∷ []
 
 -- The image of db/a with this number. 01: "The store db/a=7 is 10 02 00 64 62 11 05 00 07 00 00 00 61".
 db : ℕ → Bytes
@@ -51,8 +54,21 @@ listAt : ℕ → Bytes
 unfolding stepOn tenSteps
 listAt n = listing (stepOn tenSteps n .image)
 
+-- The entry of 01's CreateCollection of db, "01 01 00 04 02 02 00 64 62"; that with a wrong checksum.
+created : Bytes
+created = entry (hex "01 01 00 04 02 02 00 64 62")
+
+wrong : Bytes
+unfolding created
+wrong = hex "00 00 00 00" ++ drop 4 created
+
+-- db/a=7 with a log.
+logged : Bytes → Bytes
+unfolding db
+logged l = db 7 ++ encodeField (record { tag = 0x13; value = l })
+
 table : List Row
-unfolding db flat asked tenSteps heldTen stepOn listAt
+unfolding db flat asked broke tenSteps heldTen stepOn listAt created wrong logged
 table =
     row "begin, a Write, commit: a=9"
     (flat (commit tenSteps imageRoom))
@@ -109,6 +125,22 @@ table =
     ∷ row "02: no backup stands: nothing is written"
     (flat (findBackup (db 7) hitRoom))
     (hex "00")
+    ∷ row "02: a log with one operation, whole; a byte behind it: 1; length 0 and a payload past the end: 2; a wrong checksum: 3"
+    (flatMap (λ l. broke (logCause (header 1 ++ l))) (created ∷ (created ++ hex "00") ∷ (created ++ entry []) ∷ take 16 created ∷ (created ++ wrong) ∷ []))
+    (hex "00 00 00 01 00 02 00 02 00 03")
+    ∷ row "02: a log of 7 bytes and one of status 0x03: 21; a payload that doesn't decode: 11; 32 operations and a byte: 12; 6,953 bytes: 1"
+    (flatMap (λ l. broke (logCause l)) (take 7 (header 0) ∷ header 3 ∷ (header 0 ++ entry (text "x")) ∷ (header 0 ++ times 32 created ++ hex "00") ∷ times 6_953 (hex "00") ∷ []))
+    (hex "15 00 15 00 0B 00 0C 00 01 00")
+    ∷ row "02: recovery that discards a truncated Committing log: 1, 2 and 3; one whose log has no operation, and no log: 0"
+    (flatMap (λ b. broke (recoverCause b imageRoom)) (logged (header 1 ++ hex "00") ∷ logged (header 1 ++ entry []) ∷ logged (header 1 ++ wrong) ∷ logged (header 1) ∷ db 7 ∷ []))
+    (hex "00 01 00 02 00 03 00 00 00 00")
+    ∷ row "02: revert that discards a truncated Held log: 1, 2 and 3; recovery reads no Held one: 0; revert without one: 18"
+    (flatMap (λ l. broke (revertCause (logged (header 2 ++ l)) imageRoom)) (hex "00" ∷ entry [] ∷ wrong ∷ [])
+    ++ broke (recoverCause (logged (header 2 ++ wrong)) imageRoom) ++ take 1 (broke (revertCause (logged (header 1)) imageRoom)))
+    (hex "00 01 00 02 00 03 00 00 12")
+    ∷ row "02: a Recording log is discarded unread: 0"
+    (flatMap (λ l. broke (recoverCause (logged (header 0 ++ l)) imageRoom)) (hex "00" ∷ entry [] ∷ wrong ∷ []))
+    (hex "00 00 00 00 00 00")
     ∷ row "the listing of the ten-step case cut after 4"
     (listAt 4)
     (text "answer 0\ndb/\ndb/a 7\n")
@@ -128,18 +160,18 @@ table =
 
 -- Every row computes to what is stated.
 worked : map (λ r. r .computed) table ≡ map (λ r. r .stated) table
-unfolding table flat asked db tenSteps heldTen stepOn listAt
-    text digit pairs hex bit row equal
+unfolding table flat asked broke db tenSteps heldTen stepOn listAt created wrong logged
+    text digit pairs hex bit times row equal
     crc32 register feedByte shifts shift addPolynomial polynomial
     littleEndian fromLittleEndian encodeField encodeFields fieldsFrom decodeFields hasTag
     lastDot extension stripExtension backupExtension stagingExtension backupName originalName stripTmp isNameByte refusedNames validName lowerByte lower
     fieldTable fieldTags kind values tagged encodePayload makers validValue opOfFields decodePayload
-    header entry validHeader firstPayload walk entries readJournal markCommitting markHeld appendOperation
+    header entry validHeader firstPayload firstCause walk entries readJournal markCommitting markHeld appendOperation
     cmpKey look put del dirs files validNode validNodes validStaged ascending wellFormed hasBackupFiles firstBackup hasPendingWork
     imageFields encode treeOf stagingOf logOf storeOf decode
     removeDir renameDir apply zeroSeparated tagAndNames stepField stepFault
     opSteps undoSteps restoreFile restoreDirectory removeBackupFile removeBackupsIn firstNamings syncExisting commitFault planEnding endingAt isNewArtifact recoverPlan recoveredAt recovered revertPlan revertedAt reverted keepPlan keptAt kept
     transaction beginTransaction discard recordWrite keyList
-    begin rollback write endingStore commit hold recoverStore recover keepStore keep revertStore revert commitStep holdStep recoverStep keepStep revertStep pending listKeys findBackup decimal listingLine listing
+    begin rollback write endingStore commit hold recoverStore recover keepStore keep revertStore revert recoverCause revertCause logCause commitStep holdStep recoverStep keepStep revertStep pending listKeys findBackup decimal listingLine listing
     contents collections escaped quoted object fileMember collectionMember inventoryText inventory
 worked = agree table refl

@@ -1,3 +1,4 @@
 pub mod Listed
 pub mod Pending
 pub mod Hits
+pub mod LogRead

@@ -1,18 +1,18 @@
 -- Demand 1 over calls of the exported entries, in one statement: whatever a call is lent, it answers with one of the numbers named here, and after a
 -- refusal every lent buffer and counter is as it was. 0, and 14 and 15, which commit alone gives, hand back the image that the contract says.
 use mathlib.Core.Path.{_≡_, sym, ap, subst, _∙_}
-use mathlib.Core.Bool.{Bool, false}
+use mathlib.Core.Bool.{Bool, true, false}
 use mathlib.Core.List.{List, [], _∷_}
 use Prim.Native.Nat.{ℕ}
 use lib.ListN.{length}
 use lib.Dec.{eqb}
 use Rattle.basics.specs.Order.{Name}
 use Rattle.basics.specs.Base.{Bytes, In}
-use Rattle.answers.specs.Answers.{Answer, begin, write, delete, deleteAll, createCollection, deleteCollection, copyCollection, rollback}
-use Rattle.answers.specs.Answers.{commit, commitStep, recover, recoverStep, pending, listKeys, findBackup}
-use Rattle.handover.specs.Contract.{handsBack, Gives, StepGives, PendingGives}
+use Rattle.answers.specs.Answers.{Answer, Broke, begin, write, delete, deleteAll, createCollection, deleteCollection, copyCollection, rollback}
+use Rattle.answers.specs.Answers.{commit, commitStep, recover, recoverCause, recoverStep, pending, listKeys, findBackup, logCause}
+use Rattle.handover.specs.Contract.{handsBack, Gives, StepGives, PendingGives, CauseGives}
 use Rattle.cda_storage.specs.Refusals as refusals
-use Rattle.cda_storage.specs.Refusals.{Answered}
+use Rattle.cda_storage.specs.Refusals.{Answered, Told}
 
 -- A call with one output: its number is one of these, and after a refusal the output and its counter are as they were.
 pub record Keeps (l : List ℕ) (n : ℕ) (out out' : Bytes) (written written' : ℕ) : Type 0 where
@@ -29,7 +29,16 @@ StepRefuses l a =
     → StepGives (a (length out) (length step)) n out out' written written' step step' stepWritten stepWritten'
     → Keeps l n out out' written written' × (handsBack n ≡ false → (step' ≡ step) × (stepWritten' ≡ stepWritten))
 
--- The numbers of each entry: 01, Sixteen numbers.
+-- Every call that tells how the log broke: a refusal leaves `cause`, and 0 tells 0, 1, 2 or 3 (02, item 1).
+pub record CauseKeeps (l : List ℕ) (n cause cause' : ℕ) : Type 0 where
+  pub number : In n l
+  pub left : eqb n 0 ≡ false → cause' ≡ cause
+  pub told : eqb n 0 ≡ true → In cause' (0 ∷ 1 ∷ 2 ∷ 3 ∷ [])
+
+abbrev pub CauseRefuses : List ℕ → Broke → Type 0
+CauseRefuses l a = (n cause cause' : ℕ) → CauseGives a n cause cause' → CauseKeeps l n cause cause'
+
+-- The numbers of each entry: 01, Sixteen numbers, and 02's.
 pub record Demand1 : Type 0 where
   pub onBegin : (b : Bytes) → Refuses (0 ∷ 1 ∷ 2 ∷ 3 ∷ []) (begin b)
   pub onWrite : (c k staged : Name) (x : ℕ) (b : Bytes) → Refuses (0 ∷ 1 ∷ 2 ∷ 4 ∷ 5 ∷ 6 ∷ 10 ∷ []) (write c k staged x b)
@@ -42,9 +51,11 @@ pub record Demand1 : Type 0 where
   pub onCommit : (b : Bytes) → Refuses (0 ∷ 1 ∷ 2 ∷ 4 ∷ 14 ∷ 15 ∷ []) (commit b)
   pub onCommitStep : (n : ℕ) (b : Bytes) → StepRefuses (0 ∷ 1 ∷ 2 ∷ 4 ∷ 16 ∷ []) (commitStep n b)
   pub onRecover : (b : Bytes) → Refuses (0 ∷ 1 ∷ 2 ∷ 11 ∷ 12 ∷ 13 ∷ []) (recover b)
+  pub onRecoverCause : (b : Bytes) (out : ℕ) → CauseRefuses (0 ∷ 1 ∷ 2 ∷ 11 ∷ 12 ∷ 13 ∷ []) (recoverCause b out)
   pub onRecoverStep : (n : ℕ) (b : Bytes) → StepRefuses (0 ∷ 1 ∷ 2 ∷ 11 ∷ 12 ∷ 13 ∷ 16 ∷ []) (recoverStep n b)
   pub onListKeys : (c : Name) (b : Bytes) → Refuses (0 ∷ 1 ∷ 2 ∷ 6 ∷ []) (listKeys c b)
   pub onFindBackup : (b : Bytes) → Refuses (0 ∷ 1 ∷ 2 ∷ []) (findBackup b)
+  pub onLogCause : (l : Bytes) → CauseRefuses (0 ∷ 1 ∷ 11 ∷ 12 ∷ 21 ∷ []) (logCause l)
   pub onPending : (b : Bytes) (n p p' : ℕ) → PendingGives (pending b) n p p' → In n (0 ∷ 1 ∷ []) × (eqb n 0 ≡ false → p' ≡ p)
 
 keeps : {l : List ℕ} {a : Answer} → Answered l a → {n : ℕ} {out out' : Bytes} {written written' : ℕ} → Gives a n out out' written written' → Keeps l n out out' written written'
@@ -54,6 +65,15 @@ step-keeps : {l : List ℕ} {a : Answer} → Answered l a → {n : ℕ} {out out
     → StepGives a n out out' written written' step step' stepWritten stepWritten'
     → Keeps l n out out' written written' × (handsBack n ≡ false → (step' ≡ step) × (stepWritten' ≡ stepWritten))
 step-keeps w g = (keeps w (g .given), λ h. refusals.step-untouched w g h .1)
+
+cause-keeps : {l : List ℕ} {a : Broke} → Told l a → {n cause cause' : ℕ} → CauseGives a n cause cause' → CauseKeeps l n cause cause'
+cause-keeps {l} {a} w {n} g =
+    let e : eqb (a .number) 0 ≡ eqb n 0 = ap (λ (k : ℕ). eqb k 0) (sym (g .number)) in
+    record {
+      number = subst (λ (n : ℕ). In n l) (sym (g .number)) (w .numbers);
+      left = λ h. g .told ∙ rw (e ∙ h);
+      told = λ h. subst (λ (k : ℕ). In k (0 ∷ 1 ∷ 2 ∷ 3 ∷ [])) (sym (g .told ∙ rw (e ∙ h))) (w .one);
+    }
 
 pub demand-1 : Demand1
 demand-1 = record {
@@ -68,9 +88,11 @@ demand-1 = record {
   onCommit = λ b k out out' w w' g. keeps (refusals.commit-answers b _) g;
   onCommitStep = λ n b k out out' w w' step step' sw sw' g. step-keeps (refusals.commit-step-answers n b _ _) g;
   onRecover = λ b k out out' w w' g. keeps (refusals.recover-answers b _) g;
+  onRecoverCause = λ b out k c c' g. cause-keeps (refusals.recover-tells b out) g;
   onRecoverStep = λ n b k out out' w w' step step' sw sw' g. step-keeps (refusals.recover-step-answers n b _ _) g;
   onListKeys = λ c b k out out' w w' g. keeps (refusals.list-keys-answers c b _) g;
   onFindBackup = λ b k out out' w w' g. keeps (refusals.find-backup-answers b _) g;
+  onLogCause = λ l k c c' g. cause-keeps (refusals.log-cause-tells l) g;
   onPending = λ b k p p' g. (
     subst (λ (n : ℕ). In n (0 ∷ 1 ∷ [])) (sym (g .number)) (refusals.pending-answers b),
     λ h. g .answer ∙ rw (ap (λ (n : ℕ). eqb n 0) (sym (g .number)) ∙ h),

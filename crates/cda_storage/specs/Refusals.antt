@@ -6,16 +6,18 @@ use mathlib.Core.List.{List, [], _∷_}
 use mathlib.Core.Option.{Option, none, some}
 use mathlib.Core.Logic.{inl, inr}
 use Prim.Native.Nat.{ℕ}
+use lib.ListN.{length}
 use lib.Dec.{leb}
-use Rattle.basics.specs.Limits.{imageRoom}
+use Rattle.basics.specs.Limits.{imageRoom, logLimit}
 use Rattle.basics.specs.Order.{Name}
 use Rattle.basics.specs.Base.{Bytes, caseOption, if_then_else_, In}
+use Rattle.model.specs.Log.{Journal, absent, recording, committing, journal, Ending, whole, truncated, undecodable, tooMany, headerShort, payloadMissing, checksumWrong, endingCause, validHeader, entries}
 use Rattle.model.specs.Store.{Store, hasPendingWork}
 use Rattle.model.specs.Image.{decode}
 use Rattle.model.specs.Step.{Fault, fails, full, commitNumber}
-use Rattle.model.specs.Plan.{commitFault}
-use Rattle.answers.specs.Answers.{Answer, Pending, refusal, answer, outcome}
-use Rattle.answers.specs.Answers.{begin, write, delete, deleteAll, createCollection, deleteCollection, copyCollection, rollback, commit, commitStep, recover, recoverStep, pending, listKeys, findBackup}
+use Rattle.model.specs.Plan.{commitFault, discardedCause}
+use Rattle.answers.specs.Answers.{Answer, Pending, Broke, refusal, answer, outcome, readingNumber}
+use Rattle.answers.specs.Answers.{begin, write, delete, deleteAll, createCollection, deleteCollection, copyCollection, rollback, commit, commitStep, recover, recoverCause, recoverStep, pending, listKeys, findBackup, logCause}
 use Rattle.basic_laws.specs.Tests.{All, in-all}
 use Rattle.answer_laws.specs.EntryLaws.{commitStepRefusals, recoverRefusals, recoverStepRefusals, listKeysRefusals, on-commit, on-recover, on-commit-step, on-recover-step, on-list-keys, on-find-backup}
 use Rattle.handover.specs.Contract.{handsBack, Gives, StepGives}
@@ -125,3 +127,47 @@ pending-answers b = go (decode b)
     go : (o : Option Store) → In {A = ℕ} (caseOption {B = Pending} o (record { number = 1; yes? = false }) (λ s. record { number = 0; yes? = hasPendingWork s }) .number) (0 ∷ 1 ∷ [])
     go none = inr (inl refl)
     go (some s) = inl refl
+
+-- A number of these, and 02's item 1: how the log broke is 1, 2 or 3, else 0.
+abbrev causes : List ℕ
+causes = 0 ∷ 1 ∷ 2 ∷ 3 ∷ []
+
+pub record Told (l : List ℕ) (a : Broke) : Type 0 where
+  pub numbers : In (a .number) l
+  pub one : In (a .cause) causes
+
+ending-causes : (e : Ending) → In {A = ℕ} (endingCause e) causes
+ending-causes whole = inl refl
+ending-causes (truncated headerShort) = inr (inl refl)
+ending-causes (truncated payloadMissing) = inr (inr (inl refl))
+ending-causes (truncated checksumWrong) = inr (inr (inr (inl refl)))
+ending-causes undecodable = inl refl
+ending-causes tooMany = inl refl
+
+pub recover-tells : (b : Bytes) (out : ℕ) → Told (0 ∷ 1 ∷ 2 ∷ 11 ∷ 12 ∷ 13 ∷ []) (recoverCause b out)
+unfolding recoverCause
+recover-tells b out = record { numbers = recover-answers b out .numbers; one = go (decode b) }
+  where
+    by-journal : (j : Journal) → In {A = ℕ} (discardedCause j) causes
+    by-journal absent = inl refl
+    by-journal (recording o e) = inl refl
+    by-journal (committing o e) = ending-causes e
+
+    go : (o : Option Store) → In {A = ℕ} (caseOption o 0 (λ s. discardedCause (journal (s .log)))) causes
+    go none = inl refl
+    go (some s) = by-journal (journal (s .log))
+
+pub log-cause-tells : (l : Bytes) → Told (0 ∷ 1 ∷ 11 ∷ 12 ∷ 21 ∷ []) (logCause l)
+unfolding logCause
+log-cause-tells l = go (leb (length l) logLimit) (validHeader l)
+  where
+    reading : (e : Ending) → In {A = ℕ} (readingNumber e) (0 ∷ 1 ∷ 11 ∷ 12 ∷ 21 ∷ [])
+    reading whole = inl refl
+    reading (truncated c) = inl refl
+    reading undecodable = inr (inr (inl refl))
+    reading tooMany = inr (inr (inr (inl refl)))
+
+    go : (a b : Bool) → Told (0 ∷ 1 ∷ 11 ∷ 12 ∷ 21 ∷ []) (if a then (if b then record { number = readingNumber (entries l .end); cause = endingCause (entries l .end) } else record { number = 21; cause = 0 }) else record { number = 1; cause = 0 })
+    go true true = record { numbers = reading (entries l .end); one = ending-causes (entries l .end) }
+    go true false = record { numbers = inr (inr (inr (inr (inl refl)))); one = inl refl }
+    go false b = record { numbers = inr (inl refl); one = inl refl }

@@ -1,14 +1,15 @@
 // The exported entries: bytes in, a number and bytes out. The contract of each cites crate answers and nothing else: `Returns`,
-// `StepReturns` and `PendingReturns` (crate handover, specs/Contract.antt) say what is in the lent outputs after a call; `lent` is what was lent
-// for a parameter, `room` its length. Entries that record go through crate recording, those that run a plan through crate running.
+// `StepReturns`, `PendingReturns` and `CauseReturns` (crate handover, specs/Contract.antt) say what is in the lent outputs after a call; `lent` is
+// what was lent for a parameter, `room` its length. Entries that record go through crate recording, those that run a plan through crate running.
 ghost use mathlib.Core.Path.{_≡_};
 ghost use Rattle.basics.specs.Base.{if_then_else_};
 ghost use Rattle.answers.specs.Answers as answers;
 ghost use Rattle.answers.specs.Answers.{begin, write, delete, deleteAll, createCollection, deleteCollection, copyCollection, rollback};
-ghost use Rattle.answers.specs.Answers.{commit, commitStep, recover, recoverStep, listKeys, findBackup};
-ghost use Rattle.handover.specs.Contract.{lent, room, Returns, StepReturns, PendingReturns};
+ghost use Rattle.answers.specs.Answers.{commit, commitStep, recover, recoverCause, recoverStep, listKeys, findBackup, logCause};
+ghost use Rattle.handover.specs.Contract.{lent, room, Returns, StepReturns, PendingReturns, CauseReturns};
 
 mod keys;
+mod logs;
 
 use recording::Asked;
 use running::Planned;
@@ -140,7 +141,8 @@ pub extern "C" fn cda_storage_rollback(image: &[u8], out: &mut [u8], written: &m
 pub extern "C" fn cda_storage_commit(image: &[u8], out: &mut [u8], written: &mut usize) -> u32
     ensures { λ r. ⌜ Returns (commit (lent image) (room out)) r out written ⌝ }
 {
-    running::run_whole(Planned::Commit, image, out, written)
+    let mut cause = 0u32;
+    running::run_whole(Planned::Commit, image, out, written, &mut cause)
 }
 
 // The image after n steps of the commit, and the field of step n. Refusals: 1, 2, 4, 16.
@@ -174,12 +176,17 @@ pub extern "C" fn cda_storage_has_pending_work(image: &[u8], pending: &mut u32) 
     0
 }
 
-// Recovers the store. Refusals: 1, 2, 11, 12, 13.
+// Recovers the store; where it discards a truncated Committing log, `cause` says how that broke, else it is 0. Refusals: 1, 2, 11, 12, 13.
 #[no_mangle]
-pub extern "C" fn cda_storage_recover(image: &[u8], out: &mut [u8], written: &mut usize) -> u32
-    ensures { λ r. ⌜ Returns (recover (lent image) (room out)) r out written ⌝ }
+pub extern "C" fn cda_storage_recover(
+    image: &[u8],
+    out: &mut [u8],
+    written: &mut usize,
+    cause: &mut u32,
+) -> u32
+    ensures { λ r. ⌜ Returns (recover (lent image) (room out)) r out written × CauseReturns (recoverCause (lent image) (room out)) r cause ⌝ }
 {
-    running::run_whole(Planned::Recover, image, out, written)
+    running::run_whole(Planned::Recover, image, out, written, cause)
 }
 
 // The image after n steps of the recovery, and the field of step n. Refusals: 1, 2, 11, 12, 13, 16.
@@ -230,4 +237,12 @@ pub extern "C" fn cda_storage_find_backup(image: &[u8], out: &mut [u8], written:
     let hit = recovery::search::find_backup(image, &tree, s.tree);
     *written = encode::put_hit(image, hit, out);
     0
+}
+
+// How a log broke: 1 entry header too short, 2 payload missing, 3 checksum wrong, 0 for a log that is whole. Refusals: 1, 11, 12, 21.
+#[no_mangle]
+pub extern "C" fn cda_storage_log_cause(log: &[u8], cause: &mut u32) -> u32
+    ensures { λ r. ⌜ CauseReturns (logCause (lent log)) r cause ⌝ }
+{
+    logs::cause_of(log, cause)
 }

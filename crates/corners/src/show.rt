@@ -1,4 +1,4 @@
-// An answer as a line: its number, its step field, its pending word, and the fields of its output as words. A directory is `db/`, a file
+// An answer as a line: its number, its step field, its pending word, its cause, and the fields of its output as words. A directory is `db/`, a file
 // `db/a=7`, a staging file `~s.tmp=9`, the log `log:` and its bytes, the open mark `open`, a key itself.
 use questions::Answer;
 
@@ -110,6 +110,10 @@ pub fn answer(a: Answer, out: &[u8], step: &[u8]) {
     if a.pending != questions::UNTOUCHED_WORD {
         put(b"  pending ");
         put_number(a.pending as u64);
+    }
+    if a.cause != questions::UNTOUCHED_WORD {
+        put(b"  cause ");
+        put_number(a.cause as u64);
     }
     if a.written != questions::UNTOUCHED {
         put(b"  '");

@@ -7,7 +7,7 @@ use lib.Dec.{eqb}
 use denote.Ref.{RefT, now}
 use denote.Triple.Both.{Both}
 use Rattle.basics.specs.Base.{Bytes, if_then_else_}
-use Rattle.answers.specs.Answers.{Answer, Pending, overwritten}
+use Rattle.answers.specs.Answers.{Answer, Pending, Broke, overwritten}
 
 -- 01, Sixteen numbers: "A refusal gives its number alone; 14 and 15 also hand back the rolled-back image".
 abbrev pub handsBack : ℕ → Bool
@@ -40,6 +40,11 @@ pub record PendingGives (a : Pending) (n pending pending' : ℕ) : Type 0 where
   pub number : n ≡ a .number
   pub answer : pending' ≡ (if eqb (a .number) 0 then (if a .yes? then 1 else 0) else pending)
 
+-- How the log broke is told where the number is 0; a refusal leaves `cause`.
+pub record CauseGives (a : Broke) (n cause cause' : ℕ) : Type 0 where
+  pub number : n ≡ a .number
+  pub told : cause' ≡ (if eqb (a .number) 0 then a .cause else cause)
+
 -- A part that is lent to a call, as it was (`.entry`) and as it is handed back (`.exit`).
 abbrev pub Part : Type 0 → Type 0
 Part X = Both (RefT X) (RefT X)
@@ -68,3 +73,6 @@ StepReturns a n out written step stepWritten =
 
 abbrev pub PendingReturns : Pending → ℕ → Part ℕ → Type 0
 PendingReturns a n pending = PendingGives a n (lent pending) (after pending)
+
+abbrev pub CauseReturns : Broke → ℕ → Part ℕ → Type 0
+CauseReturns a n cause = CauseGives a n (lent cause) (after cause)

@@ -1,6 +1,9 @@
 // What every exported entry does before and behind its own work: the image is read, the answer is written into the lent outputs.
+ghost use mathlib.Core.Path.{_≡_};
 ghost use Prim.Native.Nat.{_≤_};
+ghost use lib.Dec.{eqb};
 ghost use lib.ListN.{length};
+ghost use Rattle.basics.specs.Base.{if_then_else_};
 ghost use Rattle.model.specs.Image.{encode};
 ghost use Rattle.answers.specs.Answers.{outcome};
 ghost use Rattle.store.specs.Stores.{storeIn, storeOf};
@@ -128,4 +131,13 @@ pub fn hand_step(
     hand_image(src, tree, staging, s, Tail::Nothing, 0, out, written);
     hand_field(src, last, n, step, step_written);
     0
+}
+
+// 02, item 1: how the log broke, told where the number is 0.
+pub fn hand_cause(number: u32, broke: u32, cause: &mut u32)
+    ensures { λ _. ⌜ after cause ≡ (if eqb number 0 then broke else lent cause) ⌝ }
+{
+    if number == 0 {
+        *cause = broke;
+    }
 }

@@ -5,16 +5,18 @@
 // for the kinds and marks of Writes; 0x42, one whose answer documents 01 and 02 alone decide. A question is itself a sequence of fields:
 //
 //     0x01  the call, one byte: 1 begin, 2 write, 3 delete, 4 delete_all, 5 create_collection, 6 delete_collection, 7 copy_collection,
-//           8 rollback, 9 commit, 10 commit_step, 11 has_pending_work, 12 recover, 13 recover_step, 14 list_keys, 15 find_backup
+//           8 rollback, 9 commit, 10 commit_step, 11 has_pending_work, 12 recover, 13 recover_step, 14 list_keys, 15 find_backup,
+//           16 log_cause
 //     0x02  collection, source or name; 0x03 key; 0x04 staging name; 0x05 destination
 //     0x06  content number in four bytes, or step number in eight
 //     0x07  lengths of the lent outputs, four bytes each: image, keys or backup, step field; ample where absent
-//     0x08  image
+//     0x08  image, or the log alone for log_cause
 //
 // and, where the answer is to be compared, what was answered:
 //
 //     0x09  the number, one byte
-//     0x0A  what was written to the output, 0x0B to the step's, absent where nothing was; 0x0C the pending word, one byte, likewise
+//     0x0A  what was written to the output, 0x0B to the step's, absent where nothing was; 0x0C the pending word and 0x0D the cause, one byte
+//           each, likewise
 ghost use mathlib.Core.Path.{_≡_};
 ghost use Prim.Native.Nat.{_≤_, _<_};
 ghost use lib.ListN.{length};
@@ -51,7 +53,7 @@ pub const ROOM: usize = 19_430;
 
 pub const STEP_ROOM: usize = 300;
 
-// What a counter and the pending word hold before a call.
+// What a counter, and the pending word and the cause, hold before a call.
 pub const UNTOUCHED: usize = 0x5A5A_5A5A;
 
 pub const UNTOUCHED_WORD: u32 = 0x5A5A_5A5A;
@@ -77,12 +79,13 @@ const NOTHING: Part = Part {
 // The most fields that a list has.
 pub const MOST: u32 = 65_536;
 
-// The number, what the counters and the pending word hold, and whether every byte behind the written ones is as it was.
+// The number, what the counters, the pending word and the cause hold, and whether every byte behind the written ones is as it was.
 pub struct Answer {
     pub number: u32,
     pub written: usize,
     pub step_written: usize,
     pub pending: u32,
+    pub cause: u32,
     pub clean: bool,
 }
 
@@ -207,14 +210,14 @@ fn record(call: u8, q: &[u8], out: &mut [u8], written: &mut usize) -> u32 {
 }
 
 // The entries that take no name, and the key list.
-fn run(call: u8, q: &[u8], out: &mut [u8], written: &mut usize) -> u32 {
+fn run(call: u8, q: &[u8], out: &mut [u8], written: &mut usize, cause: &mut u32) -> u32 {
     let image = value(q, IMAGE);
     let name = value(q, NAME);
     match call {
         1 => cda_storage::cda_storage_begin(image, out, written),
         8 => cda_storage::cda_storage_rollback(image, out, written),
         9 => cda_storage::cda_storage_commit(image, out, written),
-        12 => cda_storage::cda_storage_recover(image, out, written),
+        12 => cda_storage::cda_storage_recover(image, out, written, cause),
         14 => cda_storage::cda_storage_list_keys(image, name, out, written),
         15 => cda_storage::cda_storage_find_backup(image, out, written),
         _ => record(call, q, out, written),
@@ -229,6 +232,7 @@ fn enter(
     step: &mut [u8],
     step_written: &mut usize,
     pending: &mut u32,
+    cause: &mut u32,
 ) -> u32 {
     let call = byte(q, CALL);
     let image = value(q, IMAGE);
@@ -237,7 +241,8 @@ fn enter(
         10 => cda_storage::cda_storage_commit_step(image, n, out, written, step, step_written),
         11 => cda_storage::cda_storage_has_pending_work(image, pending),
         13 => cda_storage::cda_storage_recover_step(image, n, out, written, step, step_written),
-        _ => run(call, q, out, written),
+        16 => cda_storage::cda_storage_log_cause(image, cause),
+        _ => run(call, q, out, written, cause),
     }
 }
 
@@ -249,6 +254,7 @@ pub fn ask(q: &[u8], out: &mut [u8], step: &mut [u8]) -> Answer {
     let mut written = UNTOUCHED;
     let mut step_written = UNTOUCHED;
     let mut pending = UNTOUCHED_WORD;
+    let mut cause = UNTOUCHED_WORD;
     let n = lent(q, 0, AMPLE, out.len());
     let m = lent(q, 4, AMPLE_STEP, step.len());
     let number = enter(
@@ -258,6 +264,7 @@ pub fn ask(q: &[u8], out: &mut [u8], step: &mut [u8]) -> Answer {
         &mut step[..m],
         &mut step_written,
         &mut pending,
+        &mut cause,
     );
     let clean = is_clean(out, written, turn);
     let clean_step = is_clean(step, step_written, turn);
@@ -266,6 +273,7 @@ pub fn ask(q: &[u8], out: &mut [u8], step: &mut [u8]) -> Answer {
         written: written,
         step_written: step_written,
         pending: pending,
+        cause: cause,
         clean: clean && clean_step,
     }
 }

@@ -1,5 +1,5 @@
-// Asks the exported entries the questions of data/answers and compares each answer whole: number, output, step field, pending word, every
-// byte behind. Prints how many are equal by entry and number, and which question differs first. data/README.md says how the list was made.
+// Asks the exported entries the questions of data/answers and compares each answer whole: number, output, step field, pending word, cause,
+// every byte behind. Prints how many are equal by entry and number, and which question differs first. data/README.md says how the list was made.
 mod tally;
 
 use questions::Answer;
@@ -13,6 +13,8 @@ const OUT: u8 = 0x0A;
 const STEP: u8 = 0x0B;
 
 const PENDING: u8 = 0x0C;
+
+const CAUSE: u8 = 0x0D;
 
 fn is_number(q: &[u8], a: Answer) -> bool {
     questions::byte(q, NUMBER) as u32 == a.number
@@ -33,12 +35,13 @@ fn is_written(q: &[u8], tag: u8, out: &[u8], written: usize) -> bool {
     written == questions::UNTOUCHED
 }
 
-fn is_pending(q: &[u8], a: Answer) -> bool {
-    let p = questions::find(q, PENDING);
+// Whether a word holds what the field tells, or is as it was where there is no such field.
+fn is_word(q: &[u8], tag: u8, word: u32) -> bool {
+    let p = questions::find(q, tag);
     if p.there {
-        return questions::byte(q, PENDING) as u32 == a.pending;
+        return questions::byte(q, tag) as u32 == word;
     }
-    a.pending == questions::UNTOUCHED_WORD
+    word == questions::UNTOUCHED_WORD
 }
 
 // Whether the entry answers as the question tells.
@@ -52,7 +55,10 @@ fn is_equal(q: &[u8]) -> bool {
     if !is_number(q, a) {
         return false;
     }
-    if !is_pending(q, a) {
+    if !is_word(q, PENDING, a.pending) {
+        return false;
+    }
+    if !is_word(q, CAUSE, a.cause) {
         return false;
     }
     if !is_written(q, OUT, &out, a.written) {

@@ -2,10 +2,10 @@
 ghost use Prim.Native.Nat.{_<_};
 use std::num::wrapping_add_u32;
 
-// Equal answers by entry and number, a row of 17 numbers to an entry; all questions, all equal ones, those of them that the documents
+// Equal answers by entry and number, a row of 22 numbers to an entry; all questions, all equal ones, those of them that the documents
 // alone decide; and the first question that differs, counted from 1.
 pub struct Tally {
-    cells: [u32; 272],
+    cells: [u32; 704],
     asked: u32,
     equal: u32,
     by_documents: u32,
@@ -14,7 +14,7 @@ pub struct Tally {
 
 pub fn empty() -> Tally {
     Tally {
-        cells: [0u32; 272],
+        cells: [0u32; 704],
         asked: 0,
         equal: 0,
         by_documents: 0,
@@ -23,9 +23,9 @@ pub fn empty() -> Tally {
 }
 
 fn cell(call: u8, number: u8) -> usize
-    ensures { λ r. ⌜ r < 272 ⌝ }
+    ensures { λ r. ⌜ r < 704 ⌝ }
 {
-    (call % 16) as usize * 17 + (number % 17) as usize
+    (call % 32) as usize * 22 + (number % 22) as usize
 }
 
 // The tally with one question more.
@@ -72,12 +72,13 @@ fn put_entry(call: u8) {
         13 => put(b"recover_step"),
         14 => put(b"list_keys"),
         15 => put(b"find_backup"),
+        16 => put(b"log_cause"),
         _ => put(b"no entry"),
     }
 }
 
 // How many answers of a number an entry has, if any.
-fn put_cell(cells: &[u32; 272], call: u8, number: u8) {
+fn put_cell(cells: &[u32; 704], call: u8, number: u8) {
     let at = cell(call, number);
     let n = cells[at];
     if n != 0 {
@@ -88,16 +89,16 @@ fn put_cell(cells: &[u32; 272], call: u8, number: u8) {
     }
 }
 
-fn put_row(cells: &[u32; 272], call: u8) {
+fn put_row(cells: &[u32; 704], call: u8) {
     put_entry(call);
-    for number in 0..17u8 {
+    for number in 0..22u8 {
         put_cell(cells, call, number);
     }
     put(b"\n");
 }
 
-fn put_rows(cells: &[u32; 272]) {
-    for call in 1..16u8 {
+fn put_rows(cells: &[u32; 704]) {
+    for call in 1..17u8 {
         put_row(cells, call);
     }
 }

@@ -1,26 +1,28 @@
 -- An entry that runs a plan, by what `run` left.
 use mathlib.Core.Path.{_≡_, refl, sym, ap, subst, _∙_}
-use mathlib.Core.Bool.{Bool, true, false, _&&_}
+use mathlib.Core.Bool.{Bool, true, false, false≢true, _&&_}
+use mathlib.Core.Option.{some}
 use Prim.Native.Nat.{ℕ, _≤_}
 use native.Mathlib.Omega.{arith}
 use lib.ListN.{length}
-use lib.Dec.{leb}
-use borrow.Author.Tests.{leb-true}
+use lib.Dec.{leb, eqb}
+use borrow.Author.Tests.{leb-true, ne-eqb}
 use Rattle.basics.specs.Limits.{imageRoom, stepRoom}
 use Rattle.basics.specs.Base.{Bytes, if_then_else_}
-use Rattle.model.specs.Image.{encode}
-use Rattle.answers.specs.Answers.{Answer, answer, refusal, onImage, commit, recover, commitStep, recoverStep}
+use Rattle.model.specs.Store as model
+use Rattle.model.specs.Image.{encode, decode}
+use Rattle.answers.specs.Answers.{Answer, answer, refusal, onImage, commit, recover, recoverCause, commitStep, recoverStep}
 use Rattle.answer_laws.specs.Bounds.{Bounded, commit-bounded, recover-bounded, commit-step-bounded, recover-step-bounded}
 use Rattle.basic_laws.specs.Tests.{and-both}
 use Rattle.store.specs.Words.{Words}
 use Rattle.store.specs.Kept.{none-kept}
 use Rattle.store.specs.Stores.{storeIn, storeOf}
 use Rattle.wal.specs.declared.Tail.the-variants.{Nothing}
-use Rattle.handover.specs.Contract.{Gives, StepGives, Writes}
+use Rattle.handover.specs.Contract.{handsBack, Gives, StepGives, CauseGives, Writes}
 use Rattle.handover.specs.Opening.{Opens, ImageStands, stepped, StepStands}
 use Rattle.handover.specs.declared.Opened.{Opened}
 use Rattle.handover.proofs.Outputs.{left-alone, step-left-alone, gives, stepped-at}
-use Rattle.running.specs.Planning.{planStore, planAt, planEntry, planStepEntry, Runs}
+use Rattle.running.specs.Planning.{planStore, planCause, planAt, planEntry, planBroke, planStepEntry, Runs}
 use Rattle.running.specs.declared.Planned.{Planned}
 use Rattle.running.specs.declared.Planned.the-variants.{Commit, Recover}
 use Rattle.running.specs.declared.Ran.{Ran}
@@ -44,14 +46,37 @@ plan-step-bounded : (p : Planned) (n : ℕ) (image : Bytes) (out stepOut : ℕ) 
 plan-step-bounded Commit = commit-step-bounded
 plan-step-bounded Recover = recover-step-bounded
 
+-- How the log broke, by the entry's number and by the store that the image holds.
+broke-number : (p : Planned) (image : Bytes) (out : ℕ) → planBroke p image out .number ≡ planEntry p image out .number
+unfolding recoverCause
+broke-number Commit image out = refl
+broke-number Recover image out = refl
+
+broke-cause : (p : Planned) (image : Bytes) (out : ℕ) (s : model.Store) → decode image ≡ some s → planBroke p image out .cause ≡ planCause p s
+unfolding recoverCause
+broke-cause Commit image out s d = refl
+broke-cause Recover image out s d = rw d
+
+-- A refusal leaves `cause`.
+cause-left : (p : Planned) (image : Bytes) (out : ℕ) {n cause : ℕ} → n ≡ planEntry p image out .number → (n ≡ 0 → ⊥) → CauseGives (planBroke p image out) n cause cause
+cause-left p image out e h =
+    let q = e ∙ sym (broke-number p image out) in
+    record { number = q; told = rw (ne-eqb (planBroke p image out .number) 0 (λ z. h (q ∙ z))) }
+
 -- The whole plan.
 module _ (p : Planned) (image : Bytes) (len : ℕ) {tree staging : Words} {o : Opened} (w : Opens image (leb imageRoom len) tree staging o) where
-  pub not-opened : (o .number ≡ 0 → ⊥) → {out : Bytes} {written : ℕ} → Gives (planEntry p image len) (o .number) out out written written
-  not-opened h = left-alone (w .alone h) (plan-is p image len ∙ w .refused h (planStore p))
+  pub not-opened : (o .number ≡ 0 → ⊥) → {out : Bytes} {written cause : ℕ}
+      → Gives (planEntry p image len) (o .number) out out written written × CauseGives (planBroke p image len) (o .number) cause cause
+  not-opened h =
+      let g = plan-is p image len ∙ w .refused h (planStore p) in
+      (left-alone (w .alone h) g, cause-left p image len (sym (ap (λ (a : Answer). a .number) g)) h)
 
   module _ (z : o .number ≡ 0) {tree' staging' : Words} {r : Ran} (c : Runs p image (storeIn tree staging (o .store)) false 0 tree' staging' r) where
-    pub nothing-back : r .back ≡ false → {out : Bytes} {written : ℕ} → Gives (planEntry p image len) (r .number) out out written written
-    nothing-back f = left-alone (c .alone f) (plan-is p image len ∙ w .given z (planStore p) ∙ c .whole refl ∙ rw f)
+    pub nothing-back : r .back ≡ false → {out : Bytes} {written cause : ℕ}
+        → Gives (planEntry p image len) (r .number) out out written written × CauseGives (planBroke p image len) (r .number) cause cause
+    nothing-back f =
+        let g : planEntry p image len ≡ refusal (r .number) = plan-is p image len ∙ w .given z (planStore p) ∙ c .whole refl ∙ rw f in
+        (left-alone (c .alone f) g, cause-left p image len (sym (ap (λ (a : Answer). a .number) g)) (λ y. false≢true (sym (c .alone f) ∙ ap handsBack y)))
 
     module _ (f : r .back ≡ true) where
       given : planEntry p image len ≡ answer (r .number) (storeOf image (storeIn tree' staging' (r .store)))
@@ -67,9 +92,15 @@ module _ (p : Planned) (image : Bytes) (len : ℕ) {tree staging : Words} {o : O
             omega (arith, leb-true imageRoom len (w .roomy z));
       }
 
-      pub handed : {out out' : Bytes} {written written' : ℕ} → Writes (encode (storeOf image (storeIn tree' staging' (r .store)))) out out' written'
-          → Gives (planEntry p image len) (r .number) out out' written written'
-      handed = gives (c .told refl f) (sym (ap (λ (a : Answer). a .number) given)) (sym (ap (λ (a : Answer). a .image) given))
+      told : {cause cause' : ℕ} → cause' ≡ (if eqb (r .number) 0 then r .cause else cause) → CauseGives (planBroke p image len) (r .number) cause cause'
+      told e =
+          let q : r .number ≡ planBroke p image len .number = sym (ap (λ (a : Answer). a .number) given) ∙ sym (broke-number p image len) in
+          record { number = q; told = e ∙ rw (q, c .cause, broke-cause p image len _ (w .held z .accepted)) }
+
+      pub handed : {out out' : Bytes} {written written' cause cause' : ℕ} → Writes (encode (storeOf image (storeIn tree' staging' (r .store)))) out out' written'
+          → cause' ≡ (if eqb (r .number) 0 then r .cause else cause)
+          → Gives (planEntry p image len) (r .number) out out' written written' × CauseGives (planBroke p image len) (r .number) cause cause'
+      handed w e = (gives (c .told refl f) (sym (ap (λ (a : Answer). a .number) given)) (sym (ap (λ (a : Answer). a .image) given)) w, told e)
 
 -- Its first n steps.
 module _ (p : Planned) (n : ℕ) (image : Bytes) (out stepOut : ℕ) {room : Bool} (b : room ≡ (leb imageRoom out && leb stepRoom stepOut))

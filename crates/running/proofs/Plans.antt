@@ -111,9 +111,10 @@ recover-alone image s k d f h = go (on-recover told image imageRoom (inr refl, (
 
 module _ {image : Bytes} {s : LentStore} {limited : Bool} {n : ℕ} {tree staging : Words} where
   pub commit-runs : {r : Committed} → Commits image s limited n tree staging r
-      → Runs Commit image s limited n tree staging (record { number = r .number; back = r .found; store = r .storage .store; left = r .left; last = r .last })
+      → Runs Commit image s limited n tree staging (record { number = r .number; cause = 0; back = r .found; store = r .storage .store; left = r .left; last = r .last })
   unfolding commitStore
   commit-runs {r} c = let S : model.Store = storeOf image s in record {
+    cause = refl;
     sound = λ f. c .sound;
     last = λ f. c .last;
     whole = λ l.
@@ -128,9 +129,10 @@ module _ {image : Bytes} {s : LentStore} {limited : Bool} {n : ℕ} {tree stagin
   }
 
   pub recover-runs : {r : Recovered} → Held image s → Recovers image s limited n tree staging r
-      → Runs Recover image s limited n tree staging (record { number = r .number; back = eqb (r .number) 0; store = r .run .store; left = r .run .left; last = r .run .last })
+      → Runs Recover image s limited n tree staging (record { number = r .number; cause = r .cause; back = eqb (r .number) 0; store = r .run .store; left = r .run .left; last = r .run .last })
   unfolding recoverStore
   recover-runs {r} held c = let S : model.Store = storeOf image s in record {
+    cause = c .cause;
     sound = λ f. c .run (zero? f) .sound .fits .sound;
     last = λ f. c .run (zero? f) .sound .last;
     whole = λ l.

@@ -1,9 +1,9 @@
 // One road for every entry that runs a plan: the image is read, the plan is run, wholly or by its first n steps, and what it leaves is handed back.
 ghost use mathlib.Core.Path.{_≡_};
 ghost use Rattle.store.specs.Stores.{storeIn};
-ghost use Rattle.handover.specs.Contract.{lent, after, room, Returns, StepReturns};
+ghost use Rattle.handover.specs.Contract.{lent, after, room, Returns, StepReturns, CauseReturns};
 ghost use Rattle.handover.specs.Opening.{Held};
-ghost use Rattle.running.specs.Planning.{planEntry, planStepEntry, Runs};
+ghost use Rattle.running.specs.Planning.{planEntry, planBroke, planStepEntry, Runs};
 use local_storage::LocalStorage;
 use steps::Step;
 use store::Nodes;
@@ -16,9 +16,11 @@ pub enum Planned {
     Recover,
 }
 
-// What a plan leaves: a number; whether a store is handed back with it; that store; what is left of the budget; the step that was done last.
+// What a plan leaves: a number; how the log broke that it discards, 0 for none; whether a store is handed back; that store; what is left of the budget;
+// the step that was done last.
 pub struct Ran {
     pub number: u32,
+    pub cause: u32,
     pub back: bool,
     pub store: Store,
     pub left: u64,
@@ -47,6 +49,7 @@ fn run(
             let last = r.last;
             Ran {
                 number: r.number,
+                cause: 0,
                 back: r.found,
                 store: t,
                 left: r.left,
@@ -60,6 +63,7 @@ fn run(
             let last = done.last;
             Ran {
                 number: r.number,
+                cause: r.cause,
                 back: r.number == 0,
                 store: t,
                 left: done.left,
@@ -69,9 +73,15 @@ fn run(
     }
 }
 
-// The whole plan.
-pub fn run_whole(p: Planned, image: &[u8], out: &mut [u8], written: &mut usize) -> u32
-    ensures { λ r. ⌜ Returns (planEntry p (lent image) (room out)) r out written ⌝ }
+// The whole plan; where its number is 0, `cause` says how the log broke that it discarded.
+pub fn run_whole(
+    p: Planned,
+    image: &[u8],
+    out: &mut [u8],
+    written: &mut usize,
+    cause: &mut u32,
+) -> u32
+    ensures { λ r. ⌜ Returns (planEntry p (lent image) (room out)) r out written × CauseReturns (planBroke p (lent image) (room out)) r cause ⌝ }
 {
     let mut tree = [[0u32; 3]; store::ROOM];
     let mut staging = [[0u32; 3]; store::ROOM];
@@ -90,6 +100,7 @@ pub fn run_whole(p: Planned, image: &[u8], out: &mut [u8], written: &mut usize) 
     if back {
         let t = r.store;
         handover::hand_image(image, &tree, &staging, t, Tail::Nothing, 0, out, written);
+        handover::hand_cause(r.number, r.cause, cause);
         return r.number;
     }
     r.number

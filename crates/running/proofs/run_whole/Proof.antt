@@ -25,17 +25,21 @@ hand-image-requires c κs =
     let z = o .before .before .before .before .before in
     image-stands (z .args .p) (z .args .image .now) (length (z .args .out .now)) (o .open-image .ensures) (i .if1 .left) (r .run .ensures) (t .if2 .taken)
 
+hand-cause-requires : tie.Need-hand-cause-requires
+hand-cause-requires c κs = search needs
+
 same-length : tie.Need-same-length
 same-length c = search needs
 
 returns-2 : tie.Need-returns-2
 returns-2 c =
-    let t = c .before .before .before .before .before .before .before .before in
+    let h = c .before .before .before .before in
+    let t = h .before .before .before .before .before .before in
     let r = t .before in
     let i = r .before .before .before .before in
     let o = i .before .before in
     let z = o .before .before .before .before .before in
-    handed (z .args .p) (z .args .image .now) (length (z .args .out .now)) (o .open-image .ensures) (i .if1 .left) (r .run .ensures) (t .if2 .taken) (c .before .before .hand-image .ensures)
+    handed (z .args .p) (z .args .image .now) (length (z .args .out .now)) (o .open-image .ensures) (i .if1 .left) (r .run .ensures) (t .if2 .taken) (h .hand-image .ensures) (c .hand-cause .ensures)
 
 returns-3 : tie.Need-returns-3
 returns-3 c =
@@ -53,6 +57,7 @@ run-whole-spec =
     returns
     run-requires
     hand-image-requires
+    hand-cause-requires
     same-length
     returns-2
     returns-3)

@@ -4,10 +4,10 @@ use Rattle.replay.proofs.tally.put_row.Statement.{statement}
 use Rattle.replay.proofs.tally.put_row.Tie as tie
 
 abbrev Inv-loop : tie.InvT-loop
-Inv-loop cells call number₀ t4 number = number ≤ 17
+Inv-loop cells call number₀ t4 number = number ≤ 22
 
 abbrev μ-loop : tie.MeasureT-loop
-μ-loop cells call number₀ t4 number = 17 - number
+μ-loop cells call number₀ t4 number = 22 - number
 
 put-entry-requires : tie.Need-put-entry-requires Inv-loop μ-loop
 put-entry-requires c κs = search needs

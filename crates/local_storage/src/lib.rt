@@ -223,8 +223,8 @@ impl LocalStorage {
         }
     }
 
-    // All steps of the commit, or where `limited` the first n; it `holds` or not (02, item 6). 01, Listings and file steps: "The open mark 0x14 goes with commit's last step":
-    // where the run did not stop.
+    // All steps of the commit, or where `limited` the first n; it `holds` or not (02, item 6). 01, Listings and file steps: "The open mark 0x14 goes
+    // with commit's last step": where the run did not stop.
     pub fn commit(
         self,
         src: &[u8],

@@ -73,7 +73,8 @@ module _ (src : Bytes) (tree staging : Words) (s : Store) {u : Store} {limited :
   started = ap (storeOf src) (x .store ∙ ap (storeIn tree staging) e)
 
   -- The steps of a plan, done.
-  ran : (f : model.Store → List Step) {r : LentRun} → Follows plain src f (runIn tree staging start) r → Ran (f (withoutMark (storeOf src (storeIn tree staging s)))) src (storeIn tree staging s) limited n r
+  ran : (f : model.Store → List Step) {r : LentRun} → Follows plain src f (runIn tree staging start) r →
+      Ran (f (withoutMark (storeOf src (storeIn tree staging s)))) src (storeIn tree staging s) limited n r
   ran f {r} p = record {
     sound = p .sound;
     cut = λ l. subst (λ (v : model.Store). Cut apply (f v) n v (runOf src r)) started (limited-prefix apply (plainly apply (p .does)) (x .stopped) n (x .limited ∙ l) (x .left));
@@ -88,16 +89,19 @@ module _ (src : Bytes) (tree staging : Words) (s : Store) {u : Store} {limited :
   module _ (status : Status) where
     abbrev pub Done : ℕ → ℕ → Words → Words → Run → Type 0
     Done k c t g r =
-        Recovers (recoveryFrom (journalOf status (entries (logPart src (s .log)))) (storeOf src (storeIn tree staging s))) src (storeIn tree staging s) limited n t g (record { number = k; cause = c; run = r })
+        Recovers (recoveryFrom (journalOf status (entries (logPart src (s .log)))) (storeOf src (storeIn tree staging s)))
+        src (storeIn tree staging s) limited n t g (record { number = k; cause = c; run = r })
 
-    at-once : (j : Journal) → journalOf status (entries (logPart src (s .log))) ≡ j → {c : ℕ} {t g : Words} {r : Run} → recoverFault j (mapOf src (tableOf tree (s .tree))) ≡ none → c ≡ discardedCause j
+    at-once : (j : Journal) → journalOf status (entries (logPart src (s .log))) ≡ j → {c : ℕ} {t g : Words} {r : Run} →
+        recoverFault j (mapOf src (tableOf tree (s .tree))) ≡ none → c ≡ discardedCause j
         → Follows plain src (inSequence (recoverParts j)) (runIn tree staging start) (runIn t g r) → Done 0 c t g r
     at-once j i {c} {t} {g} {r} z k p =
         subst (λ (q : Journal). Recovers (recoveryFrom q (storeOf src (storeIn tree staging s))) src (storeIn tree staging s) limited n t g (record { number = 0; cause = c; run = r })) (sym i)
         (does (inSequence (recoverParts j)) z k p)
 
     pub recovers : (q : Status) → status ≡ q → {c : ℕ} {t g : Words} {r : Run} → recoverFault (journalOf q (entries (logPart src (s .log)))) (mapOf src (tableOf tree (s .tree))) ≡ none
-        → c ≡ discardedCause (journalOf q (entries (logPart src (s .log)))) → Follows plain src (inSequence (recoverParts (journalOf q (entries (logPart src (s .log)))))) (runIn tree staging start) (runIn t g r) → Done 0 c t g r
+        → c ≡ discardedCause (journalOf q (entries (logPart src (s .log))))
+        → Follows plain src (inSequence (recoverParts (journalOf q (entries (logPart src (s .log)))))) (runIn tree staging start) (runIn t g r) → Done 0 c t g r
     recovers q h z k p = at-once (journalOf q (entries (logPart src (s .log)))) (ap (λ (x : Status). journalOf x (entries (logPart src (s .log)))) h) z k p
 
     module _ (h : status ≡ Committing) (w : WalRead) (i : entriesOf src w ≡ entries (logPart src (s .log))) where
@@ -120,7 +124,9 @@ module _ (src : Bytes) (tree staging : Words) (s : Store) {u : Store} {limited :
 
 -- What a log is that was opened, and what is done with it.
 module _ (src : Bytes) (s : LentStore) (status : Status) (e : journalOf status (entries (logPart src (s .log))) ≡ journal (logBytes src (s .log))) where
-  pub as-it-stands : {limited : Bool} {n : ℕ} {t g : Words} {r : Recovered} → Recovers (recoveryFrom (journalOf status (entries (logPart src (s .log)))) (storeOf src s)) src s limited n t g r → Recovers (recovery (storeOf src s)) src s limited n t g r
+  pub as-it-stands : {limited : Bool} {n : ℕ} {t g : Words} {r : Recovered} →
+      Recovers (recoveryFrom (journalOf status (entries (logPart src (s .log)))) (storeOf src s)) src s limited n t g r
+      → Recovers (recovery (storeOf src s)) src s limited n t g r
   unfolding recoverPlan
   as-it-stands {limited} {n} {t} {g} {r} p = subst (λ (j : Journal). Recovers (recoveryFrom j (storeOf src s)) src s limited n t g r) e p
 
@@ -128,7 +134,9 @@ module _ (src : Bytes) (s : LentStore) (status : Status) (e : journalOf status (
     is-held : journal (logBytes src (s .log)) ≡ held (entries (logPart src (s .log)) .ops) (entries (logPart src (s .log)) .end)
     is-held = sym e ∙ ap (λ (q : Status). journalOf q (entries (logPart src (s .log)))) h
 
-    pub reverts : {limited : Bool} {n : ℕ} {t g : Words} {r : Recovered} → Recovers (recoveryFrom (journalOf Committing (entries (logPart src (s .log)))) (storeOf src s)) src s limited n t g r → Recovers (reverting (storeOf src s)) src s limited n t g r
+    pub reverts : {limited : Bool} {n : ℕ} {t g : Words} {r : Recovered} →
+        Recovers (recoveryFrom (journalOf Committing (entries (logPart src (s .log)))) (storeOf src s)) src s limited n t g r
+        → Recovers (reverting (storeOf src s)) src s limited n t g r
     unfolding revertPlan
     reverts {limited} {n} {t} {g} {r} p =
         subst (λ (j : Journal). Recovers (record {
@@ -137,12 +145,15 @@ module _ (src : Bytes) (s : LentStore) (status : Status) (e : journalOf status (
           steps = inSequence (recoverParts (unheld j)) (withoutMark (storeOf src s));
         }) src s limited n t g r) (sym is-held) p
 
-    pub keeps : {limited : Bool} {n : ℕ} {t g : Words} {r : Recovered} → Recovers (record { fault = none; cause = 0; steps = keepPlan (withoutMark (storeOf src s)) }) src s limited n t g r → Recovers (keeping (storeOf src s)) src s limited n t g r
+    pub keeps : {limited : Bool} {n : ℕ} {t g : Words} {r : Recovered} →
+        Recovers (record { fault = none; cause = 0; steps = keepPlan (withoutMark (storeOf src s)) }) src s limited n t g r
+        → Recovers (keeping (storeOf src s)) src s limited n t g r
     keeps {limited} {n} {t} {g} {r} p =
         subst (λ (j : Journal). Recovers (record { fault = if isHeld j then none else some 18; cause = 0; steps = keepPlan (withoutMark (storeOf src s)) }) src s limited n t g r) (sym is-held) p
 
   -- 18.
-  pub refused-18 : {limited : Bool} {n : ℕ} {t g : Words} {r : Recovered} {w : Work} (f : Option ℕ) → w .fault ≡ ifHeld (storeOf src s) f → OneOf (0 ∷ 1 ∷ 2 ∷ []) (tagOf the-type status) → r .number ≡ 18 → Recovers w src s limited n t g r
+  pub refused-18 : {limited : Bool} {n : ℕ} {t g : Words} {r : Recovered} {w : Work} (f : Option ℕ) →
+      w .fault ≡ ifHeld (storeOf src s) f → OneOf (0 ∷ 1 ∷ 2 ∷ []) (tagOf the-type status) → r .number ≡ 18 → Recovers w src s limited n t g r
   refused-18 f i o z = record {
     number = i ∙ ap (λ (b : Bool). if b then f else some 18) (ap isHeld (sym e) ∙ none-held src (s .log) status o) ∙ ap told (sym z);
     cause = λ y. absurd (omega arith);

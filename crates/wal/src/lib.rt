@@ -9,13 +9,9 @@ use spans::NameRef;
 use transaction::Decoded;
 use transaction::Operation;
 
-// 01, How a store is handed over: "The log header: 0xCA, status (0x00 Recording, 0x01 Committing), two zero bytes, CRC-32 of the first two".
+// 01, How a store is handed over: "The log header: 0xCA, status (0x00 Recording, 0x01 Committing), two zero bytes, CRC-32 of the first two". 02, item 6:
+// "status 0x02, Held".
 const WAL_MAGIC: u8 = 0xCA;
-
-// The statuses that a header is rewritten with; 02, item 6: "status 0x02, Held".
-pub const STATUS_COMMITTING: u8 = 0x01;
-
-pub const STATUS_HELD: u8 = 0x02;
 
 // The bytes of a header, and those of an entry before its payload.
 const WAL_FILE_HEADER_SIZE: usize = 8;

@@ -9,12 +9,12 @@ use lib.Dec.{leb, eqb}
 use borrow.Author.Tests.{le-leb, lt-leb}
 use Rattle.basics.specs.Limits.{logLimit}
 use Rattle.basics.specs.Base.{Bytes, if_then_else_}
-use Rattle.model.specs.Log.{Journal, absent, recording, committing, byStatus, readJournal, validHeader, Entries, Ending, entries, endingCause}
+use Rattle.model.specs.Log.{Journal, absent, recording, committing, held, byStatus, readJournal, validHeader, Entries, Ending, entries, endingCause}
 use Rattle.answers.specs.Answers.{readingNumber, logCause}
 use Rattle.transaction.specs.Operations.{Bounds}
 use Rattle.wal.specs.Logs.{journalOf, endingOf, ReadsLog}
 use Rattle.wal.specs.declared.Status.{Status}
-use Rattle.wal.specs.declared.Status.the-variants.{Absent, Recording, Committing}
+use Rattle.wal.specs.declared.Status.the-variants.{Absent, Recording, Committing, Held}
 use Rattle.wal.specs.declared.WalRead.{WalRead}
 use Rattle.wal.proofs.Walks.{entries-there}
 use Rattle.handover.specs.Contract.{CauseGives}
@@ -24,11 +24,13 @@ abbrev present : Journal → Bool
 present absent = false
 present (recording o e) = true
 present (committing o e) = true
+present (held o e) = true
 
 abbrev pub stands : Status → Bool
 stands Absent = false
 stands Recording = true
 stands Committing = true
+stands Held = true
 
 by-header : (l : Bytes) → present (readJournal l) ≡ validHeader l
 unfolding readJournal
@@ -36,13 +38,15 @@ by-header l = go (validHeader l) (getD l 1 0) (entries l)
   where
     go : (b : Bool) (n : ℕ) (r : Entries) → present (if b then byStatus n r else absent) ≡ b
     go true zero r = refl
-    go true (suc n) r = refl
+    go true (suc zero) r = refl
+    go true (suc (suc n)) r = refl
     go false n r = refl
 
 by-status : (v : Status) (r : Entries) → stands v ≡ present (journalOf v r)
 by-status Absent r = refl
 by-status Recording r = refl
 by-status Committing r = refl
+by-status Held r = refl
 
 pub header-told : (l : Bytes) {st : Status} (v : Status) → journalOf st (entries l) ≡ readJournal l → st ≡ v → stands v ≡ validHeader l
 header-told l {st} v o e = ap stands (sym e) ∙ by-status st (entries l) ∙ ap present o ∙ by-header l

@@ -1,5 +1,5 @@
 -- Demand 1 over calls of the exported entries, in one statement: whatever a call is lent, it answers with one of the numbers named here, and after a
--- refusal every lent buffer and counter is as it was. 0, and 14 and 15, which commit alone gives, hand back the image that the contract says.
+-- refusal every lent buffer and counter is as it was. 0, and 14 and 15, which commit and hold alone give, hand back the image that the contract says.
 use mathlib.Core.Path.{_≡_, sym, ap, subst, _∙_}
 use mathlib.Core.Bool.{Bool, true, false}
 use mathlib.Core.List.{List, [], _∷_}
@@ -9,7 +9,8 @@ use lib.Dec.{eqb}
 use Rattle.basics.specs.Order.{Name}
 use Rattle.basics.specs.Base.{Bytes, In}
 use Rattle.answers.specs.Answers.{Answer, Broke, begin, write, delete, deleteAll, createCollection, deleteCollection, copyCollection, rollback}
-use Rattle.answers.specs.Answers.{commit, commitStep, recover, recoverCause, recoverStep, pending, listKeys, findBackup, logCause}
+use Rattle.answers.specs.Answers.{commit, commitStep, hold, holdStep, keep, keepStep, recover, recoverCause, recoverStep, revert, revertCause, revertStep}
+use Rattle.answers.specs.Answers.{pending, listKeys, findBackup, logCause, canonicalLog}
 use Rattle.answers.specs.Inventory.{inventory}
 use Rattle.handover.specs.Contract.{handsBack, Gives, StepGives, PendingGives, CauseGives}
 use Rattle.cda_storage.specs.Refusals as refusals
@@ -41,7 +42,7 @@ CauseRefuses l a = (n cause cause' : ℕ) → CauseGives a n cause cause' → Ca
 
 -- The numbers of each entry: 01, Sixteen numbers, and 02's.
 pub record Demand1 : Type 0 where
-  pub onBegin : (b : Bytes) → Refuses (0 ∷ 1 ∷ 2 ∷ 3 ∷ []) (begin b)
+  pub onBegin : (b : Bytes) → Refuses (0 ∷ 1 ∷ 2 ∷ 3 ∷ 17 ∷ []) (begin b)
   pub onWrite : (c k staged : Name) (x : ℕ) (b : Bytes) → Refuses (0 ∷ 1 ∷ 2 ∷ 4 ∷ 5 ∷ 6 ∷ 10 ∷ []) (write c k staged x b)
   pub onDelete : (c k : Name) (b : Bytes) → Refuses (0 ∷ 1 ∷ 2 ∷ 4 ∷ 5 ∷ 6 ∷ 8 ∷ []) (delete c k b)
   pub onDeleteAll : (c : Name) (b : Bytes) → Refuses (0 ∷ 1 ∷ 2 ∷ 4 ∷ 5 ∷ 6 ∷ []) (deleteAll c b)
@@ -51,6 +52,13 @@ pub record Demand1 : Type 0 where
   pub onRollback : (b : Bytes) → Refuses (0 ∷ 1 ∷ 2 ∷ 4 ∷ []) (rollback b)
   pub onCommit : (b : Bytes) → Refuses (0 ∷ 1 ∷ 2 ∷ 4 ∷ 14 ∷ 15 ∷ []) (commit b)
   pub onCommitStep : (n : ℕ) (b : Bytes) → StepRefuses (0 ∷ 1 ∷ 2 ∷ 4 ∷ 16 ∷ []) (commitStep n b)
+  pub onHold : (b : Bytes) → Refuses (0 ∷ 1 ∷ 2 ∷ 4 ∷ 14 ∷ 15 ∷ []) (hold b)
+  pub onHoldStep : (n : ℕ) (b : Bytes) → StepRefuses (0 ∷ 1 ∷ 2 ∷ 4 ∷ 16 ∷ []) (holdStep n b)
+  pub onKeep : (b : Bytes) → Refuses (0 ∷ 1 ∷ 2 ∷ 18 ∷ []) (keep b)
+  pub onKeepStep : (n : ℕ) (b : Bytes) → StepRefuses (0 ∷ 1 ∷ 2 ∷ 18 ∷ 16 ∷ []) (keepStep n b)
+  pub onRevert : (b : Bytes) → Refuses (0 ∷ 1 ∷ 2 ∷ 18 ∷ 11 ∷ 12 ∷ 13 ∷ []) (revert b)
+  pub onRevertCause : (b : Bytes) (out : ℕ) → CauseRefuses (0 ∷ 1 ∷ 2 ∷ 18 ∷ 11 ∷ 12 ∷ 13 ∷ []) (revertCause b out)
+  pub onRevertStep : (n : ℕ) (b : Bytes) → StepRefuses (0 ∷ 1 ∷ 2 ∷ 18 ∷ 11 ∷ 12 ∷ 13 ∷ 16 ∷ []) (revertStep n b)
   pub onRecover : (b : Bytes) → Refuses (0 ∷ 1 ∷ 2 ∷ 11 ∷ 12 ∷ 13 ∷ []) (recover b)
   pub onRecoverCause : (b : Bytes) (out : ℕ) → CauseRefuses (0 ∷ 1 ∷ 2 ∷ 11 ∷ 12 ∷ 13 ∷ []) (recoverCause b out)
   pub onRecoverStep : (n : ℕ) (b : Bytes) → StepRefuses (0 ∷ 1 ∷ 2 ∷ 11 ∷ 12 ∷ 13 ∷ 16 ∷ []) (recoverStep n b)
@@ -58,6 +66,7 @@ pub record Demand1 : Type 0 where
   pub onFindBackup : (b : Bytes) → Refuses (0 ∷ 1 ∷ 2 ∷ []) (findBackup b)
   pub onLogCause : (l : Bytes) → CauseRefuses (0 ∷ 1 ∷ 11 ∷ 12 ∷ 21 ∷ []) (logCause l)
   pub onInventory : (b : Bytes) → Refuses (0 ∷ 1 ∷ 2 ∷ []) (inventory b)
+  pub onCanonicalLog : (l : Bytes) → Refuses (0 ∷ 1 ∷ 2 ∷ 21 ∷ 11 ∷ 12 ∷ []) (canonicalLog l)
   pub onPending : (b : Bytes) (n p p' : ℕ) → PendingGives (pending b) n p p' → In n (0 ∷ 1 ∷ []) × (eqb n 0 ≡ false → p' ≡ p)
 
 keeps : {l : List ℕ} {a : Answer} → Answered l a → {n : ℕ} {out out' : Bytes} {written written' : ℕ} → Gives a n out out' written written' → Keeps l n out out' written written'
@@ -89,6 +98,13 @@ demand-1 = record {
   onRollback = λ b k out out' w w' g. keeps (refusals.rollback-answers b _) g;
   onCommit = λ b k out out' w w' g. keeps (refusals.commit-answers b _) g;
   onCommitStep = λ n b k out out' w w' step step' sw sw' g. step-keeps (refusals.commit-step-answers n b _ _) g;
+  onHold = λ b k out out' w w' g. keeps (refusals.hold-answers b _) g;
+  onHoldStep = λ n b k out out' w w' step step' sw sw' g. step-keeps (refusals.hold-step-answers n b _ _) g;
+  onKeep = λ b k out out' w w' g. keeps (refusals.keep-answers b _) g;
+  onKeepStep = λ n b k out out' w w' step step' sw sw' g. step-keeps (refusals.keep-step-answers n b _ _) g;
+  onRevert = λ b k out out' w w' g. keeps (refusals.revert-answers b _) g;
+  onRevertCause = λ b out k c c' g. cause-keeps (refusals.revert-tells b out) g;
+  onRevertStep = λ n b k out out' w w' step step' sw sw' g. step-keeps (refusals.revert-step-answers n b _ _) g;
   onRecover = λ b k out out' w w' g. keeps (refusals.recover-answers b _) g;
   onRecoverCause = λ b out k c c' g. cause-keeps (refusals.recover-tells b out) g;
   onRecoverStep = λ n b k out out' w w' step step' sw sw' g. step-keeps (refusals.recover-step-answers n b _ _) g;
@@ -96,6 +112,7 @@ demand-1 = record {
   onFindBackup = λ b k out out' w w' g. keeps (refusals.find-backup-answers b _) g;
   onLogCause = λ l k c c' g. cause-keeps (refusals.log-cause-tells l) g;
   onInventory = λ b k out out' w w' g. keeps (refusals.inventory-answers b _) g;
+  onCanonicalLog = λ l k out out' w w' g. keeps (refusals.canonical-log-answers l _) g;
   onPending = λ b k p p' g. (
     subst (λ (n : ℕ). In n (0 ∷ 1 ∷ [])) (sym (g .number)) (refusals.pending-answers b),
     λ h. g .answer ∙ rw (ap (λ (n : ℕ). eqb n 0) (sym (g .number)) ∙ h),

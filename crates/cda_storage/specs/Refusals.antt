@@ -11,19 +11,20 @@ use lib.Dec.{leb}
 use Rattle.basics.specs.Limits.{imageRoom, logLimit}
 use Rattle.basics.specs.Order.{Name}
 use Rattle.basics.specs.Base.{Bytes, caseOption, if_then_else_, In}
-use Rattle.model.specs.Log.{Journal, absent, recording, committing, journal, validHeader, entries}
+use Rattle.model.specs.Log.{Journal, absent, recording, committing, held, journal, validHeader, entries}
 use Rattle.model.specs.Log.{Ending, whole, truncated, undecodable, tooMany, headerShort, payloadMissing, checksumWrong, endingCause}
 use Rattle.model.specs.Store.{Store, hasPendingWork}
 use Rattle.model.specs.Image.{decode}
 use Rattle.model.specs.Step.{Fault, fails, full, commitNumber}
-use Rattle.model.specs.Plan.{commitFault, discardedCause}
+use Rattle.model.specs.Plan.{commitFault, unheld, discardedCause}
 use Rattle.answers.specs.Answers.{Answer, Pending, Broke, refusal, answer, outcome, readingNumber}
-use Rattle.answers.specs.Answers.{begin, write, delete, deleteAll, createCollection, deleteCollection, copyCollection, rollback}
-use Rattle.answers.specs.Answers.{commit, commitStep, recover, recoverCause, recoverStep, pending, listKeys, findBackup, logCause}
+use Rattle.answers.specs.Answers.{begin, write, delete, deleteAll, createCollection, deleteCollection, copyCollection, rollback, pending, listKeys, findBackup, logCause, canonicalLog}
+use Rattle.answers.specs.Answers.{commit, commitStep, hold, holdStep, keep, keepStep, recover, recoverCause, recoverStep, revert, revertCause, revertStep}
 use Rattle.answers.specs.Inventory.{inventory}
 use Rattle.basic_laws.specs.Tests.{All, in-all}
-use Rattle.answer_laws.specs.EntryLaws.{commitStepRefusals, recoverRefusals, recoverStepRefusals, listKeysRefusals}
-use Rattle.answer_laws.specs.EntryLaws.{on-commit, on-recover, on-commit-step, on-recover-step, on-list-keys, on-find-backup, on-inventory}
+use Rattle.answer_laws.specs.EntryLaws.{commitRefusals, commitStepRefusals, keepRefusals, keepStepRefusals, recoverRefusals, recoverStepRefusals, revertRefusals, revertStepRefusals, listKeysRefusals}
+use Rattle.answer_laws.specs.EntryLaws.{on-commit, on-commit-step, on-hold, on-hold-step, on-keep, on-keep-step, on-recover, on-recover-step, on-revert, on-revert-step, on-list-keys, on-find-backup, on-inventory}
+use Rattle.answer_laws.specs.CanonicalLog.{canonicalRefusals, on-canonical}
 use Rattle.handover.specs.Contract.{handsBack, Gives, StepGives}
 use Rattle.recording.specs.Asking.{asked, entryOf, numbersOf}
 use Rattle.recording.specs.Laws.{entry-is, asked-cases}
@@ -70,7 +71,7 @@ asked-answers op c k f b out = subst (Answered (0 ∷ 1 ∷ 2 ∷ numbersOf op))
     go (some s) true = asked-cases (λ o. Answered (0 ∷ 1 ∷ 2 ∷ numbersOf op) (outcome o)) op c k f s (each .1 .1) (λ u e. done _ refl)
     go (some s) false = each .1 .0
 
-pub begin-answers : (b : Bytes) (out : ℕ) → Answered (0 ∷ 1 ∷ 2 ∷ 3 ∷ []) (begin b out)
+pub begin-answers : (b : Bytes) (out : ℕ) → Answered (0 ∷ 1 ∷ 2 ∷ 3 ∷ 17 ∷ []) (begin b out)
 begin-answers = asked-answers Begin [] [] []
 
 pub write-answers : (c k staged : Name) (x : ℕ) (b : Bytes) (out : ℕ) → Answered (0 ∷ 1 ∷ 2 ∷ 4 ∷ 5 ∷ 6 ∷ 10 ∷ []) (write c k staged x b out)
@@ -94,19 +95,28 @@ copy-collection-answers a c = asked-answers CopyCollection a [] c
 pub rollback-answers : (b : Bytes) (out : ℕ) → Answered (0 ∷ 1 ∷ 2 ∷ 4 ∷ []) (rollback b out)
 rollback-answers = asked-answers Rollback [] [] []
 
+-- A commit, held or not: 1, 2, 4; 14 and 15 hand an image back.
+early : All (λ n. Answered (0 ∷ 1 ∷ 2 ∷ 4 ∷ 14 ∷ 15 ∷ []) (refusal n)) commitRefusals
+early = (refused _ 1 (inr (inl refl)), (refused _ 2 (inr (inr (inl refl))), (refused _ 4 (inr (inr (inr (inl refl)))), tt)))
+
+ended : (q : Option Fault) {image step : Bytes} → Answered (0 ∷ 1 ∷ 2 ∷ 4 ∷ 14 ∷ 15 ∷ []) (record { number = commitNumber q; image = image; step = step })
+ended none = done _ refl
+ended (some fails) = record { numbers = inr (inr (inr (inr (inl refl)))); alone = λ h. absurd (false≢true (sym h)) }
+ended (some full) = record { numbers = inr (inr (inr (inr (inr (inl refl))))); alone = λ h. absurd (false≢true (sym h)) }
+
 pub commit-answers : (b : Bytes) (out : ℕ) → Answered (0 ∷ 1 ∷ 2 ∷ 4 ∷ 14 ∷ 15 ∷ []) (commit b out)
-commit-answers b out =
-    on-commit (Answered (0 ∷ 1 ∷ 2 ∷ 4 ∷ 14 ∷ 15 ∷ [])) b out (refused _ 1 (inr (inl refl)), (refused _ 2 (inr (inr (inl refl))), (refused _ 4 (inr (inr (inr (inl refl)))), tt)))
-    (λ s d. ended (commitFault s))
-  where
-    ended : (q : Option Fault) {image step : Bytes} → Answered (0 ∷ 1 ∷ 2 ∷ 4 ∷ 14 ∷ 15 ∷ []) (record { number = commitNumber q; image = image; step = step })
-    ended none = done _ refl
-    ended (some fails) = record { numbers = inr (inr (inr (inr (inl refl)))); alone = λ h. absurd (false≢true (sym h)) }
-    ended (some full) = record { numbers = inr (inr (inr (inr (inr (inl refl))))); alone = λ h. absurd (false≢true (sym h)) }
+commit-answers b out = on-commit (Answered (0 ∷ 1 ∷ 2 ∷ 4 ∷ 14 ∷ 15 ∷ [])) b out early (λ s d. ended (commitFault s))
+
+pub hold-answers : (b : Bytes) (out : ℕ) → Answered (0 ∷ 1 ∷ 2 ∷ 4 ∷ 14 ∷ 15 ∷ []) (hold b out)
+hold-answers b out = on-hold (Answered (0 ∷ 1 ∷ 2 ∷ 4 ∷ 14 ∷ 15 ∷ [])) b out early (λ s d. ended (commitFault s))
 
 pub commit-step-answers : (n : ℕ) (b : Bytes) (out stepOut : ℕ) → Answered (0 ∷ 1 ∷ 2 ∷ 4 ∷ 16 ∷ []) (commitStep n b out stepOut)
 commit-step-answers n b out stepOut =
     on-commit-step (Answered (0 ∷ 1 ∷ 2 ∷ 4 ∷ 16 ∷ [])) n b out stepOut (refusals commitStepRefusals) (λ s d. done _ refl)
+
+pub hold-step-answers : (n : ℕ) (b : Bytes) (out stepOut : ℕ) → Answered (0 ∷ 1 ∷ 2 ∷ 4 ∷ 16 ∷ []) (holdStep n b out stepOut)
+hold-step-answers n b out stepOut =
+    on-hold-step (Answered (0 ∷ 1 ∷ 2 ∷ 4 ∷ 16 ∷ [])) n b out stepOut (refusals commitStepRefusals) (λ s d. done _ refl)
 
 pub recover-answers : (b : Bytes) (out : ℕ) → Answered (0 ∷ 1 ∷ 2 ∷ 11 ∷ 12 ∷ 13 ∷ []) (recover b out)
 recover-answers b out =
@@ -116,12 +126,30 @@ pub recover-step-answers : (n : ℕ) (b : Bytes) (out stepOut : ℕ) → Answere
 recover-step-answers n b out stepOut =
     on-recover-step (Answered (0 ∷ 1 ∷ 2 ∷ 11 ∷ 12 ∷ 13 ∷ 16 ∷ [])) n b out stepOut (refusals recoverStepRefusals) (λ s d. done _ refl)
 
+pub keep-answers : (b : Bytes) (out : ℕ) → Answered (0 ∷ 1 ∷ 2 ∷ 18 ∷ []) (keep b out)
+keep-answers b out = on-keep (Answered (0 ∷ 1 ∷ 2 ∷ 18 ∷ [])) b out (refusals keepRefusals) (λ s d. done _ refl)
+
+pub keep-step-answers : (n : ℕ) (b : Bytes) (out stepOut : ℕ) → Answered (0 ∷ 1 ∷ 2 ∷ 18 ∷ 16 ∷ []) (keepStep n b out stepOut)
+keep-step-answers n b out stepOut =
+    on-keep-step (Answered (0 ∷ 1 ∷ 2 ∷ 18 ∷ 16 ∷ [])) n b out stepOut (refusals keepStepRefusals) (λ s d. done _ refl)
+
+pub revert-answers : (b : Bytes) (out : ℕ) → Answered (0 ∷ 1 ∷ 2 ∷ 18 ∷ 11 ∷ 12 ∷ 13 ∷ []) (revert b out)
+revert-answers b out =
+    on-revert (Answered (0 ∷ 1 ∷ 2 ∷ 18 ∷ 11 ∷ 12 ∷ 13 ∷ [])) b out (refusals revertRefusals) (λ s d. done _ refl)
+
+pub revert-step-answers : (n : ℕ) (b : Bytes) (out stepOut : ℕ) → Answered (0 ∷ 1 ∷ 2 ∷ 18 ∷ 11 ∷ 12 ∷ 13 ∷ 16 ∷ []) (revertStep n b out stepOut)
+revert-step-answers n b out stepOut =
+    on-revert-step (Answered (0 ∷ 1 ∷ 2 ∷ 18 ∷ 11 ∷ 12 ∷ 13 ∷ 16 ∷ [])) n b out stepOut (refusals revertStepRefusals) (λ s d. done _ refl)
+
 pub list-keys-answers : (c : Name) (b : Bytes) (out : ℕ) → Answered (0 ∷ 1 ∷ 2 ∷ 6 ∷ []) (listKeys c b out)
 list-keys-answers c b out =
     on-list-keys (Answered (0 ∷ 1 ∷ 2 ∷ 6 ∷ [])) c b out (refusals listKeysRefusals) (λ s d. done _ refl)
 
 pub find-backup-answers : (b : Bytes) (out : ℕ) → Answered (0 ∷ 1 ∷ 2 ∷ []) (findBackup b out)
 find-backup-answers b out = on-find-backup (Answered (0 ∷ 1 ∷ 2 ∷ [])) b out (refusals (1 ∷ 2 ∷ [])) (λ s d. done _ refl)
+
+pub canonical-log-answers : (l : Bytes) (out : ℕ) → Answered (0 ∷ 1 ∷ 2 ∷ 21 ∷ 11 ∷ 12 ∷ []) (canonicalLog l out)
+canonical-log-answers l out = on-canonical (Answered (0 ∷ canonicalRefusals)) l out (refusals canonicalRefusals) (λ ops. done _ refl)
 
 pub inventory-answers : (b : Bytes) (out : ℕ) → Answered (0 ∷ 1 ∷ 2 ∷ []) (inventory b out)
 inventory-answers b out = on-inventory (Answered (0 ∷ 1 ∷ 2 ∷ [])) b out (refusals (1 ∷ 2 ∷ [])) (λ s d. done _ refl)
@@ -151,18 +179,24 @@ ending-causes (truncated checksumWrong) = inr (inr (inr (inl refl)))
 ending-causes undecodable = inl refl
 ending-causes tooMany = inl refl
 
+by-journal : (j : Journal) → In {A = ℕ} (discardedCause j) causes
+by-journal absent = inl refl
+by-journal (recording o e) = inl refl
+by-journal (committing o e) = ending-causes e
+by-journal (held o e) = inl refl
+
+-- What is taken for the log of the store that was read, if one was.
+by-store : (f : Journal → Journal) (o : Option Store) → In {A = ℕ} (caseOption o 0 (λ s. discardedCause (f (journal (s .log))))) causes
+by-store f none = inl refl
+by-store f (some s) = by-journal (f (journal (s .log)))
+
 pub recover-tells : (b : Bytes) (out : ℕ) → Told (0 ∷ 1 ∷ 2 ∷ 11 ∷ 12 ∷ 13 ∷ []) (recoverCause b out)
 unfolding recoverCause
-recover-tells b out = record { numbers = recover-answers b out .numbers; one = go (decode b) }
-  where
-    by-journal : (j : Journal) → In {A = ℕ} (discardedCause j) causes
-    by-journal absent = inl refl
-    by-journal (recording o e) = inl refl
-    by-journal (committing o e) = ending-causes e
+recover-tells b out = record { numbers = recover-answers b out .numbers; one = by-store (λ j. j) (decode b) }
 
-    go : (o : Option Store) → In {A = ℕ} (caseOption o 0 (λ s. discardedCause (journal (s .log)))) causes
-    go none = inl refl
-    go (some s) = by-journal (journal (s .log))
+pub revert-tells : (b : Bytes) (out : ℕ) → Told (0 ∷ 1 ∷ 2 ∷ 18 ∷ 11 ∷ 12 ∷ 13 ∷ []) (revertCause b out)
+unfolding revertCause
+revert-tells b out = record { numbers = revert-answers b out .numbers; one = by-store unheld (decode b) }
 
 pub log-cause-tells : (l : Bytes) → Told (0 ∷ 1 ∷ 11 ∷ 12 ∷ 21 ∷ []) (logCause l)
 unfolding logCause

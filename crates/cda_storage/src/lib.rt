@@ -5,7 +5,8 @@ ghost use mathlib.Core.Path.{_≡_};
 ghost use Rattle.basics.specs.Base.{if_then_else_};
 ghost use Rattle.answers.specs.Answers as answers;
 ghost use Rattle.answers.specs.Answers.{begin, write, delete, deleteAll, createCollection, deleteCollection, copyCollection, rollback};
-ghost use Rattle.answers.specs.Answers.{commit, commitStep, recover, recoverCause, recoverStep, listKeys, findBackup, logCause};
+ghost use Rattle.answers.specs.Answers.{commit, commitStep, hold, holdStep, keep, keepStep, recover, recoverCause, recoverStep, revert, revertCause, revertStep};
+ghost use Rattle.answers.specs.Answers.{listKeys, findBackup, logCause, canonicalLog};
 ghost use Rattle.answers.specs.Inventory as inventories;
 ghost use Rattle.handover.specs.Contract.{lent, room, Returns, StepReturns, PendingReturns, CauseReturns};
 
@@ -22,7 +23,7 @@ fn yes_or_no(b: bool) -> u32
     if b { 1 } else { 0 }
 }
 
-// Opens a transaction. Refusals: 1, 2, 3.
+// Opens a transaction. Refusals: 1, 2, 3, 17.
 #[no_mangle]
 pub extern "C" fn cda_storage_begin(image: &[u8], out: &mut [u8], written: &mut usize) -> u32
     ensures { λ r. ⌜ Returns (begin (lent image) (room out)) r out written ⌝ }
@@ -161,6 +162,30 @@ pub extern "C" fn cda_storage_commit_step(
     running::run_steps(Planned::Commit, image, n, out, written, step, step_written)
 }
 
+// Commits and holds: log and backups stay until it is kept or reverted. Refusals: 1, 2, 4; 14 and 15 also hand back the rolled-back image.
+#[no_mangle]
+pub extern "C" fn cda_storage_hold(image: &[u8], out: &mut [u8], written: &mut usize) -> u32
+    ensures { λ r. ⌜ Returns (hold (lent image) (room out)) r out written ⌝ }
+{
+    let mut cause = 0u32;
+    running::run_whole(Planned::Hold, image, out, written, &mut cause)
+}
+
+// The image after n steps of the held commit, and the field of step n. Refusals: 1, 2, 4, 16.
+#[no_mangle]
+pub extern "C" fn cda_storage_hold_step(
+    image: &[u8],
+    n: u64,
+    out: &mut [u8],
+    written: &mut usize,
+    step: &mut [u8],
+    step_written: &mut usize,
+) -> u32
+    ensures { λ r. ⌜ StepReturns (holdStep n (lent image) (room out) (room step)) r out written step «step_written» ⌝ }
+{
+    running::run_steps(Planned::Hold, image, n, out, written, step, step_written)
+}
+
 // Whether recovery has work to do: `pending` is 1 for yes, 0 for no. Refusal: 1.
 #[no_mangle]
 pub extern "C" fn cda_storage_has_pending_work(image: &[u8], pending: &mut u32) -> u32
@@ -205,6 +230,58 @@ pub extern "C" fn cda_storage_recover_step(
     running::run_steps(Planned::Recover, image, n, out, written, step, step_written)
 }
 
+// Keeps a held commit: the log goes, then every backup. Refusals: 1, 2, 18.
+#[no_mangle]
+pub extern "C" fn cda_storage_keep(image: &[u8], out: &mut [u8], written: &mut usize) -> u32
+    ensures { λ r. ⌜ Returns (keep (lent image) (room out)) r out written ⌝ }
+{
+    let mut cause = 0u32;
+    running::run_whole(Planned::Keep, image, out, written, &mut cause)
+}
+
+// The image after n steps of keep, and the field of step n; at n = 0 whether a Held log stands. Refusals: 1, 2, 18, 16.
+#[no_mangle]
+pub extern "C" fn cda_storage_keep_step(
+    image: &[u8],
+    n: u64,
+    out: &mut [u8],
+    written: &mut usize,
+    step: &mut [u8],
+    step_written: &mut usize,
+) -> u32
+    ensures { λ r. ⌜ StepReturns (keepStep n (lent image) (room out) (room step)) r out written step «step_written» ⌝ }
+{
+    running::run_steps(Planned::Keep, image, n, out, written, step, step_written)
+}
+
+// Reverts a held commit; `cause` as `cda_storage_recover` says it of a Committing log. Refusals: 1, 2, 18, 11, 12, 13.
+#[no_mangle]
+pub extern "C" fn cda_storage_revert(
+    image: &[u8],
+    out: &mut [u8],
+    written: &mut usize,
+    cause: &mut u32,
+) -> u32
+    ensures { λ r. ⌜ Returns (revert (lent image) (room out)) r out written × CauseReturns (revertCause (lent image) (room out)) r cause ⌝ }
+{
+    running::run_whole(Planned::Revert, image, out, written, cause)
+}
+
+// The image after n steps of revert, and the field of step n. Refusals: 1, 2, 18, 11, 12, 13, 16.
+#[no_mangle]
+pub extern "C" fn cda_storage_revert_step(
+    image: &[u8],
+    n: u64,
+    out: &mut [u8],
+    written: &mut usize,
+    step: &mut [u8],
+    step_written: &mut usize,
+) -> u32
+    ensures { λ r. ⌜ StepReturns (revertStep n (lent image) (room out) (room step)) r out written step «step_written» ⌝ }
+{
+    running::run_steps(Planned::Revert, image, n, out, written, step, step_written)
+}
+
 // The keys of a collection, as 0x03 fields. Refusals: 1, 2, 6.
 #[no_mangle]
 pub extern "C" fn cda_storage_list_keys(
@@ -246,6 +323,14 @@ pub extern "C" fn cda_storage_log_cause(log: &[u8], cause: &mut u32) -> u32
     ensures { λ r. ⌜ CauseReturns (logCause (lent log)) r cause ⌝ }
 {
     logs::cause_of(log, cause)
+}
+
+// The log with the same status and operations and zeros in bytes 2 and 3. Refusals: 1, 2, 21, 11, 12.
+#[no_mangle]
+pub extern "C" fn cda_storage_canonical_log(log: &[u8], out: &mut [u8], written: &mut usize) -> u32
+    ensures { λ r. ⌜ Returns (canonicalLog (lent log) (room out)) r out written ⌝ }
+{
+    logs::canonical(log, out, written)
 }
 
 // The collections, their files and content numbers as JSON. Refusals: 1, 2, which here means that the text is longer than the output.

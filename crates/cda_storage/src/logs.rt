@@ -16,6 +16,7 @@ fn is_valid(log: &[u8]) -> bool
         Status::Absent => false,
         Status::Recording => true,
         Status::Committing => true,
+        Status::Held => true,
     }
 }
 

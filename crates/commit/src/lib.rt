@@ -1,23 +1,23 @@
 // Commit: local_storage.rs, `apply_inner`. 01, Listings and file steps: "mark, syncs, operations, directory syncs in order of first naming,
 // log removal, journal sync, backups, staging." After a failing step "the rollback's steps follow, then log removal, journal sync and
-// staging".
+// staging". A held commit ends otherwise (02, item 6).
 ghost use mathlib.Core.Path.{_≡_};
 ghost use mathlib.Core.List.{[], _∷_, map, reverse};
 ghost use Prim.Native.Nat.{_≤_};
 ghost use lib.ListN.{take};
 ghost use Rattle.basics.specs.Base.{Bytes, isIn};
 ghost use Rattle.model.specs.Log.{journal, opsOf};
-ghost use Rattle.model.specs.Step.{removeLog, syncJournal};
+ghost use Rattle.model.specs.Step.{holdHeader, syncLog};
 ghost use Rattle.model.specs.Plan.{inTurn, collectionOf, firstNamings, syncExisting};
 ghost use Rattle.spans.specs.Spans.{nameOf, Sound, Names};
 ghost use Rattle.store.specs.Stores.{storeIn, logBytes};
 ghost use Rattle.plans.specs.ModelPlans.{plain};
-ghost use Rattle.plans.specs.ModelAnswers.{commitStart, commitEnd, commitUndo};
+ghost use Rattle.plans.specs.ModelAnswers.{commitStart, endBehind, commitUndo};
 ghost use Rattle.steps.specs.Steps.{Fits};
 ghost use Rattle.steps.specs.CodeRuns.{runIn, SoundRun, Follows};
 ghost use Rattle.transaction.specs.Operations.{opOf, SoundOp};
 ghost use Rattle.wal.specs.Logs.{opsRead, SoundRead};
-ghost use Rattle.commit.specs.Commits.{Commits};
+ghost use Rattle.commit.specs.Commits.{endOf, Commits};
 use spans::NameRef;
 use steps::Run;
 use steps::Step;
@@ -110,23 +110,34 @@ fn mark_and_sync(src: &[u8], tree: &mut Nodes, staging: &mut Nodes, run: Run) ->
     steps::advance(src, tree, staging, staged, Step::SyncLog)
 }
 
-// The log goes: "the point of no return".
-fn remove_log(src: &[u8], tree: &mut Nodes, staging: &mut Nodes, run: Run) -> Run
+// 02, item 6: "it rewrites the header with status 0x02, Held (..), syncs the log".
+fn hold_log(src: &[u8], tree: &mut Nodes, staging: &mut Nodes, run: Run) -> Run
     requires { ⌜ SoundRun (now src) (runIn (now tree) (now staging) run) ⌝ }
-    ensures { λ r. ⌜ Follows plain (now (src .entry)) (λ s. removeLog ∷ syncJournal ∷ []) (runIn (now (tree .entry)) (now (staging .entry)) run) (runIn (now (tree .exit)) (now (staging .exit)) r) ⌝ }
+    ensures { λ r. ⌜ Follows plain (now (src .entry)) (λ s. holdHeader ∷ syncLog ∷ []) (runIn (now (tree .entry)) (now (staging .entry)) run) (runIn (now (tree .exit)) (now (staging .exit)) r) ⌝ }
 {
-    let removed = steps::advance(src, tree, staging, run, Step::RemoveLog);
-    steps::advance(src, tree, staging, removed, Step::SyncJournal)
+    let held = steps::advance(src, tree, staging, run, Step::HoldHeader);
+    steps::advance(src, tree, staging, held, Step::SyncLog)
 }
 
-// What follows the operations where no step failed.
-fn finish(src: &[u8], tree: &mut Nodes, staging: &mut Nodes, run: Run, w: WalRead) -> Run
+// What follows the operations where no step failed. Where the commit `holds`, log and backups stay.
+fn finish(
+    src: &[u8],
+    tree: &mut Nodes,
+    staging: &mut Nodes,
+    run: Run,
+    w: WalRead,
+    holds: bool,
+) -> Run
     requires { ⌜ SoundRun (now src) (runIn (now tree) (now staging) run) × SoundRead (now src) w ⌝ }
-    ensures { λ r. ⌜ Follows plain (now (src .entry)) (commitEnd (opsRead (now (src .entry)) w)) (runIn (now (tree .entry)) (now (staging .entry)) run) (runIn (now (tree .exit)) (now (staging .exit)) r) ⌝ }
+    ensures { λ r. ⌜ Follows plain (now (src .entry)) (endBehind (endOf holds) (opsRead (now (src .entry)) w)) (runIn (now (tree .entry)) (now (staging .entry)) run) (runIn (now (tree .exit)) (now (staging .exit)) r) ⌝ }
 {
     let named = sync_collection_dirs(src, tree, staging, run, w);
     let synced = steps::advance(src, tree, staging, named, Step::SyncCollections);
-    let removed = remove_log(src, tree, staging, synced);
+    if holds {
+        let held = hold_log(src, tree, staging, synced);
+        return recovery::cleanup_staging_dir(src, tree, staging, held);
+    }
+    let removed = recovery::remove_log_durably(src, tree, staging, synced);
     let cleaned = recovery::delete_all_backup_files(src, tree, staging, removed);
     recovery::cleanup_staging_dir(src, tree, staging, cleaned)
 }
@@ -137,29 +148,30 @@ fn roll_back(src: &[u8], tree: &mut Nodes, staging: &mut Nodes, run: Run, w: Wal
     ensures { λ r. ⌜ Follows plain (now (src .entry)) (commitUndo (opsRead (now (src .entry)) w)) (runIn (now (tree .entry)) (now (staging .entry)) run) (runIn (now (tree .exit)) (now (staging .exit)) r) ⌝ }
 {
     let undone = recovery::undo_all(src, tree, staging, run, w);
-    let removed = remove_log(src, tree, staging, undone);
+    let removed = recovery::remove_log_durably(src, tree, staging, undone);
     recovery::cleanup_staging_dir(src, tree, staging, removed)
 }
 
-// The steps of a commit, or where `limited` the first n of them. `w` is what was read of the store's log.
+// The steps of a commit, or where `limited` the first n of them; of one that `holds` or not. `w` is what was read of the store's log.
 pub fn apply_inner(
     src: &[u8],
     tree: &mut Nodes,
     staging: &mut Nodes,
     s: Store,
     w: WalRead,
+    holds: bool,
     limited: bool,
     n: u64,
 ) -> Run
     requires { ⌜ Fits (now src) (storeIn (now tree) (now staging) s) × (SoundRead (now src) w × (opsRead (now src) w ≡ opsOf (journal (logBytes (now src) (s .log))))) ⌝ }
-    ensures { λ r. ⌜ Commits (now (src .entry)) (storeIn (now (tree .entry)) (now (staging .entry)) s) limited n (runIn (now (tree .exit)) (now (staging .exit)) r) ⌝ }
+    ensures { λ r. ⌜ Commits holds (now (src .entry)) (storeIn (now (tree .entry)) (now (staging .entry)) s) limited n (runIn (now (tree .exit)) (now (staging .exit)) r) ⌝ }
 {
     let run = steps::start(s, limited, n);
     let begun = mark_and_sync(src, tree, staging, run);
     let tried = operations::apply_operations(src, tree, staging, begun, w);
     let refusal = tried.refusal;
     if refusal == 0 {
-        finish(src, tree, staging, tried, w)
+        finish(src, tree, staging, tried, w, holds)
     } else {
         roll_back(src, tree, staging, tried, w)
     }

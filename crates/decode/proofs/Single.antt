@@ -112,12 +112,12 @@ module _ {X : Type 0} {fields : X → List Field} {tag : ℕ} {no : X} (i : Sing
 
 -- The log.
 module _ {src : Bytes} {at : ℕ} where
-  pub no-log : {ok : Bool} → Reads logField LogFits (λ t. eqb t 0x13) src at ok none at → ReadsLog src at (record { ok = ok; log = record { start = 0; len = 0; stands = false; marked = false }; next = at })
+  pub no-log : {ok : Bool} → Reads logField LogFits (λ t. eqb t 0x13) src at ok none at → ReadsLog src at (record { ok = ok; log = record { start = 0; len = 0; stands = false; status = 0 }; next = at })
   unfolding logBytes
   no-log r = record { sound = record { inside = omega arith }; plain = refl; reads = r }
 
   module _ {x : Item} (w : at ≤ length src) (s : Stands src at x) (z : x .tag ≡ 0x13) where
-    pub log-here : x .end - x .start ≤ logLimit → ReadsLog src at (record { ok = true; log = record { start = x .start; len = x .end - x .start; stands = true; marked = false }; next = x .end })
+    pub log-here : x .end - x .start ≤ logLimit → ReadsLog src at (record { ok = true; log = record { start = x .start; len = x .end - x .start; stands = true; status = 0 }; next = x .end })
     unfolding logBytes
     log-here h = record {
       sound = record { inside = let b : x .end ≤ length src = s .within in omega (arith, s .ordered) };
@@ -125,7 +125,7 @@ module _ {src : Bytes} {at : ℕ} where
       reads = present log-single LogFits w s z (some (valueOf src x)) (rw (value-length s) h) refl;
     }
 
-    pub log-long : logLimit < x .end - x .start → ReadsLog src at (record { ok = false; log = record { start = 0; len = 0; stands = false; marked = false }; next = at })
+    pub log-long : logLimit < x .end - x .start → ReadsLog src at (record { ok = false; log = record { start = 0; len = 0; stands = false; status = 0 }; next = at })
     log-long h = no-log (wrong log-single LogFits w s z none too-long)
       where
         too-long : (k : Option Bytes) → LogFits k → logField k ≡ field 0x13 (valueOf src x) ∷ [] → ⊥

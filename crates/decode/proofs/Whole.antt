@@ -168,7 +168,7 @@ module _ {src : Bytes} {u v : Words} {t g : NodesPart} {l : LogPart} {m : MarkPa
 
 -- A longer image than any store's.
 pub too-long : (src : Bytes) {t g : Words} → imageRoom < length src → length (nodesOf t) ≡ tableRoom → length (nodesOf g) ≡ tableRoom →
-    Decodes src t g (record { ok = false; store = record { tree = 0; staging = 0; log = record { start = 0; len = 0; stands = false; marked = false }; «open_mark» = false }; «tree_end» = 0 })
+    Decodes src t g (record { ok = false; store = record { tree = 0; staging = 0; log = record { start = 0; len = 0; stands = false; status = 0 }; «open_mark» = false }; «tree_end» = 0 })
 too-long src {t} {g} h T G = record {
   sound = record { tree = unused T .sound; staging = unused G .sound; log = record { inside = omega arith } };
   plain = refl;

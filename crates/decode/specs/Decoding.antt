@@ -28,7 +28,7 @@ pub record ReadsNodes (staged : Bool) (src : Bytes) (at : ℕ) (t : Words) (r : 
 -- Its header is as the image has it.
 pub record ReadsLog (src : Bytes) (at : ℕ) (r : LogPart) : Type 0 where
   pub sound : SoundLog src (r .log)
-  pub plain : r .log .marked ≡ false
+  pub plain : r .log .status ≡ 0
   pub reads : Reads logField LogFits (λ t. eqb t 0x13) src at (r .ok) (logBytes src (r .log)) (r .next)
 
 pub record ReadsMark (src : Bytes) (at : ℕ) (r : MarkPart) : Type 0 where
@@ -38,7 +38,7 @@ pub record ReadsMark (src : Bytes) (at : ℕ) (r : MarkPart) : Type 0 where
 -- definition refuses is refused.
 pub record Decodes (src : Bytes) (tree staging : Words) (r : Decoded) : Type 0 where
   pub sound : SoundStore src (storeIn tree staging (r .store))
-  pub plain : r .store .log .marked ≡ false
+  pub plain : r .store .log .status ≡ 0
   pub accepted : r .ok ≡ true → decode src ≡ some (storeOf src (storeIn tree staging (r .store)))
   pub refused : r .ok ≡ false → decode src ≡ none
   pub kept : r .ok ≡ true → Kept src (r .«tree_end») (mapOf src (tableOf tree (r .store .tree)))

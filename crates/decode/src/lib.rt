@@ -21,7 +21,7 @@ const NO_LOG: LogRef = LogRef {
     start: 0,
     len: 0,
     stands: false,
-    marked: false,
+    status: 0,
 };
 
 // How far a listing is read: its last node, the place behind it, and how many directories and files it has.
@@ -274,7 +274,7 @@ fn read_log(src: &[u8], at: usize) -> LogPart
             start: start as u16,
             len: len as u16,
             stands: true,
-            marked: false,
+            status: 0,
         },
         next: end,
     }

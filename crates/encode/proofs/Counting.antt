@@ -7,7 +7,7 @@ use native.Mathlib.Omega.{arith}
 use lib.ListN.{length, take, drop, getD, length-append}
 use Rattle.basics.specs.Base.{Bytes}
 use Rattle.basics.specs.Field.{encodeField, encodeFields}
-use Rattle.model.specs.Log.{markCommitting}
+use Rattle.model.specs.Log.{withStatus}
 use Rattle.basic_laws.specs.ListLaws.{part-length}
 use Rattle.laws.specs.ImageLaws.{listed}
 use Rattle.field.specs.Writing.{field}
@@ -75,11 +75,11 @@ module _ {l : LogRef} where
     log-part : (src : Bytes) → SoundLog src l → length (take (l .len) (drop (l .start) src)) ≡ n
     log-part src s = part-length src (l .start) (l .len) (s .inside) ∙ sym z
 
-    pub plain-log : l .marked ≡ false → LogSize l (3 + n)
+    pub plain-log : l .status ≡ 0 → LogSize l (3 + n)
     plain-log f = record { bound = omega arith; same = λ src s. rw (log-plain src l e f) (sym (log-length (take (l .len) (drop (l .start) src)) ∙ ap (3 +_) (log-part src s))) }
 
-    pub marked-log : {k : ℕ} → l .marked ≡ true → k ≡ n - 8 → LogSize l (11 + k)
+    pub marked-log : {k : ℕ} → (l .status ≡ 0 → ⊥) → k ≡ n - 8 → LogSize l (11 + k)
     marked-log {k} f h = record {
       bound = omega arith;
-      same = λ src s. rw (log-marked src l e f) (omega (arith, log-length (markCommitting (take (l .len) (drop (l .start) src))), marked-length (take (l .len) (drop (l .start) src)), log-part src s));
+      same = λ src s. rw (log-marked src l e f) (omega (arith, log-length (withStatus (l .status) (take (l .len) (drop (l .start) src))), marked-length (l .status) (take (l .len) (drop (l .start) src)), log-part src s));
     }

@@ -11,7 +11,7 @@ use native.Mathlib.Decide.{decLe}
 use Rattle.basics.specs.Base.{Bytes}
 use Rattle.basics.specs.Map.{Map}
 use Rattle.basics.specs.Field.{littleEndian, encodeField, encodeFields}
-use Rattle.model.specs.Log.{header, markCommitting}
+use Rattle.model.specs.Log.{header, withStatus}
 use Rattle.basic_laws.specs.ListLaws.{take-zero, part-length, drop-take}
 use Rattle.laws.specs.ImageLaws.{listed}
 use Rattle.field.specs.Writing.{written, field}
@@ -75,19 +75,17 @@ start-none : (at more : ℕ) (v out : Bytes) → length out - at < 3 + length v 
 start-none at more v out h = written-none at (logStart more (some v)) out (omega (arith, start-length more v))
 
 -- A header rewritten, and the rest of the log.
-module _ (src : Bytes) (start len h more at : ℕ) (out : Bytes) (fits : start + len ≤ length src) (l : h ≤ len) (e : len - h ≡ len - 8) where
-  marked-value : 8 + (len - h) ≡ length (header 1 ++ drop 8 (take len (drop start src)))
-  marked-value = omega (arith, length-append (header 1) (drop 8 (take len (drop start src))), header-length 1, length-drop 8 (take len (drop start src)), part-length src start len fits)
+module _ (src : Bytes) (start len h status more at : ℕ) (out : Bytes) (fits : start + len ≤ length src) (l : h ≤ len) (e : len - h ≡ len - 8) where
+  marked-value : 8 + (len - h) ≡ length (header status ++ drop 8 (take len (drop start src)))
+  marked-value = omega (arith, length-append (header status) (drop 8 (take len (drop start src))), header-length status, length-drop 8 (take len (drop start src)), part-length src start len fits)
 
-  pub marked-written : (k : ℕ) {first mid end : Bytes} → littleEndian 2 k ≡ littleEndian 2 (8 + (len - h) + more) → first ≡ written at (0x13 ∷ littleEndian 2 k) out → mid ≡ written (at + 3) (header 1) first → end ≡ written (at + 11) (take (start + len - (start + h)) (drop (start + h) src)) mid → 11 + (len - h) ≤ length out - at → end ≡ written at (logStart more (some (markCommitting (take len (drop start src))))) out
-  unfolding markCommitting
+  pub marked-written : (k : ℕ) {first mid end : Bytes} → littleEndian 2 k ≡ littleEndian 2 (8 + (len - h) + more) → first ≡ written at (0x13 ∷ littleEndian 2 k) out → mid ≡ written (at + 3) (header status) first → end ≡ written (at + 11) (take (start + len - (start + h)) (drop (start + h) src)) mid → 11 + (len - h) ≤ length out - at → end ≡ written at (logStart more (some (withStatus status (take len (drop start src))))) out
   marked-written k {first} {mid} w p q u z =
-      two-written at 0x13 k (header 1) (drop 8 (take len (drop start src))) out (at + 11) p q (u ∙ ap (λ (b : Bytes). written (at + 11) b mid) (behind-header src start len h l e)) (omega (arith, header-length 1)) (omega (arith, marked-value))
-      ∙ ap (λ (b : Bytes). written at b out) (start-head k (8 + (len - h)) more (header 1 ++ drop 8 (take len (drop start src))) w marked-value)
+      two-written at 0x13 k (header status) (drop 8 (take len (drop start src))) out (at + 11) p q (u ∙ ap (λ (b : Bytes). written (at + 11) b mid) (behind-header src start len h l e)) (omega (arith, header-length status)) (omega (arith, marked-value))
+      ∙ ap (λ (b : Bytes). written at b out) (start-head k (8 + (len - h)) more (header status ++ drop 8 (take len (drop start src))) w marked-value)
 
-  pub marked-none : length out - at < 11 + (len - h) → out ≡ written at (logStart more (some (markCommitting (take len (drop start src))))) out
-  unfolding markCommitting
-  marked-none z = start-none at more (header 1 ++ drop 8 (take len (drop start src))) out (omega (arith, marked-value))
+  pub marked-none : length out - at < 11 + (len - h) → out ≡ written at (logStart more (some (withStatus status (take len (drop start src))))) out
+  marked-none z = start-none at more (header status ++ drop 8 (take len (drop start src))) out (omega (arith, marked-value))
 
 -- The log.
 module _ (src : Bytes) (l : LogRef) (more at : ℕ) (out : Bytes) where
@@ -96,10 +94,10 @@ module _ (src : Bytes) (l : LogRef) (more at : ℕ) (out : Bytes) where
   log-none e = rw (log-absent src l e) (sym (written-nil at out))
 
   module _ {start len : ℕ} (p : start ≡ l .start) (q : len ≡ l .len) (e : l .stands ≡ true) where
-    pub log-rewritten : {after : Bytes} → l .marked ≡ true → after ≡ written at (logStart more (some (markCommitting (take len (drop start src))))) out → after ≡ written at (logStart more (logBytes src l)) out
-    log-rewritten f w = w ∙ rw (p, q) (ap (λ (o : Option Bytes). written at (logStart more o) out) (sym (log-marked src l e f)))
+    pub log-rewritten : {status : ℕ} {after : Bytes} → status ≡ l .status → (l .status ≡ 0 → ⊥) → after ≡ written at (logStart more (some (withStatus status (take len (drop start src))))) out → after ≡ written at (logStart more (logBytes src l)) out
+    log-rewritten r f w = w ∙ rw (p, q, r) (ap (λ (o : Option Bytes). written at (logStart more o) out) (sym (log-marked src l e f)))
 
-    module _ (f : l .marked ≡ false) (s : start + len ≤ length src) where
+    module _ (f : l .status ≡ 0) (s : start + len ≤ length src) where
       plain : written at (logStart more (some (take len (drop start src)))) out ≡ written at (logStart more (logBytes src l)) out
       plain = rw (p, q) (ap (λ (o : Option Bytes). written at (logStart more o) out) (sym (log-plain src l e f)))
 

@@ -3,14 +3,14 @@ use mathlib.Core.Path.{_≡_, refl, sym, ap, _∙_}
 use mathlib.Core.Bool.{Bool, true, false}
 use mathlib.Core.List.{[], _∷_, _++_}
 use mathlib.Core.Option.{Option, none, some}
-use Prim.Native.Nat.{ℕ, _+_, _-_}
+use Prim.Native.Nat.{ℕ, zero, suc, _+_, _-_}
 use native.Mathlib.Omega.{arith}
 use lib.ListN.{length, take, drop, length-append, length-drop}
 use Rattle.basics.specs.Order.{Name}
 use Rattle.basics.specs.Map as model
 use Rattle.basics.specs.Base.{Bytes, if_then_else_, ifEmpty}
 use Rattle.basics.specs.Field.{Field, littleEndian, encodeField, encodeFields}
-use Rattle.model.specs.Log.{header, markCommitting}
+use Rattle.model.specs.Log.{header, withStatus}
 use Rattle.model.specs.Image.{logField}
 use Rattle.basic_laws.specs.FieldLaws.{encode-one}
 use Rattle.laws.specs.ImageLaws.{listed}
@@ -21,7 +21,7 @@ use Rattle.spans.proofs.Parts.{length-name}
 use Rattle.store.specs.declared.Node.{Node}
 use Rattle.store.specs.declared.LogRef.{LogRef}
 use Rattle.store.specs.Tables.{nodeOf, SoundNode}
-use Rattle.store.specs.Stores.{logBytes}
+use Rattle.store.specs.Stores.{rewritten, logBytes}
 use Rattle.encode.specs.Logs.{logStart}
 
 -- The field of a node of the tree.
@@ -48,9 +48,12 @@ pub header-length : (status : ℕ) → length (header status) ≡ 8
 unfolding header littleEndian
 header-length status = refl
 
-pub marked-length : (l : Bytes) → length (markCommitting l) ≡ 8 + (length l - 8)
-unfolding markCommitting
-marked-length l = omega (arith, length-append (header 1) (drop 8 l), header-length 1, length-drop 8 l)
+pub marked-length : (status : ℕ) (l : Bytes) → length (withStatus status l) ≡ 8 + (length l - 8)
+marked-length status l = omega (arith, length-append (header status) (drop 8 l), header-length status, length-drop 8 l)
+
+is-rewritten : (status : ℕ) (l : Bytes) → (status ≡ 0 → ⊥) → rewritten status l ≡ withStatus status l
+is-rewritten zero l h = absurd (h refl)
+is-rewritten (suc n) l h = refl
 
 -- The log that a store holds: none, as it stands, or marked.
 module _ (src : Bytes) (l : LogRef) where
@@ -58,17 +61,17 @@ module _ (src : Bytes) (l : LogRef) where
   unfolding logBytes
   log-absent e = rw e
 
-  pub log-plain : l .stands ≡ true → l .marked ≡ false → logBytes src l ≡ some (take (l .len) (drop (l .start) src))
+  pub log-plain : l .stands ≡ true → l .status ≡ 0 → logBytes src l ≡ some (take (l .len) (drop (l .start) src))
   unfolding logBytes
   log-plain e f = rw (e, f)
 
-  pub log-marked : l .stands ≡ true → l .marked ≡ true → logBytes src l ≡ some (markCommitting (take (l .len) (drop (l .start) src)))
+  pub log-marked : l .stands ≡ true → (l .status ≡ 0 → ⊥) → logBytes src l ≡ some (withStatus (l .status) (take (l .len) (drop (l .start) src)))
   unfolding logBytes
-  log-marked e f = rw (e, f)
+  log-marked e f = rw e (ap some (is-rewritten (l .status) (take (l .len) (drop (l .start) src)) f))
 
 -- The bytes of a log that stands.
 abbrev pub logValue : Bytes → LogRef → Bytes
-logValue src l = if l .marked then markCommitting (take (l .len) (drop (l .start) src)) else take (l .len) (drop (l .start) src)
+logValue src l = rewritten (l .status) (take (l .len) (drop (l .start) src))
 
 pub log-stands : (src : Bytes) (l : LogRef) → l .stands ≡ true → logBytes src l ≡ some (logValue src l)
 unfolding logBytes

@@ -6,7 +6,7 @@ ghost use mathlib.Core.Option.{some};
 ghost use Prim.Native.Nat.{_+_, _-_, _≤_, _<_};
 ghost use lib.ListN.{length, take, drop};
 ghost use Rattle.basics.specs.Field.{littleEndian, encodeField, encodeFields};
-ghost use Rattle.model.specs.Log.{header, markCommitting};
+ghost use Rattle.model.specs.Log.{header, withStatus};
 ghost use Rattle.model.specs.Image.{hitFields, markField, encode};
 ghost use Rattle.laws.specs.ImageLaws.{listed};
 ghost use Rattle.field.specs.Writing.{written, field};
@@ -73,7 +73,7 @@ fn log_size(l: LogRef) -> usize
         return 0;
     }
     let n = wide(l.len);
-    if l.marked {
+    if l.status != 0 {
         return 11 + (n - header_of(n));
     }
     3 + n
@@ -138,10 +138,18 @@ fn put_tree(src: &[u8], t: &Nodes, n: usize, kept: usize, out: &mut [u8]) -> usi
     kept
 }
 
-// A log whose header was rewritten with Committing, in a field that has `more` bytes behind it.
-fn put_marked(src: &[u8], start: usize, len: usize, more: usize, out: &mut [u8], at: usize)
+// A log whose header was rewritten with a status, in a field that has `more` bytes behind it.
+fn put_marked(
+    src: &[u8],
+    start: usize,
+    len: usize,
+    status: u8,
+    more: usize,
+    out: &mut [u8],
+    at: usize,
+)
     requires { ⌜ (start + len ≤ length (now src)) × ((len < 65536) × (more ≤ length (now out))) ⌝ }
-    ensures { λ _. ⌜ now (out .exit) ≡ written at (logStart more (some (markCommitting (take len (drop start (now (src .entry))))))) (now (out .entry)) ⌝ }
+    ensures { λ _. ⌜ now (out .exit) ≡ written at (logStart more (some (withStatus status (take len (drop start (now (src .entry))))))) (now (out .entry)) ⌝ }
 {
     let h = header_of(len);
     let n = len - h;
@@ -149,7 +157,7 @@ fn put_marked(src: &[u8], start: usize, len: usize, more: usize, out: &mut [u8],
     let end = start + len;
     if 11 + n <= field::left(out.len(), at) {
         field::put_field_head(out, at, 0x13, low(8 + n + more));
-        wal::mark_committing(out, at + 3);
+        wal::rewrite_header(status, out, at + 3);
         field::put_bytes(out, at + 11, &src[rest..end]);
     }
 }
@@ -164,8 +172,9 @@ fn put_log(src: &[u8], l: LogRef, more: usize, out: &mut [u8], at: usize)
     }
     let start = wide(l.start);
     let len = wide(l.len);
-    if l.marked {
-        put_marked(src, start, len, more, out, at);
+    let status = l.status;
+    if status != 0 {
+        put_marked(src, start, len, status, more, out, at);
         return;
     }
     let end = start + len;

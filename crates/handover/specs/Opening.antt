@@ -30,7 +30,7 @@ use Rattle.handover.specs.declared.Opened.{Opened}
 -- A store that an image holds.
 pub record Held (image : Bytes) (s : LentStore) : Type 0 where
   pub sound : SoundStore image s
-  pub plain : s .log .marked ≡ false
+  pub plain : s .log .status ≡ 0
   pub short : length image ≤ imageRoom
   pub accepted : decode image ≡ some (storeOf image s)
   pub well : Good Valid (storeOf image s)

@@ -24,8 +24,8 @@ use Rattle.store.specs.Stores.{storeIn, storeOf}
 use Rattle.steps.specs.Steps.{Fits}
 use Rattle.steps.proofs.Room.{of-good}
 use Rattle.recovery.specs.declared.Recovered.{Recovered}
-use Rattle.recovery.specs.Recoveries.{Recovers}
-use Rattle.recovery.specs.RecoveryLaws as recovery
+use Rattle.recovery.specs.Recoveries.{recovery, Recovers}
+use Rattle.recovery.specs.RecoveryLaws as laws
 use Rattle.decode.specs.declared.Decoded.{Decoded}
 use Rattle.decode.specs.Decoding.{Decodes}
 use Rattle.text.specs.Writing.{Writes}
@@ -68,12 +68,13 @@ module _ {b : Bytes} {t g : Words} {d : Decoded} (w : Decodes b t g d) {out afte
   pub broken : {n : Table} → d .ok ≡ false → Holds b n [] → Writes (textOf 1 (mapOf b n)) out after k → Writes (listing b) out after k
   broken e h v = same-text (image-refused b (w .refused e) ∙ ap (textOf 1) (sym (h .same))) v
 
-  module _ (e : d .ok ≡ true) {limited : Bool} {u v : Words} {r : Recovered} (c : Recovers b (storeIn t g (d .store)) limited 0 u v r) where
+  module _ (e : d .ok ≡ true) {limited : Bool} {u v : Words} {r : Recovered} (c : Recovers (recovery (storeOf b (storeIn t g (d .store)))) b (storeIn t g (d .store)) limited 0 u v r) where
     pub turned-down : {n : Table} → (r .number ≡ 0 → ⊥) → Holds b n [] → Writes (textOf (r .number) (mapOf b n)) out after k → Writes (listing b) out after k
-    turned-down z h v = same-text (log-refused b (w .accepted e) (recovery.refused c z) ∙ ap (textOf (r .number)) (sym (h .same))) v
+    turned-down z h v = same-text (log-refused b (w .accepted e) (laws.refused c z) ∙ ap (textOf (r .number)) (sym (h .same))) v
 
     pub listed : limited ≡ false → r .number ≡ 0 → Writes (textOf 0 (mapOf b (tableOf u (r .run .store .tree)))) out after k → Writes (listing b) out after k
-    listed l z v = same-text (all-done b (w .accepted e) (recovery.not-refused c z) ∙ ap (λ (s : model.Store). textOf 0 (s .tree)) (recovery.recovered-is c z l)) v
+    unfolding recovered
+    listed l z v = same-text (all-done b (w .accepted e) (laws.not-refused c z) ∙ ap (λ (s : model.Store). textOf 0 (s .tree)) (laws.done-is c z l)) v
 
 -- An image that is read can be recovered.
 module _ {b : Bytes} {t g : Words} {d : Decoded} (w : Decodes b t g d) (e : d .ok ≡ true) where

@@ -1,8 +1,9 @@
 -- `begin_transaction` and `rollback` as answers.
-use mathlib.Core.Path.{_≡_, refl}
-use mathlib.Core.Bool.{true, false, not}
+use mathlib.Core.Path.{_≡_, refl, sym, _∙_}
+use mathlib.Core.Bool.{Bool, true, false, not}
 use native.Mathlib.Omega.{arith}
 use Rattle.basics.specs.Base.{Bytes}
+use Rattle.model.specs.Log.{isHeld, journal}
 use Rattle.model.specs.Record.{beginTransaction, discard}
 use Rattle.store.specs.Words.{Words}
 use Rattle.store.specs.Tables.{Table, mapOf, SoundTable}
@@ -24,7 +25,7 @@ empty-sound : {src : Bytes} {t : Table} → SoundTable src t → SoundTable src 
 unfolding mapOf
 empty-sound g = record { sized = record { size = g .sized .size; room = omega arith }; each = tt; sorted = tt }
 
-pub all-gone : {src : Bytes} {s : LentStore} → Discarded src s (record { tree = s .tree; staging = emptied (s .staging); log = record { start = s .log .start; len = s .log .len; stands = false; marked = s .log .marked }; open_mark = false })
+pub all-gone : {src : Bytes} {s : LentStore} → Discarded src s (record { tree = s .tree; staging = emptied (s .staging); log = record { start = s .log .start; len = s .log .len; stands = false; status = s .log .status }; open_mark = false })
 unfolding mapOf logBytes
 all-gone = record { sound = λ g. record { tree = g .tree; staging = empty-sound (g .staging); log = record { inside = g .log .inside } }; same = refl }
 
@@ -33,10 +34,15 @@ module _ {src : Bytes} {tree staging : Words} {self : LocalStorage} (g : SoundSt
   unfolding beginTransaction
   busy h e = refused (untouched g) e (omega arith) (rw h)
 
-  pub begun : {t : Store} → self .store .open_mark ≡ false → t ≡ record { tree = self .store .tree; staging = self .store .staging; log = self .store .log; open_mark = true } →
+  pub still-held : {r : Recorded} {b : Bool} → self .store .open_mark ≡ false → b ≡ isHeld (journal (logBytes src (self .store .log))) → b ≡ true → r ≡ refusedWith self 17 →
+      Answers src (beginTransaction (storageOf src tree staging self)) tree staging self tree staging r
+  unfolding beginTransaction
+  still-held h i f e = refused (untouched g) e (omega arith) (rw (h, sym i ∙ f))
+
+  pub begun : {t : Store} {b : Bool} → self .store .open_mark ≡ false → b ≡ isHeld (journal (logBytes src (self .store .log))) → b ≡ false → t ≡ record { tree = self .store .tree; staging = self .store .staging; log = self .store .log; open_mark = true } →
       Answers src (beginTransaction (storageOf src tree staging self)) tree staging self tree staging (record { number = 0; storage = record { store = t }; tail = Header })
   unfolding beginTransaction
-  begun h e = rw e record { same = rw h; sound = record { tree = g .tree; staging = g .staging; log = g .log }; tail = tt; kept = λ z. absurd (z refl) }
+  begun h i f e = rw e record { same = rw (h, sym i ∙ f); sound = record { tree = g .tree; staging = g .staging; log = g .log }; tail = tt; kept = λ z. absurd (z refl) }
 
   module _ {t : Transaction} (w : (x y : Words) → Opens src (storageOf src x y self) t) where
     pub not-open : {r : Recorded} → not (t .found) ≡ true → r ≡ refusedWith self 4 → Answers src (discard (storageOf src tree staging self)) tree staging self tree staging r

@@ -10,7 +10,7 @@ use lib.Seq.{length-take-le}
 use borrow.Author.Tests.{not-true, not-false, le-leb, lt-leb}
 use Rattle.basics.specs.Base.{Bytes, if_then_else_}
 use Rattle.model.specs.Operation.{Op}
-use Rattle.model.specs.Log.{Journal, absent, recording, committing, journal, readJournal, byStatus, validHeader, Entries, entries}
+use Rattle.model.specs.Log.{Journal, absent, recording, committing, held, isHeld, journal, readJournal, byStatus, validHeader, Entries, entries}
 use Rattle.basics.specs.Map.{Map}
 use Rattle.model.specs.Store as model
 use Rattle.model.specs.Record.{transaction, recordedOps}
@@ -19,7 +19,7 @@ use Rattle.store.specs.declared.LogRef.{LogRef}
 use Rattle.transaction.specs.Operations.{inBounds}
 use Rattle.wal.specs.Logs.{journalOf, endingOf, loggedOf, opsRead, entriesOf, entriesAt, ReadsLog}
 use Rattle.wal.specs.declared.Status.{Status}
-use Rattle.wal.specs.declared.Status.the-variants.{Absent, Recording, Committing}
+use Rattle.wal.specs.declared.Status.the-variants.{Absent, Recording, Committing, Held}
 use Rattle.wal.specs.declared.Ending.{Ending}
 use Rattle.wal.specs.declared.Ending.the-variants.{Whole, Truncated, Undecodable, TooMany}
 use Rattle.wal.specs.declared.WalRead.{WalRead}
@@ -42,11 +42,13 @@ abbrev pub records : Status → Bool
 records Absent = false
 records Recording = true
 records Committing = false
+records Held = false
 
 status-of : (st : Status) (e : Entries) → isRecording (journalOf st e) ≡ records st
 status-of Absent e = refl
 status-of Recording e = refl
 status-of Committing e = refl
+status-of Held e = refl
 
 module _ {src : Bytes} {l : LogRef} (r : Readable src l) where
   log-stands : l .stands ≡ true → logBytes src l ≡ some (bytesOf src l)
@@ -57,23 +59,15 @@ module _ {src : Bytes} {l : LogRef} (r : Readable src l) where
   unfolding logBytes
   log-missing h = rw h
 
-  -- The slice that the code lends is the log.
-  slice : {a b n : ℕ} → a ≡ l .start → n ≡ l .len → b ≡ a + n → take (b - a) (drop a src) ≡ bytesOf src l
-  slice {a} {b} {n} p q e = let z : b - a ≡ l .len = omega arith in rw (z, p)
-
   module _ (mark : Bool) where
     pub no-mark : not mark ≡ true → false ≡ opened src mark l
     no-mark h = rw (not-true mark h)
 
-    pub no-log : not mark ≡ false → not (l .stands) ≡ true → false ≡ opened src mark l
-    no-log h g = rw (not-false mark h, log-missing (not-true (l .stands) g))
+    pub by-status : {st v : Status} → not mark ≡ false → journalOf st (entries (bytesOf src l)) ≡ journal (logBytes src l) → st ≡ v → records v ≡ opened src mark l
+    by-status {st} {v} h w t = rw (not-false mark h) (sym (ap isRecording (sym w) ∙ status-of st (entries (bytesOf src l)) ∙ ap records t))
 
-    pub by-status : {st v : Status} {a b n : ℕ} → not mark ≡ false → not (l .stands) ≡ false → a ≡ l .start → n ≡ l .len → b ≡ a + n →
-        journalOf st (entries (take (b - a) (drop a src))) ≡ readJournal (take (b - a) (drop a src)) → st ≡ v → records v ≡ opened src mark l
-    by-status {st} {v} {a} {b} h g p q e w t =
-        let j : isRecording (readJournal (bytesOf src l)) ≡ records v
-        = ap (λ (k : Bytes). isRecording (readJournal k)) (sym (slice p q e)) ∙ ap isRecording (sym w) ∙ status-of st (entries (take (b - a) (drop a src))) ∙ ap records t in
-        rw (not-false mark h, log-stands (not-false (l .stands) g)) (sym j)
+  pub by-held : {st v : Status} → journalOf st (entries (bytesOf src l)) ≡ journal (logBytes src l) → st ≡ v → isHeld (journalOf v (entries (bytesOf src l))) ≡ isHeld (journal (logBytes src l))
+  by-held {st} {v} w t = ap (λ (x : Status). isHeld (journalOf x (entries (bytesOf src l)))) (sym t) ∙ ap isHeld w
 
 -- A Recording log gives its entries.
 recording-entries : (l : Bytes) → isRecording (readJournal l) ≡ true → readJournal l ≡ recording (entries l .ops) (entries l .end)
@@ -82,7 +76,8 @@ recording-entries l e = go (validHeader l) (getD l 1 0) (entries l) e
   where
     go : (h : Bool) (n : ℕ) (r : Entries) → isRecording (if h then byStatus n r else absent) ≡ true → (if h then byStatus n r else absent) ≡ recording (r .ops) (r .end)
     go true zero r e = refl
-    go true (suc n) r e = absurd (false≢true e)
+    go true (suc zero) r e = absurd (false≢true e)
+    go true (suc (suc n)) r e = absurd (false≢true e)
     go false n r e = absurd (false≢true e)
 
 whole-ops : (o : List Op) (e : Ending) → (if isWhole e then some o else none) ≡ recordedOps (recording o (endingOf e))
@@ -101,6 +96,7 @@ module _ {src : Bytes} (mark : Bool) {l : LogRef} (tree staging : Map) (r : Read
       go true absent e = refl
       go true (recording o x) e = absurd (false≢true (sym e))
       go true (committing o x) e = refl
+      go true (held o x) e = refl
 
   pub closed : {t : WalRead} {i j : ℕ} → not b ≡ true → ReadsLog src i j t → Opens src (storeBy src mark l tree staging) (record { found = false; read = t })
   closed h w = record { held = w .held; same = sym (not-opened h) }

@@ -12,7 +12,7 @@ use Rattle.basics.specs.Map.{Map, look, put}
 use Rattle.basics.specs.Base.{Bytes, if_then_else_, isSome}
 use Rattle.basics.specs.Name.{validName, lower}
 use Rattle.model.specs.Operation.{Op}
-use Rattle.model.specs.Log.{Journal, absent, recording, committing}
+use Rattle.model.specs.Log.{Journal, absent, recording, committing, held}
 use Rattle.model.specs.Store as model
 use Rattle.model.specs.Store.{stagingKey, validNumber}
 use Rattle.model.specs.Record.{Outcome, refuse, give, transaction, recordInto}
@@ -35,7 +35,7 @@ use Rattle.local_storage.specs.declared.Transaction.{Transaction}
 -- What every store meets that a method takes: an image's log is not rewritten, and spans can point everywhere in the bytes.
 pub record Readable (src : Bytes) (l : LogRef) : Type 0 where
   pub log : SoundLog src l
-  pub plain : l .marked ≡ false
+  pub plain : l .status ≡ 0
   pub short : length src ≤ 0xFFFF
 
 pub record Ready (src : Bytes) (s : LentStore) : Type 0 where
@@ -92,6 +92,7 @@ abbrev pub isRecording : Journal → Bool
 isRecording absent = false
 isRecording (recording o e) = true
 isRecording (committing o e) = false
+isRecording (held o e) = false
 
 abbrev pub isWhole : Ending → Bool
 isWhole Whole = true

@@ -5,7 +5,7 @@ ghost use mathlib.Core.Bool.{true, false, _&&_};
 ghost use Prim.Native.Nat.{_<_};
 ghost use Rattle.basics.specs.Order.{Name};
 ghost use Rattle.basics.specs.Base.{Bytes};
-ghost use Rattle.model.specs.Log.{journal};
+ghost use Rattle.model.specs.Log.{isHeld, journal};
 ghost use Rattle.model.specs.Record.{hasDir, beginTransaction, discard, recordCreate, recordDeleteCollection, recordCopy};
 ghost use Rattle.spans.specs.Spans.{nameOf, Sound};
 ghost use Rattle.store.specs.Words.{Words};
@@ -69,15 +69,26 @@ fn is_recording(src: &[u8], s: Store) -> bool
         return false;
     }
     let l = s.log;
-    if !l.stands {
-        return false;
-    }
-    let start = wide(l.start);
-    let end = start + wide(l.len);
-    let status = wal::open_wal(&src[start..end]);
+    let status = recovery::open_log(src, l);
     match status {
         Status::Recording => true,
         Status::Absent => false,
+        Status::Committing => false,
+        Status::Held => false,
+    }
+}
+
+// Whether a Held log stands: a matter of its header alone.
+fn is_held(src: &[u8], s: Store) -> bool
+    requires { ⌜ Readable (now src) (s .log) ⌝ }
+    ensures { λ r. ⌜ r ≡ isHeld (journal (logBytes (now (src .entry)) (s .log))) ⌝ }
+{
+    let l = s.log;
+    let status = recovery::open_log(src, l);
+    match status {
+        Status::Held => true,
+        Status::Absent => false,
+        Status::Recording => false,
         Status::Committing => false,
     }
 }
@@ -192,13 +203,17 @@ fn accepted(storage: LocalStorage, op: Operation) -> Recorded
 }
 
 impl LocalStorage {
-    // The mark, and a log made anew (`create_wal`).
-    pub fn begin_transaction(self) -> Recorded
-        ensures { λ r. ⌜ ((src : Bytes) (tree staging : Words) → SoundStore src (storeIn tree staging (self .store)) → Answers src (beginTransaction (storageOf src tree staging self)) tree staging self tree staging r) ⌝ }
+    // The mark, and a log made anew (`create_wal`). 02, item 6: "17, begin while a Held log stands, tested after 3".
+    pub fn begin_transaction(self, src: &[u8]) -> Recorded
+        requires { ⌜ Readable (now src) (self .store .log) ⌝ }
+        ensures { λ r. ⌜ ((tree staging : Words) → SoundStore (now (src .entry)) (storeIn tree staging (self .store)) → Answers (now (src .entry)) (beginTransaction (storageOf (now (src .entry)) tree staging self)) tree staging self tree staging r) ⌝ }
     {
         let s = self.store;
         if s.open_mark {
             return refused(self, 3);
+        }
+        if is_held(src, s) {
+            return refused(self, 17);
         }
         let t = marked(s);
         Recorded {
@@ -208,18 +223,19 @@ impl LocalStorage {
         }
     }
 
-    // All steps of the commit, or where `limited` the first n. 01, Listings and file steps: "The open mark 0x14 goes with commit's last step":
-    // where the run did not stop.
+    // All steps of the commit, or where `limited` the first n; it `holds` or not (02, item 6). 01, Listings and file steps: "The open mark 0x14 goes
+    // with commit's last step": where the run did not stop.
     pub fn commit(
         self,
         src: &[u8],
         tree: &mut Nodes,
         staging: &mut Nodes,
+        holds: bool,
         limited: bool,
         n: u64,
     ) -> Committed
         requires { ⌜ Ready (now src) (storeIn (now tree) (now staging) (self .store)) × Within (mapOf (now src) (tableOf (now tree) (self .store .tree))) ⌝ }
-        ensures { λ r. ⌜ Commits (now (src .entry)) (storeIn (now (tree .entry)) (now (staging .entry)) (self .store)) limited n (now (tree .exit)) (now (staging .exit)) r ⌝ }
+        ensures { λ r. ⌜ Commits holds (now (src .entry)) (storeIn (now (tree .entry)) (now (staging .entry)) (self .store)) limited n (now (tree .exit)) (now (staging .exit)) r ⌝ }
     {
         let t = open_transaction(src, self.store);
         if !t.found {
@@ -232,7 +248,7 @@ impl LocalStorage {
             };
         }
         let read = t.read;
-        let run = commit::apply_inner(src, tree, staging, self.store, read, limited, n);
+        let run = commit::apply_inner(src, tree, staging, self.store, read, holds, limited, n);
         let last = run.last;
         let s = run.store;
         let stopped = run.stopped;

@@ -41,9 +41,9 @@ entryOf DeleteCollection c k f = deleteCollection c
 entryOf CopyCollection c k f = copyCollection c f
 entryOf Rollback c k f = rollback
 
--- 01, Sixteen numbers: those with which it refuses, behind 1 and 2.
+-- 01, Sixteen numbers, and 02: those with which it refuses, behind 1 and 2.
 abbrev pub numbersOf : Asked → List ℕ
-numbersOf Begin = 3 ∷ []
+numbersOf Begin = 3 ∷ 17 ∷ []
 numbersOf (Write x) = 4 ∷ 5 ∷ 6 ∷ 10 ∷ []
 numbersOf Delete = 4 ∷ 5 ∷ 6 ∷ 8 ∷ []
 numbersOf DeleteAll = 4 ∷ 5 ∷ 6 ∷ []

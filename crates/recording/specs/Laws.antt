@@ -12,7 +12,7 @@ use Rattle.basics.specs.Order.{Name}
 use Rattle.basics.specs.Map.{Map, look}
 use Rattle.basics.specs.Base.{Bytes, isSome}
 use Rattle.basics.specs.Name.{validName, lower}
-use Rattle.model.specs.Log.{header}
+use Rattle.model.specs.Log.{header, isHeld, journal}
 use Rattle.model.specs.Store.{Store, stagingKey, validNumber}
 use Rattle.model.specs.Record.{Outcome, refuse, give, hasDir, caseRenamed, beginTransaction, discard, recordWrite, recordDelete, recordDeleteAll, recordCreate, recordDeleteCollection, recordCopy}
 use Rattle.answers.specs.Answers.{imageEntry, begin, write, delete, deleteAll, createCollection, deleteCollection, copyCollection, rollback}
@@ -45,7 +45,8 @@ entry-is Rollback c k f image out = refl
 pub asked-cases : (P : Outcome → Type 0) (op : Asked) (c k f : Name) (s : Store) → All (λ n. P (refuse n)) (numbersOf op) →
     ((u : Store) → (leavesTree op ≡ true → u .tree ≡ s .tree) → P (give u)) → P (asked op c k f s)
 unfolding beginTransaction discard recordWrite recordDelete recordDeleteAll recordCreate recordDeleteCollection recordCopy
-asked-cases P Begin c k f s r g = unless P (s .openMark) 3 _ (r .0) (g (record { tree = s .tree; staging = s .staging; log = some (header 0); openMark = true }) (λ e. refl))
+asked-cases P Begin c k f s r g =
+    unless P (s .openMark) 3 _ (r .0) (unless P (isHeld (journal (s .log))) 17 _ (r .1 .0) (g (record { tree = s .tree; staging = s .staging; log = some (header 0); openMark = true }) (λ e. refl)))
 asked-cases P (Write x) c k f s r g =
     into P s _ (r .0) (r .1 .0) (test P (validName c && validName (lower k) && validName f) 6 _ (r .1 .1 .0)
     (test P (not (isSome (look (stagingKey f) (s .staging))) && not (leb stagingLimit (length (s .staging))) && validNumber x) 10 _ (r .1 .1 .1 .0) (g _ (λ e. refl))))
@@ -89,7 +90,7 @@ Leaves op m (refuse n) = Unit {0}
 Leaves op m (give u) = leavesTree op ≡ true → u .tree ≡ m
 
 alone-numbers : (op : Asked) → All (λ n. handsBack n ≡ false) (numbersOf op)
-alone-numbers Begin = (refl, tt)
+alone-numbers Begin = (refl, (refl, tt))
 alone-numbers (Write x) = (refl, (refl, (refl, (refl, tt))))
 alone-numbers Delete = (refl, (refl, (refl, (refl, tt))))
 alone-numbers DeleteAll = (refl, (refl, (refl, tt)))

@@ -73,7 +73,7 @@ fn answer(
     let storage = LocalStorage { store: s };
     let keyed = decode::both(a.valid, b.valid);
     match op {
-        Asked::Begin => storage.begin_transaction(),
+        Asked::Begin => storage.begin_transaction(src),
         Asked::Write(x) => {
             let valid = decode::both(keyed, d.valid);
             storage.write(src, tree, staging, valid, a.name, b.name, d.name, x)

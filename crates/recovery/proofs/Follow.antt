@@ -7,7 +7,7 @@ use Rattle.model.specs.Store.{Store}
 use Rattle.model.specs.Step.{Step, apply}
 use Rattle.model.specs.Operation.{Op}
 use Rattle.model.specs.Plan.{inTurn, inSequence, undoSteps, restoreBackups}
-use Rattle.plans.specs.Machine.{Machine, Lawful, applyAll, seq}
+use Rattle.plans.specs.Machine.{Machine, Lawful, applyAll, single, seq}
 use Rattle.plans.specs.MachineLaws as machines
 use Rattle.plans.specs.MachineLaws.{idle, like, and-then}
 use Rattle.plans.specs.ModelPlans.{plain, turn-of, in-sequence}
@@ -30,6 +30,11 @@ module _ {m : Machine Store Step ModelRun} (l : Lawful m) {src : Bytes} where
 
   pub follows-then : {f g : Store → List Step} {a b c : LentRun} → Follows m src f a b → Follows m src g b c → Follows m src (seq (m .apply) f g) a c
   follows-then p q = record { sound = q .sound; does = and-then l (p .does) (q .does) }
+
+-- One step, and then others that do not depend on the store.
+pub step-then : {src : Bytes} {x : Step} {a b c : LentRun} → Follows plain src (single x) a b → (xs : List Step) → Follows plain src (λ s. xs) b c → Follows plain src (λ s. x ∷ xs) a c
+unfolding seq
+step-then p xs q = follows-as lawful (follows-then lawful p q) refl
 
 -- A run that has stopped does no step of any plan.
 pub rests : {src : Bytes} {f : Store → List Step} {run : LentRun} → run .stopped ≡ true → SoundRun src run → Follows plain src f run run

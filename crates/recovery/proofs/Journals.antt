@@ -24,7 +24,7 @@ module _ (src : Bytes) (l : LogRef) where
   pub log-part : take (l .start + l .len - l .start) (drop (l .start) src) ≡ logPart src l
   log-part = let e : l .start + l .len - l .start ≡ l .len = omega arith in ap (λ (n : ℕ). take n (drop (l .start) src)) e
 
-  pub opened : (r : Status) → l .stands ≡ true → l .marked ≡ false → journalOf r (entries (logPart src l)) ≡ readJournal (logPart src l) → journalOf r (entries (logPart src l)) ≡ journal (logBytes src l)
+  pub opened : (r : Status) → l .stands ≡ true → l .status ≡ 0 → journalOf r (entries (logPart src l)) ≡ readJournal (logPart src l) → journalOf r (entries (logPart src l)) ≡ journal (logBytes src l)
   unfolding logBytes
   opened r h m e = rw (h, m) e
 

@@ -1,7 +1,7 @@
 // Recovery of an interrupted transaction: recovery.rs. A walk goes through names that are listed where the walk starts: 01, Listings and
 // file steps, "A directory is listed as it stands when its walk starts, in ascending byte order".
 ghost use mathlib.Core.Path.{_≡_};
-ghost use mathlib.Core.List.{[], reverse};
+ghost use mathlib.Core.List.{[], _∷_, reverse};
 ghost use mathlib.Core.Bool.{true, false};
 ghost use Prim.Native.Nat.{_≤_};
 ghost use lib.ListN.{length};
@@ -10,6 +10,7 @@ ghost use Rattle.basics.specs.Map.{look};
 ghost use Rattle.basics.specs.Name.{backupName};
 ghost use Rattle.model.specs.Log.{entries, journal, absent, committing};
 ghost use Rattle.model.specs.Store.{hasPendingWork};
+ghost use Rattle.model.specs.Step.{removeLog, syncJournal};
 ghost use Rattle.model.specs.Plan.{inTurn, inSequence, recoverParts, recoverFault, undoSteps, restoreFile, restoreDirectory, restoreBackups, removeBackupFile, removeBackupsIn, removeBackups, removeStagingFiles, removeStandingLog, isNewArtifact};
 ghost use Rattle.spans.specs.Spans.{nameOf, Sound};
 ghost use Rattle.store.specs.Tables.{tableOf, mapOf, SoundTable};
@@ -20,7 +21,7 @@ ghost use Rattle.steps.specs.CodeRuns.{runIn, SoundRun, Follows};
 ghost use Rattle.transaction.specs.Operations.{opOf, SoundOp};
 ghost use Rattle.wal.specs.Logs.{journalOf, endingOf, opsRead, entriesOf, SoundRead};
 ghost use Rattle.recovery.specs.Walks.{isNewFile, clearFile, clearDir, overFiles, undoWrite, undoCreate, undoCopy, undoAll, cleanUp};
-ghost use Rattle.recovery.specs.Recoveries.{logPart, refusalOf, Recovers};
+ghost use Rattle.recovery.specs.Recoveries.{logPart, refusalOf, recoveryFrom, recovery, reverting, keeping, Recovers};
 
 pub mod search;
 
@@ -501,6 +502,15 @@ pub fn remove_log(src: &[u8], tree: &mut Nodes, staging: &mut Nodes, run: Run) -
     run
 }
 
+// The log goes, and the journal is synced: "the point of no return".
+pub fn remove_log_durably(src: &[u8], tree: &mut Nodes, staging: &mut Nodes, run: Run) -> Run
+    requires { ⌜ SoundRun (now src) (runIn (now tree) (now staging) run) ⌝ }
+    ensures { λ r. ⌜ Follows plain (now (src .entry)) (λ s. removeLog ∷ syncJournal ∷ []) (runIn (now (tree .entry)) (now (staging .entry)) run) (runIn (now (tree .exit)) (now (staging .exit)) r) ⌝ }
+{
+    let removed = steps::advance(src, tree, staging, run, Step::RemoveLog);
+    steps::advance(src, tree, staging, removed, Step::SyncJournal)
+}
+
 // Undoes the operations that were read. New artifacts go first: restoring a backup could make a file look like a new one.
 pub fn undo_all(src: &[u8], tree: &mut Nodes, staging: &mut Nodes, run: Run, w: WalRead) -> Run
     requires { ⌜ SoundRun (now src) (runIn (now tree) (now staging) run) × SoundRead (now src) w ⌝ }
@@ -511,8 +521,8 @@ pub fn undo_all(src: &[u8], tree: &mut Nodes, staging: &mut Nodes, run: Run, w: 
 }
 
 // The status of a store's log.
-fn open_log(src: &[u8], log: LogRef) -> Status
-    requires { ⌜ SoundLog (now src) log × (log .marked ≡ false) ⌝ }
+pub fn open_log(src: &[u8], log: LogRef) -> Status
+    requires { ⌜ SoundLog (now src) log × (log .status ≡ 0) ⌝ }
     ensures { λ r. ⌜ journalOf r (entries (logPart (now (src .entry)) log)) ≡ journal (logBytes (now (src .entry)) log) ⌝ }
 {
     if !log.stands {
@@ -610,29 +620,30 @@ fn without_mark(s: Store) -> Store
     r
 }
 
-// The number that recovery is refused with, 0 for none; the cause of a truncated Committing log, 0 for any other; and where it is not refused
-// the run that did its steps.
+// The number that it is refused with, 0 for none; where it is not refused, the cause of a truncated log that is discarded, 0 for any other, and the
+// run that did its steps.
 pub struct Recovered {
     pub number: u32,
     pub cause: u32,
     pub run: Run,
 }
 
-// Startup recovery: all its steps, or where `limited` the first n.
-pub fn recover(
+// Recovery from a log of this status: all its steps, or where `limited` the first n. 02, item 6: "Recovery that meets Held drops the open mark and
+// clears staging, no more".
+fn recover_from(
     src: &[u8],
     tree: &mut Nodes,
     staging: &mut Nodes,
     s: Store,
+    status: Status,
     limited: bool,
     n: u64,
 ) -> Recovered
-    requires { ⌜ Fits (now src) (storeIn (now tree) (now staging) s) × ((s .log .marked ≡ false) × (length (now src) ≤ 0xFFFF)) ⌝ }
-    ensures { λ r. ⌜ Recovers (now (src .entry)) (storeIn (now (tree .entry)) (now (staging .entry)) s) limited n (now (tree .exit)) (now (staging .exit)) r ⌝ }
+    requires { ⌜ Fits (now src) (storeIn (now tree) (now staging) s) × (length (now src) ≤ 0xFFFF) ⌝ }
+    ensures { λ r. ⌜ Recovers (recoveryFrom (journalOf status (entries (logPart (now (src .entry)) (s .log)))) (storeOf (now (src .entry)) (storeIn (now (tree .entry)) (now (staging .entry)) s))) (now (src .entry)) (storeIn (now (tree .entry)) (now (staging .entry)) s) limited n (now (tree .exit)) (now (staging .exit)) r ⌝ }
 {
     let run = steps::start(without_mark(s), limited, n);
     let log = s.log;
-    let status = open_log(src, log);
     match status {
         Status::Absent => Recovered {
             number: 0,
@@ -662,5 +673,87 @@ pub fn recover(
                 run: recover_committing(src, tree, staging, run, w),
             }
         }
+        Status::Held => Recovered {
+            number: 0,
+            cause: 0,
+            run: cleanup_staging_dir(src, tree, staging, run),
+        },
+    }
+}
+
+// Startup recovery.
+pub fn recover(
+    src: &[u8],
+    tree: &mut Nodes,
+    staging: &mut Nodes,
+    s: Store,
+    limited: bool,
+    n: u64,
+) -> Recovered
+    requires { ⌜ Fits (now src) (storeIn (now tree) (now staging) s) × ((s .log .status ≡ 0) × (length (now src) ≤ 0xFFFF)) ⌝ }
+    ensures { λ r. ⌜ Recovers (recovery (storeOf (now (src .entry)) (storeIn (now (tree .entry)) (now (staging .entry)) s))) (now (src .entry)) (storeIn (now (tree .entry)) (now (staging .entry)) s) limited n (now (tree .exit)) (now (staging .exit)) r ⌝ }
+{
+    let log = s.log;
+    let status = open_log(src, log);
+    recover_from(src, tree, staging, s, status, limited, n)
+}
+
+// 02, item 6: "18, keep or revert without a Held log".
+fn not_held(s: Store) -> Recovered
+    ensures { λ r. ⌜ r .number ≡ 18 ⌝ }
+{
+    Recovered {
+        number: 18,
+        cause: 0,
+        run: steps::start(s, false, 0),
+    }
+}
+
+// 02, item 6: "Revert does what recovery does for a Committing log."
+pub fn revert(
+    src: &[u8],
+    tree: &mut Nodes,
+    staging: &mut Nodes,
+    s: Store,
+    limited: bool,
+    n: u64,
+) -> Recovered
+    requires { ⌜ Fits (now src) (storeIn (now tree) (now staging) s) × ((s .log .status ≡ 0) × (length (now src) ≤ 0xFFFF)) ⌝ }
+    ensures { λ r. ⌜ Recovers (reverting (storeOf (now (src .entry)) (storeIn (now (tree .entry)) (now (staging .entry)) s))) (now (src .entry)) (storeIn (now (tree .entry)) (now (staging .entry)) s) limited n (now (tree .exit)) (now (staging .exit)) r ⌝ }
+{
+    let log = s.log;
+    let status = open_log(src, log);
+    match status {
+        Status::Held => recover_from(src, tree, staging, s, Status::Committing, limited, n),
+        Status::Absent | Status::Recording | Status::Committing => not_held(s),
+    }
+}
+
+// 02, item 6: "Keep drops an open mark, removes the log and syncs the journal, then removes every backup as recovery without a log does; it reads no
+// entry."
+pub fn keep(
+    src: &[u8],
+    tree: &mut Nodes,
+    staging: &mut Nodes,
+    s: Store,
+    limited: bool,
+    n: u64,
+) -> Recovered
+    requires { ⌜ Fits (now src) (storeIn (now tree) (now staging) s) × (s .log .status ≡ 0) ⌝ }
+    ensures { λ r. ⌜ Recovers (keeping (storeOf (now (src .entry)) (storeIn (now (tree .entry)) (now (staging .entry)) s))) (now (src .entry)) (storeIn (now (tree .entry)) (now (staging .entry)) s) limited n (now (tree .exit)) (now (staging .exit)) r ⌝ }
+{
+    let log = s.log;
+    let status = open_log(src, log);
+    match status {
+        Status::Held => {
+            let run = steps::start(without_mark(s), limited, n);
+            let removed = remove_log_durably(src, tree, staging, run);
+            Recovered {
+                number: 0,
+                cause: 0,
+                run: delete_all_backup_files(src, tree, staging, removed),
+            }
+        }
+        Status::Absent | Status::Recording | Status::Committing => not_held(s),
     }
 }

@@ -11,8 +11,10 @@ use Rattle.basics.specs.Limits.{imageRoom, stepRoom}
 use Rattle.basics.specs.Base.{Bytes, if_then_else_}
 use Rattle.model.specs.Store as model
 use Rattle.model.specs.Image.{encode, decode}
-use Rattle.answers.specs.Answers.{Answer, answer, refusal, onImage, commit, recover, recoverCause, commitStep, recoverStep}
-use Rattle.answer_laws.specs.Bounds.{Bounded, commit-bounded, recover-bounded, commit-step-bounded, recover-step-bounded}
+use Rattle.answers.specs.Answers.{Answer, answer, refusal, onImage, commit, hold, recover, recoverCause, revert, revertCause, keep}
+use Rattle.answers.specs.Answers.{commitStep, holdStep, recoverStep, revertStep, keepStep}
+use Rattle.answer_laws.specs.Bounds.{Bounded, commit-bounded, hold-bounded, recover-bounded, revert-bounded, keep-bounded}
+use Rattle.answer_laws.specs.Bounds.{commit-step-bounded, hold-step-bounded, recover-step-bounded, revert-step-bounded, keep-step-bounded}
 use Rattle.basic_laws.specs.Tests.{and-both}
 use Rattle.store.specs.Words.{Words}
 use Rattle.store.specs.Kept.{none-kept}
@@ -24,38 +26,56 @@ use Rattle.handover.specs.declared.Opened.{Opened}
 use Rattle.handover.proofs.Outputs.{left-alone, step-left-alone, gives, stepped-at}
 use Rattle.running.specs.Planning.{planStore, planCause, planAt, planEntry, planBroke, planStepEntry, Runs}
 use Rattle.running.specs.declared.Planned.{Planned}
-use Rattle.running.specs.declared.Planned.the-variants.{Commit, Recover}
+use Rattle.running.specs.declared.Planned.the-variants.{Commit, Hold, Recover, Revert, Keep}
 use Rattle.running.specs.declared.Ran.{Ran}
 
 -- The entries, upon an image.
 plan-is : (p : Planned) (image : Bytes) (out : ℕ) → planEntry p image out ≡ onImage image (leb imageRoom out) (planStore p)
-unfolding commit recover
+unfolding commit hold recover revert keep
 plan-is Commit image out = refl
+plan-is Hold image out = refl
 plan-is Recover image out = refl
+plan-is Revert image out = refl
+plan-is Keep image out = refl
 
 plan-step-is : (p : Planned) (n : ℕ) (image : Bytes) (out stepOut : ℕ) → planStepEntry p n image out stepOut ≡ onImage image (leb imageRoom out && leb stepRoom stepOut) (planAt p n)
-unfolding commitStep recoverStep
+unfolding commitStep holdStep recoverStep revertStep keepStep
 plan-step-is Commit n image out stepOut = refl
+plan-step-is Hold n image out stepOut = refl
 plan-step-is Recover n image out stepOut = refl
+plan-step-is Revert n image out stepOut = refl
+plan-step-is Keep n image out stepOut = refl
 
 plan-bounded : (p : Planned) (image : Bytes) (out : ℕ) → Bounded (planEntry p image out)
 plan-bounded Commit = commit-bounded
+plan-bounded Hold = hold-bounded
 plan-bounded Recover = recover-bounded
+plan-bounded Revert = revert-bounded
+plan-bounded Keep = keep-bounded
 
 plan-step-bounded : (p : Planned) (n : ℕ) (image : Bytes) (out stepOut : ℕ) → Bounded (planStepEntry p n image out stepOut)
 plan-step-bounded Commit = commit-step-bounded
+plan-step-bounded Hold = hold-step-bounded
 plan-step-bounded Recover = recover-step-bounded
+plan-step-bounded Revert = revert-step-bounded
+plan-step-bounded Keep = keep-step-bounded
 
 -- How the log broke, by the entry's number and by the store that the image holds.
 broke-number : (p : Planned) (image : Bytes) (out : ℕ) → planBroke p image out .number ≡ planEntry p image out .number
-unfolding recoverCause
+unfolding recoverCause revertCause
 broke-number Commit image out = refl
+broke-number Hold image out = refl
 broke-number Recover image out = refl
+broke-number Revert image out = refl
+broke-number Keep image out = refl
 
 broke-cause : (p : Planned) (image : Bytes) (out : ℕ) (s : model.Store) → decode image ≡ some s → planBroke p image out .cause ≡ planCause p s
-unfolding recoverCause
+unfolding recoverCause revertCause
 broke-cause Commit image out s d = refl
+broke-cause Hold image out s d = refl
 broke-cause Recover image out s d = rw d
+broke-cause Revert image out s d = rw d
+broke-cause Keep image out s d = refl
 
 -- A refusal leaves `cause`.
 cause-left : (p : Planned) (image : Bytes) (out : ℕ) {n cause : ℕ} → n ≡ planEntry p image out .number → (n ≡ 0 → ⊥) → CauseGives (planBroke p image out) n cause cause
@@ -95,7 +115,7 @@ module _ (p : Planned) (image : Bytes) (len : ℕ) {tree staging : Words} {o : O
       told : {cause cause' : ℕ} → cause' ≡ (if eqb (r .number) 0 then r .cause else cause) → CauseGives (planBroke p image len) (r .number) cause cause'
       told e =
           let q : r .number ≡ planBroke p image len .number = sym (ap (λ (a : Answer). a .number) given) ∙ sym (broke-number p image len) in
-          record { number = q; told = e ∙ rw (q, c .cause, broke-cause p image len _ (w .held z .accepted)) }
+          record { number = q; told = e ∙ rw (q, c .cause f, broke-cause p image len _ (w .held z .accepted)) }
 
       pub handed : {out out' : Bytes} {written written' cause cause' : ℕ} → Writes (encode (storeOf image (storeIn tree' staging' (r .store)))) out out' written'
           → cause' ≡ (if eqb (r .number) 0 then r .cause else cause)

@@ -3,8 +3,9 @@ ghost use mathlib.Core.Path.{_≡_};
 ghost use Rattle.store.specs.Stores.{storeIn};
 ghost use Rattle.handover.specs.Contract.{lent, after, room, Returns, StepReturns, CauseReturns};
 ghost use Rattle.handover.specs.Opening.{Held};
-ghost use Rattle.running.specs.Planning.{planEntry, planBroke, planStepEntry, Runs};
+ghost use Rattle.running.specs.Planning.{planEntry, planBroke, planStepEntry, commitOf, ranOf, Runs};
 use local_storage::LocalStorage;
+use recovery::Recovered;
 use steps::Step;
 use store::Nodes;
 use store::Store;
@@ -13,7 +14,10 @@ use wal::Tail;
 // The plan that is meant.
 pub enum Planned {
     Commit,
+    Hold,
     Recover,
+    Revert,
+    Keep,
 }
 
 // What a plan leaves: a number; how the log broke that it discards, 0 for none; whether a store is handed back; that store; what is left of the budget;
@@ -25,6 +29,51 @@ pub struct Ran {
     pub store: Store,
     pub left: u64,
     pub last: Step,
+}
+
+// What a commit leaves, of one that `holds` or not.
+fn run_commit(
+    image: &[u8],
+    tree: &mut Nodes,
+    staging: &mut Nodes,
+    s: Store,
+    holds: bool,
+    limited: bool,
+    n: u64,
+) -> Ran
+    requires { ⌜ Held (now image) (storeIn (now tree) (now staging) s) ⌝ }
+    ensures { λ r. ⌜ Runs (commitOf holds) (lent image) (storeIn (lent tree) (lent staging) s) limited n (after tree) (after staging) r ⌝ }
+{
+    let storage = LocalStorage { store: s };
+    let r = storage.commit(image, tree, staging, holds, limited, n);
+    let kept = r.storage;
+    let t = kept.store;
+    let last = r.last;
+    Ran {
+        number: r.number,
+        cause: 0,
+        back: r.found,
+        store: t,
+        left: r.left,
+        last: last,
+    }
+}
+
+// What recovery, revert or keep leaves.
+fn left_by(r: Recovered) -> Ran
+    ensures { λ o. ⌜ o ≡ ranOf r ⌝ }
+{
+    let done = r.run;
+    let t = done.store;
+    let last = done.last;
+    Ran {
+        number: r.number,
+        cause: r.cause,
+        back: r.number == 0,
+        store: t,
+        left: done.left,
+        last: last,
+    }
 }
 
 // All steps of the plan, or where `limited` the first n.
@@ -41,34 +90,19 @@ fn run(
     ensures { λ r. ⌜ Runs p (lent image) (storeIn (lent tree) (lent staging) s) limited n (after tree) (after staging) r ⌝ }
 {
     match p {
-        Planned::Commit => {
-            let storage = LocalStorage { store: s };
-            let r = storage.commit(image, tree, staging, limited, n);
-            let kept = r.storage;
-            let t = kept.store;
-            let last = r.last;
-            Ran {
-                number: r.number,
-                cause: 0,
-                back: r.found,
-                store: t,
-                left: r.left,
-                last: last,
-            }
-        }
+        Planned::Commit => run_commit(image, tree, staging, s, false, limited, n),
+        Planned::Hold => run_commit(image, tree, staging, s, true, limited, n),
         Planned::Recover => {
             let r = recovery::recover(image, tree, staging, s, limited, n);
-            let done = r.run;
-            let t = done.store;
-            let last = done.last;
-            Ran {
-                number: r.number,
-                cause: r.cause,
-                back: r.number == 0,
-                store: t,
-                left: done.left,
-                last: last,
-            }
+            left_by(r)
+        }
+        Planned::Revert => {
+            let r = recovery::revert(image, tree, staging, s, limited, n);
+            left_by(r)
+        }
+        Planned::Keep => {
+            let r = recovery::keep(image, tree, staging, s, limited, n);
+            left_by(r)
         }
     }
 }

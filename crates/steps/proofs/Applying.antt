@@ -3,21 +3,21 @@ use mathlib.Core.Path.{_≡_, refl, sym, ap, subst, _∙_}
 use mathlib.Core.List.{List, [], _∷_}
 use mathlib.Core.Option.{Option, none, some}
 use mathlib.Core.Bool.{Bool, true, false}
-use Prim.Native.Nat.{ℕ}
+use Prim.Native.Nat.{ℕ, zero, suc}
 use lib.ListN.{take, drop}
 use types.Run.{OneOf}
 use denote.Enum.Declared.{tagOf}
 use Rattle.basics.specs.Map.{Map, look, put, del}
 use Rattle.basics.specs.Base.{Bytes, if_then_else_, caseOption}
 use Rattle.basics.specs.Field.{littleEndian}
-use Rattle.model.specs.Log.{header, markCommitting}
+use Rattle.model.specs.Log.{header, withStatus, markCommitting, markHeld}
 use Rattle.model.specs.Store as model
 use Rattle.model.specs.Step as step
 use Rattle.model.specs.Step.{withTree, removeDir, renameDir, apply}
 use Rattle.spans.specs.Spans.{nameOf, Names}
 use Rattle.spans.specs.declared.NameRef.{NameRef}
 use Rattle.store.specs.Tables.{mapOf, Holds}
-use Rattle.store.specs.Stores.{LentStore, logBytes, storeOf, SoundStore, SoundLog}
+use Rattle.store.specs.Stores.{LentStore, rewritten, logBytes, storeOf, SoundStore, SoundLog}
 use Rattle.store.specs.declared.LogRef.{LogRef}
 use Rattle.store.specs.declared.Node.{Node}
 use Rattle.store.specs.declared.Store.{Store}
@@ -37,6 +37,7 @@ Ready src x s = (Fits src s × SoundStep src x) × Allowed (stepOf src x) (store
 named : {src : Bytes} (x : Step) → SoundStep src x → Named (stepOf src x)
 unfolding stepOf
 named code.RewriteHeader s = tt
+named code.HoldHeader s = tt
 named code.SyncStaging s = tt
 named code.SyncLog s = tt
 named code.RemoveLog s = tt
@@ -91,29 +92,41 @@ module _ {src : Bytes} {x y : Step} {s : LentStore} {w : Store} (p : Ready src x
       in-arm p e (ap (placed (s .tree .nodes) (s .staging .nodes)) f) (record { tree = p .0 .0 .sound .tree; staging = p .0 .0 .sound .staging; log = t })
       ((λ i. record { tree = mapOf src (s .tree); staging = mapOf src (s .staging); log = h i; openMark = s .open_mark }) ∙ sym q)
 
--- The header rewritten once more is the same.
-marked-log : (src : Bytes) (l : LogRef) → logBytes src (record { start = l .start; len = l .len; stands = l .stands; marked = true }) ≡ step.marked (logBytes src l)
-unfolding logBytes markCommitting header littleEndian
-marked-log src l = go (l .stands) (l .marked)
-  where
-    bytes : Bytes
-    bytes = take (l .len) (drop (l .start) src)
+-- The header rewritten once more is that of the last status.
+module _ (src : Bytes) (l : LogRef) (m : ℕ) where
+  abbrev bytes : Bytes
+  bytes = take (l .len) (drop (l .start) src)
 
-    go : (stands marked : Bool) → (if stands then some (markCommitting bytes) else none) ≡ step.marked (if stands then some (if marked then markCommitting bytes else bytes) else none)
-    go false m = refl
-    go true false = refl
-    go true true = refl
+  again : (n : ℕ) → withStatus (suc m) bytes ≡ withStatus (suc m) (rewritten n bytes)
+  unfolding header littleEndian
+  again zero = refl
+  again (suc n) = refl
+
+  rewritten-log : (f : Option Bytes → Option Bytes) → f none ≡ none → ((b : Bytes) → f (some b) ≡ some (withStatus (suc m) b)) →
+      logBytes src (record { start = l .start; len = l .len; stands = l .stands; status = suc m }) ≡ f (logBytes src l)
+  unfolding logBytes
+  rewritten-log f z s = go (l .stands)
+    where
+      go : (stands : Bool) → (if stands then some (withStatus (suc m) bytes) else none) ≡ f (if stands then some (rewritten (l .status) bytes) else none)
+      go false = sym z
+      go true = ap some (again (l .status)) ∙ sym (s (rewritten (l .status) bytes))
 
 -- The steps, one by one.
 module _ {src : Bytes} {x : Step} {s : LentStore} {w : Store} (p : Ready src x s) where
   module _ {l : LogRef} (f : w ≡ record { tree = s .tree .len; staging = s .staging .len; log = l; open_mark = s .open_mark }) where
-    pub marks : x ≡ code.RewriteHeader → l ≡ record { start = s .log .start; len = s .log .len; stands = s .log .stands; marked = true } → Applied src x s (placed (s .tree .nodes) (s .staging .nodes) w)
-    unfolding apply stepOf
+    pub marks : x ≡ code.RewriteHeader → l ≡ record { start = s .log .start; len = s .log .len; stands = s .log .stands; status = 1 } → Applied src x s (placed (s .tree .nodes) (s .staging .nodes) w)
+    unfolding apply stepOf markCommitting
     marks e q =
         log-arm p e (step.marked (logBytes src (s .log))) refl (subst (SoundLog src) (sym q) (record { inside = p .0 .0 .sound .log .inside }))
-        (ap (logBytes src) q ∙ marked-log src (s .log)) f
+        (ap (logBytes src) q ∙ rewritten-log src (s .log) 0 step.marked refl (λ b. refl)) f
 
-    pub unlogs : x ≡ code.RemoveLog → l ≡ record { start = s .log .start; len = s .log .len; stands = false; marked = s .log .marked } → Applied src x s (placed (s .tree .nodes) (s .staging .nodes) w)
+    pub holds : x ≡ code.HoldHeader → l ≡ record { start = s .log .start; len = s .log .len; stands = s .log .stands; status = 2 } → Applied src x s (placed (s .tree .nodes) (s .staging .nodes) w)
+    unfolding apply stepOf markHeld
+    holds e q =
+        log-arm p e (step.markedHeld (logBytes src (s .log))) refl (subst (SoundLog src) (sym q) (record { inside = p .0 .0 .sound .log .inside }))
+        (ap (logBytes src) q ∙ rewritten-log src (s .log) 1 step.markedHeld refl (λ b. refl)) f
+
+    pub unlogs : x ≡ code.RemoveLog → l ≡ record { start = s .log .start; len = s .log .len; stands = false; status = s .log .status } → Applied src x s (placed (s .tree .nodes) (s .staging .nodes) w)
     unfolding apply stepOf logBytes
     unlogs e q = log-arm p e none refl (subst (SoundLog src) (sym q) (record { inside = p .0 .0 .sound .log .inside })) (ap (logBytes src) q) f
 
@@ -163,25 +176,26 @@ module _ {src : Bytes} {x : Step} {s : LentStore} {w : Store} (p : Ready src x s
 
 -- The others: "Syncs change nothing here."
 abbrev syncs : List ℕ
-syncs = 1 ∷ 2 ∷ 4 ∷ 5 ∷ 14 ∷ []
+syncs = 2 ∷ 3 ∷ 5 ∷ 6 ∷ 15 ∷ []
 
 sync-idle : (src : Bytes) (u : model.Store) (x : Step) → OneOf syncs (tagOf the-type x) → u ≡ apply (stepOf src x) u
 unfolding apply stepOf
 sync-idle src u code.RewriteHeader h = not-here syncs 0 refl h
+sync-idle src u code.HoldHeader h = not-here syncs 1 refl h
 sync-idle src u code.SyncStaging h = refl
 sync-idle src u code.SyncLog h = refl
-sync-idle src u code.RemoveLog h = not-here syncs 3 refl h
+sync-idle src u code.RemoveLog h = not-here syncs 4 refl h
 sync-idle src u code.SyncJournal h = refl
 sync-idle src u code.SyncCollections h = refl
-sync-idle src u (code.MakeDirectory d) h = not-here syncs 6 refl h
-sync-idle src u (code.RenameFile d a b) h = not-here syncs 7 refl h
-sync-idle src u (code.MoveStaged f d k) h = not-here syncs 8 refl h
-sync-idle src u (code.RenameDirectory a b) h = not-here syncs 9 refl h
-sync-idle src u (code.CopyFile a b f) h = not-here syncs 10 refl h
-sync-idle src u (code.RemoveFile d f) h = not-here syncs 11 refl h
-sync-idle src u (code.RemoveDirectory d) h = not-here syncs 12 refl h
-sync-idle src u (code.RemoveStaging f) h = not-here syncs 13 refl h
+sync-idle src u (code.MakeDirectory d) h = not-here syncs 7 refl h
+sync-idle src u (code.RenameFile d a b) h = not-here syncs 8 refl h
+sync-idle src u (code.MoveStaged f d k) h = not-here syncs 9 refl h
+sync-idle src u (code.RenameDirectory a b) h = not-here syncs 10 refl h
+sync-idle src u (code.CopyFile a b f) h = not-here syncs 11 refl h
+sync-idle src u (code.RemoveFile d f) h = not-here syncs 12 refl h
+sync-idle src u (code.RemoveDirectory d) h = not-here syncs 13 refl h
+sync-idle src u (code.RemoveStaging f) h = not-here syncs 14 refl h
 sync-idle src u (code.SyncDirectory d) h = refl
 
-pub idles : {src : Bytes} {s : LentStore} (x : Step) → Ready src x s → OneOf (1 ∷ 2 ∷ 4 ∷ 5 ∷ 14 ∷ []) (tagOf the-type x) → Applied src x s s
+pub idles : {src : Bytes} {s : LentStore} (x : Step) → Ready src x s → OneOf (2 ∷ 3 ∷ 5 ∷ 6 ∷ 15 ∷ []) (tagOf the-type x) → Applied src x s s
 idles {src} {s} x p h = applied p (p .0 .0 .sound) (sync-idle src (storeOf src s) x h)

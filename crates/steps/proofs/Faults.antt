@@ -35,7 +35,7 @@ fitting {src} {r} s = let l = length-name s in let k = s .room in rw (le-ltb nam
 
 -- The steps that cannot fail.
 abbrev sure : List ℕ
-sure = 0 ∷ 1 ∷ 2 ∷ 3 ∷ 4 ∷ 5 ∷ 7 ∷ 11 ∷ 12 ∷ 13 ∷ 14 ∷ []
+sure = 0 ∷ 1 ∷ 2 ∷ 3 ∷ 4 ∷ 5 ∷ 6 ∷ 8 ∷ 12 ∷ 13 ∷ 14 ∷ 15 ∷ []
 
 module _ {src : Bytes} {s : LentStore} {x : Step} (p : SoundStore src s × SoundStep src x) where
   -- The number for a step in its arm.
@@ -75,20 +75,21 @@ module _ {src : Bytes} {s : LentStore} {x : Step} (p : SoundStore src s × Sound
 cannot : (src : Bytes) (u : model.Store) (x : Step) → SoundStep src x → OneOf sure (tagOf the-type x) → 0 ≡ fault (stepOf src x) u
 unfolding stepOf stepFault
 cannot src u code.RewriteHeader s h = refl
+cannot src u code.HoldHeader s h = refl
 cannot src u code.SyncStaging s h = refl
 cannot src u code.SyncLog s h = refl
 cannot src u code.RemoveLog s h = refl
 cannot src u code.SyncJournal s h = refl
 cannot src u code.SyncCollections s h = refl
-cannot src u (code.MakeDirectory d) s h = not-here sure 6 refl h
+cannot src u (code.MakeDirectory d) s h = not-here sure 7 refl h
 cannot src u (code.RenameFile d a b) s h = rw (fitting (s .names .1 .1 .sound))
-cannot src u (code.MoveStaged f d k) s h = not-here sure 8 refl h
-cannot src u (code.RenameDirectory a b) s h = not-here sure 9 refl h
-cannot src u (code.CopyFile a b f) s h = not-here sure 10 refl h
+cannot src u (code.MoveStaged f d k) s h = not-here sure 9 refl h
+cannot src u (code.RenameDirectory a b) s h = not-here sure 10 refl h
+cannot src u (code.CopyFile a b f) s h = not-here sure 11 refl h
 cannot src u (code.RemoveFile d f) s h = refl
 cannot src u (code.RemoveDirectory d) s h = refl
 cannot src u (code.RemoveStaging f) s h = refl
 cannot src u (code.SyncDirectory d) s h = refl
 
-pub never : {src : Bytes} {s : LentStore} (x : Step) → SoundStore src s × SoundStep src x → OneOf (0 ∷ 1 ∷ 2 ∷ 3 ∷ 4 ∷ 5 ∷ 7 ∷ 11 ∷ 12 ∷ 13 ∷ 14 ∷ []) (tagOf the-type x) → 0 ≡ fault (stepOf src x) (storeOf src s)
+pub never : {src : Bytes} {s : LentStore} (x : Step) → SoundStore src s × SoundStep src x → OneOf (0 ∷ 1 ∷ 2 ∷ 3 ∷ 4 ∷ 5 ∷ 6 ∷ 8 ∷ 12 ∷ 13 ∷ 14 ∷ 15 ∷ []) (tagOf the-type x) → 0 ≡ fault (stepOf src x) (storeOf src s)
 never {src} {s} x p h = cannot src (storeOf src s) x (p .1) h

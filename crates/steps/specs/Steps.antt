@@ -19,6 +19,7 @@ use Rattle.steps.specs.declared.Step.the-variants as code
 
 unfoldable pub stepOf : Bytes → Step → step.Step
 stepOf src code.RewriteHeader = step.rewriteHeader
+stepOf src code.HoldHeader = step.holdHeader
 stepOf src code.SyncStaging = step.syncStaging
 stepOf src code.SyncLog = step.syncLog
 stepOf src code.RemoveLog = step.removeLog
@@ -41,6 +42,7 @@ pub record FileName (src : Bytes) (r : NameRef) : Type 0 where
 
 abbrev pub Names : Bytes → Step → Type 0
 Names src code.RewriteHeader = Unit {0}
+Names src code.HoldHeader = Unit {0}
 Names src code.SyncStaging = Unit {0}
 Names src code.SyncLog = Unit {0}
 Names src code.RemoveLog = Unit {0}

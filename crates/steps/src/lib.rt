@@ -31,9 +31,15 @@ const FAILS: u32 = 14;
 
 const FULL: u32 = 15;
 
-// The file steps, each with its names in the order of 01, Listings and file steps.
+// The statuses that the header is rewritten with: Committing, and 02, item 6: "status 0x02, Held".
+const COMMITTING: u8 = 0x01;
+
+const HELD: u8 = 0x02;
+
+// The file steps, each with its names in the order of 01, Listings and file steps; `HoldHeader` rewrites the header with Held (02, item 6).
 pub enum Step {
     RewriteHeader,
+    HoldHeader,
     SyncStaging,
     SyncLog,
     RemoveLog,
@@ -132,16 +138,16 @@ fn with_log(s: Store, l: LogRef) -> Store
 }
 
 // The log with its header rewritten, and no log.
-fn marked(l: LogRef) -> LogRef
-    ensures { λ r. ⌜ r ≡ record { start = l .start; len = l .len; stands = l .stands; marked = true } ⌝ }
+fn rewritten(l: LogRef, status: u8) -> LogRef
+    ensures { λ r. ⌜ r ≡ record { start = l .start; len = l .len; stands = l .stands; status = status } ⌝ }
 {
     let mut r = l;
-    r.marked = true;
+    r.status = status;
     r
 }
 
 fn removed(l: LogRef) -> LogRef
-    ensures { λ r. ⌜ r ≡ record { start = l .start; len = l .len; stands = false; marked = l .marked } ⌝ }
+    ensures { λ r. ⌜ r ≡ record { start = l .start; len = l .len; stands = false; status = l .status } ⌝ }
 {
     let mut r = l;
     r.stands = false;
@@ -154,7 +160,8 @@ pub fn apply(src: &[u8], tree: &mut Nodes, staging: &mut Nodes, s: Store, x: Ste
     ensures { λ r. ⌜ Applied (now (src .entry)) x (storeIn (now (tree .entry)) (now (staging .entry)) s) (storeIn (now (tree .exit)) (now (staging .exit)) r) ⌝ }
 {
     match x {
-        Step::RewriteHeader => with_log(s, marked(s.log)),
+        Step::RewriteHeader => with_log(s, rewritten(s.log, COMMITTING)),
+        Step::HoldHeader => with_log(s, rewritten(s.log, HELD)),
         Step::RemoveLog => with_log(s, removed(s.log)),
         Step::MakeDirectory(d) => { with_tree(s, put_in(src, tree, s.tree, d, spans::empty(), 0)) }
         Step::RenameFile(d, a, b) => with_tree(s, rename_file(src, tree, s.tree, d, a, b)),
@@ -392,6 +399,7 @@ pub fn write_step(src: &[u8], x: Step, out: &mut [u8]) -> usize
 {
     match x {
         Step::RewriteHeader => write_tag(0x20, out),
+        Step::HoldHeader => write_tag(0x20, out),
         Step::SyncStaging => write_tag(0x21, out),
         Step::SyncLog => write_tag(0x22, out),
         Step::MakeDirectory(d) => write_one(src, 0x23, d, out),

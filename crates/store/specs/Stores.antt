@@ -1,10 +1,10 @@
 -- What a `Store` stands for with its lent tables: the model's store.
-use Prim.Native.Nat.{_+_, _≤_}
+use Prim.Native.Nat.{ℕ, zero, suc, _+_, _≤_}
 use mathlib.Core.Bool.{Bool}
 use mathlib.Core.Option.{Option, none, some}
 use lib.ListN.{length, take, drop}
 use Rattle.basics.specs.Base.{Bytes, if_then_else_}
-use Rattle.model.specs.Log.{markCommitting}
+use Rattle.model.specs.Log.{withStatus}
 use Rattle.model.specs.Store as model
 use Rattle.store.specs.Words.{Words}
 use Rattle.store.specs.Tables.{Table, tableOf, mapOf, SoundTable}
@@ -21,11 +21,15 @@ pub record LentStore : Type 0 where
 abbrev pub storeIn : Words → Words → Store → LentStore
 storeIn tree staging s = record { tree = tableOf tree (s .tree); staging = tableOf staging (s .staging); log = s .log; «open_mark» = s .open_mark }
 
--- The log's bytes, with the header that 0x20 writes where it did.
+-- The log's bytes, with the header that 0x20 writes where it did: with Committing (`markCommitting`) or Held (`markHeld`).
+abbrev pub rewritten : ℕ → Bytes → Bytes
+rewritten zero l = l
+rewritten (suc n) l = withStatus (suc n) l
+
 unfoldable pub logBytes : Bytes → LogRef → Option Bytes
 logBytes src l =
     let bytes : Bytes = take (l .len) (drop (l .start) src) in
-    if l .stands then some (if l .marked then markCommitting bytes else bytes) else none
+    if l .stands then some (rewritten (l .status) bytes) else none
 
 abbrev pub storeOf : Bytes → LentStore → model.Store
 storeOf src s = record {

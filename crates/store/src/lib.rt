@@ -48,12 +48,12 @@ pub struct Counts {
     pub files: usize,
 }
 
-// The log's bytes as a part of the lent bytes; `marked` where its header was rewritten with Committing.
+// The log's bytes as a part of the lent bytes; `status` is the one that its header was rewritten with, 0 where it was not.
 pub struct LogRef {
     pub start: u16,
     pub len: u16,
     pub stands: bool,
-    pub marked: bool,
+    pub status: u8,
 }
 
 // A store whose nodes stand in two lent tables, the tree's and the staging files': how many places of each are in use, the log, the mark.

@@ -9,7 +9,7 @@ use lib.ListN.{length, take, getD}
 use borrow.Author.Tests.{eq-eqb, ne-eqb, lt-leb}
 use Rattle.basics.specs.Base.{Bytes}
 use Rattle.basics.specs.Crc32.{crc32}
-use Rattle.model.specs.Log.{validHeader, entries, absent, recording, committing, readJournal}
+use Rattle.model.specs.Log.{validHeader, entries, absent, recording, committing, held, readJournal}
 use Rattle.basic_laws.specs.FieldLaws.{Byte}
 use Rattle.field.specs.Reading.{u32At}
 use Rattle.wal.proofs.Checksums.{same-number, enough, too-few}
@@ -42,7 +42,7 @@ module _ (l : Bytes) where
 
 module _ {l : Bytes} {crc : ℕ} (o : Opened l crc) where
   -- What is left of the test behind the checksum.
-  tested : validHeader l ≡ (eqb (u32At l 4) crc && leb (getD l 1 0) 1)
+  tested : validHeader l ≡ (eqb (u32At l 4) crc && leb (getD l 1 0) 2)
   unfolding validHeader
   tested = rw (enough 8 l (o .long), eq-eqb (getD l 0 0) 0xCA (o .magic), ← (o .right), same-number l 4 crc (o .bytes) (omega arith) (o .fits))
 
@@ -50,7 +50,7 @@ module _ {l : Bytes} {crc : ℕ} (o : Opened l crc) where
   wrong-crc h = invalid l (tested ∙ rw (ne-eqb (u32At l 4) crc h))
 
   module _ (r : u32At l 4 ≡ crc) where
-    valid : validHeader l ≡ leb (getD l 1 0) 1
+    valid : validHeader l ≡ leb (getD l 1 0) 2
     valid = tested ∙ rw (eq-eqb (u32At l 4) crc r)
 
     pub is-recording : getD l 1 0 ≡ 0 → recording (entries l .ops) (entries l .end) ≡ readJournal l
@@ -61,10 +61,15 @@ module _ {l : Bytes} {crc : ℕ} (o : Opened l crc) where
     unfolding readJournal
     is-committing s = rw (valid, s)
 
-    pub no-status : (getD l 1 0 ≡ 0 → ⊥) → (getD l 1 0 ≡ 1 → ⊥) → absent ≡ readJournal l
-    no-status a b = invalid l (valid ∙ lt-leb (getD l 1 0) 1 (above (getD l 1 0) a b))
+    pub is-held : getD l 1 0 ≡ 2 → held (entries l .ops) (entries l .end) ≡ readJournal l
+    unfolding readJournal
+    is-held s = rw (valid, s)
+
+    pub no-status : (getD l 1 0 ≡ 0 → ⊥) → (getD l 1 0 ≡ 1 → ⊥) → (getD l 1 0 ≡ 2 → ⊥) → absent ≡ readJournal l
+    no-status a b c = invalid l (valid ∙ lt-leb (getD l 1 0) 2 (above (getD l 1 0) a b c))
       where
-        above : (n : ℕ) → (n ≡ 0 → ⊥) → (n ≡ 1 → ⊥) → 1 < n
-        above zero a b = absurd (a refl)
-        above (suc zero) a b = absurd (b refl)
-        above (suc (suc n)) a b = omega arith
+        above : (n : ℕ) → (n ≡ 0 → ⊥) → (n ≡ 1 → ⊥) → (n ≡ 2 → ⊥) → 2 < n
+        above zero a b c = absurd (a refl)
+        above (suc zero) a b c = absurd (b refl)
+        above (suc (suc zero)) a b c = absurd (c refl)
+        above (suc (suc (suc n))) a b c = omega arith

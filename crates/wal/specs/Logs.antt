@@ -9,13 +9,13 @@ use lib.Dec.{leb}
 use Rattle.basics.specs.Base.{Bytes, if_then_else_}
 use Rattle.basics.specs.Crc32.{crc32}
 use Rattle.model.specs.Operation.{Op}
-use Rattle.model.specs.Log.{Entries, Journal, absent, recording, committing, stop, firstPayload, firstCause, entries}
+use Rattle.model.specs.Log.{Entries, Journal, absent, recording, committing, held, stop, firstPayload, firstCause, entries}
 use Rattle.model.specs.Log as model
 use Rattle.basic_laws.specs.Tests.{All}
 use Rattle.field.specs.Reading.{u32At}
 use Rattle.transaction.specs.Operations.{opOf, SoundOp, inBounds, part}
 use Rattle.wal.specs.declared.Status.{Status}
-use Rattle.wal.specs.declared.Status.the-variants.{Absent, Recording, Committing}
+use Rattle.wal.specs.declared.Status.the-variants.{Absent, Recording, Committing, Held}
 use Rattle.wal.specs.declared.Cause.{Cause}
 use Rattle.wal.specs.declared.Cause.the-variants.{HeaderShort, PayloadMissing, ChecksumWrong}
 use Rattle.wal.specs.declared.Entry.{Entry}
@@ -31,6 +31,7 @@ abbrev pub journalOf : Status → Entries → Journal
 journalOf Absent r = absent
 journalOf Recording r = recording (r .ops) (r .end)
 journalOf Committing r = committing (r .ops) (r .end)
+journalOf Held r = held (r .ops) (r .end)
 
 -- The payload between two places; nothing where these are out of bounds.
 unfoldable pub payloadAt : Bytes → ℕ → ℕ → Bytes

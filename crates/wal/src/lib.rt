@@ -13,10 +13,9 @@ use spans::NameRef;
 use transaction::Decoded;
 use transaction::Operation;
 
-// 01, How a store is handed over: "The log header: 0xCA, status (0x00 Recording, 0x01 Committing), two zero bytes, CRC-32 of the first two".
+// 01, How a store is handed over: "The log header: 0xCA, status (0x00 Recording, 0x01 Committing), two zero bytes, CRC-32 of the first two". 02, item 6:
+// "status 0x02, Held".
 const WAL_MAGIC: u8 = 0xCA;
-
-const STATUS_COMMITTING: u8 = 0x01;
 
 // The register behind the first byte, and the checksums behind a status of 0 and of 1: looked up in the table when this is compiled.
 const ALL_ONES: u32 = 0xFFFF_FFFF;
@@ -39,6 +38,7 @@ pub enum Status {
     Absent,
     Recording,
     Committing,
+    Held,
 }
 
 // How an entry is broken. 02, item 1: "1 entry header too short, 2 payload missing (length 0 or past the end), 3 checksum wrong."
@@ -134,15 +134,15 @@ pub fn encode_header(status: u8) -> [u8; 8]
     h
 }
 
-// The header rewritten with Committing.
-pub fn mark_committing(out: &mut [u8], at: usize)
-    ensures { λ _. ⌜ now (out .exit) ≡ written at (header 1) (now (out .entry)) ⌝ }
+// The header rewritten with a status: Committing (`mark_committing`) or Held.
+pub fn rewrite_header(status: u8, out: &mut [u8], at: usize)
+    ensures { λ _. ⌜ now (out .exit) ≡ written at (header status) (now (out .entry)) ⌝ }
 {
-    let h = encode_header(STATUS_COMMITTING);
+    let h = encode_header(status);
     field::put_bytes(out, at, &h);
 }
 
-// The status of a log. 01, Corners, wal.rs: what is as if absent.
+// The status of a log. 01, Corners, wal.rs: what is as if absent; 02, item 6: "01's status rule now starts above 0x02".
 pub fn open_wal(log: &[u8]) -> Status
     ensures { λ r. ⌜ journalOf r (entries (now (log .entry))) ≡ readJournal (now (log .entry)) ⌝ }
 {
@@ -159,6 +159,7 @@ pub fn open_wal(log: &[u8]) -> Status
     match status {
         0 => Status::Recording,
         1 => Status::Committing,
+        2 => Status::Held,
         _ => Status::Absent,
     }
 }

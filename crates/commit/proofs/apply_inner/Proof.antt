@@ -22,10 +22,10 @@ roll-back-requires : tie.Need-roll-back-requires
 roll-back-requires c κs = (c .before .before .before .apply-operations .ensures .sound, c .before .before .before .before .before .before .before .before .before .before .before .pre .1 .0)
 
 returns : tie.Need-returns
-returns c = finished _ (storeIn (now (c .before .before .before .before .before .before .before .before .before .before .before .before .args .tree)) (now (c .before .before .before .before .before .before .before .before .before .before .before .before .args .staging)) (c .before .before .before .before .before .before .before .before .before .before .before .before .args .s)) (c .before .before .before .before .before .before .before .before .before .before .before .before .args .w) (c .before .before .before .before .before .before .before .before .before .before .before .before .pre .1 .1) (c .before .before .before .before .before .before .before .before .before .before .start .ensures (now (c .before .before .before .before .before .before .before .before .before .before .before .before .args .tree)) (now (c .before .before .before .before .before .before .before .before .before .before .before .before .args .staging))) (c .before .before .before .before .before .before .before .mark-and-sync .ensures) (c .before .before .before .before .apply-operations .ensures) (c .before .before .before .if1 .taken) (c .finish .ensures)
+returns c = finished _ (storeIn (now (c .before .before .before .before .before .before .before .before .before .before .before .before .args .tree)) (now (c .before .before .before .before .before .before .before .before .before .before .before .before .args .staging)) (c .before .before .before .before .before .before .before .before .before .before .before .before .args .s)) (c .before .before .before .before .before .before .before .before .before .before .before .before .args .w) (c .before .before .before .before .before .before .before .before .before .before .before .before .pre .1 .1) (c .before .before .before .before .before .before .before .before .before .before .before .before .args .holds) (c .before .before .before .before .before .before .before .before .before .before .start .ensures (now (c .before .before .before .before .before .before .before .before .before .before .before .before .args .tree)) (now (c .before .before .before .before .before .before .before .before .before .before .before .before .args .staging))) (c .before .before .before .before .before .before .before .mark-and-sync .ensures) (c .before .before .before .before .apply-operations .ensures) (c .before .before .before .if1 .taken) (c .finish .ensures)
 
 returns-2 : tie.Need-returns-2
-returns-2 c = rolled-back _ (storeIn (now (c .before .before .before .before .before .before .before .before .before .before .before .before .args .tree)) (now (c .before .before .before .before .before .before .before .before .before .before .before .before .args .staging)) (c .before .before .before .before .before .before .before .before .before .before .before .before .args .s)) (c .before .before .before .before .before .before .before .before .before .before .before .before .args .w) (c .before .before .before .before .before .before .before .before .before .before .before .before .pre .1 .1) (c .before .before .before .before .before .before .before .before .before .before .start .ensures (now (c .before .before .before .before .before .before .before .before .before .before .before .before .args .tree)) (now (c .before .before .before .before .before .before .before .before .before .before .before .before .args .staging))) (c .before .before .before .before .before .before .before .mark-and-sync .ensures) (c .before .before .before .before .apply-operations .ensures) (c .before .before .before .if1 .left) (c .roll-back .ensures)
+returns-2 c = rolled-back _ (storeIn (now (c .before .before .before .before .before .before .before .before .before .before .before .before .args .tree)) (now (c .before .before .before .before .before .before .before .before .before .before .before .before .args .staging)) (c .before .before .before .before .before .before .before .before .before .before .before .before .args .s)) (c .before .before .before .before .before .before .before .before .before .before .before .before .args .w) (c .before .before .before .before .before .before .before .before .before .before .before .before .pre .1 .1) (c .before .before .before .before .before .before .before .before .before .before .before .before .args .holds) (c .before .before .before .before .before .before .before .before .before .before .start .ensures (now (c .before .before .before .before .before .before .before .before .before .before .before .before .args .tree)) (now (c .before .before .before .before .before .before .before .before .before .before .before .before .args .staging))) (c .before .before .before .before .before .before .before .mark-and-sync .ensures) (c .before .before .before .before .apply-operations .ensures) (c .before .before .before .if1 .left) (c .roll-back .ensures)
 
 pub apply-inner-spec : {M : Type 1} → statement M
 apply-inner-spec =

@@ -2,7 +2,7 @@
 use mathlib.Core.List.{[], _∷_}
 use Rattle.model.specs.Step.{syncStaging, syncLog}
 use Rattle.steps.specs.Steps.{stepOf}
-use Rattle.commit.proofs.Parts.{step-then}
+use Rattle.recovery.proofs.Follow.{step-then}
 use Rattle.commit.proofs.mark_and_sync.Statement.{statement}
 use Rattle.commit.proofs.mark_and_sync.Tie as tie
 

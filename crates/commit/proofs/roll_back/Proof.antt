@@ -10,15 +10,15 @@ use Rattle.commit.proofs.roll_back.Tie as tie
 undo-all-requires : tie.Need-undo-all-requires
 undo-all-requires c κs = search needs
 
-remove-log-requires : tie.Need-remove-log-requires
-remove-log-requires c κs = search needs
+remove-log-durably-requires : tie.Need-remove-log-durably-requires
+remove-log-durably-requires c κs = search needs
 
 cleanup-staging-dir-requires : tie.Need-cleanup-staging-dir-requires
 cleanup-staging-dir-requires c κs = search needs
 
 returns : tie.Need-returns
-returns c = undone-then _ (c .before .before .before .before .before .before .undo-all .ensures) ((λ s. removeLog ∷ syncJournal ∷ []) ∷ removeStagingFiles ∷ []) (part-then (c .before .before .before .remove-log .ensures) (removeStagingFiles ∷ []) (last-part (c .cleanup-staging-dir .ensures)))
+returns c = undone-then _ (c .before .before .before .before .before .before .undo-all .ensures) ((λ s. removeLog ∷ syncJournal ∷ []) ∷ removeStagingFiles ∷ []) (part-then (c .before .before .before .remove-log-durably .ensures) (removeStagingFiles ∷ []) (last-part (c .cleanup-staging-dir .ensures)))
 
 pub roll-back-spec : {M : Type 1} → statement M
 roll-back-spec =
-    tie.close (tie.spec undo-all-requires remove-log-requires cleanup-staging-dir-requires returns)
+    tie.close (tie.spec undo-all-requires remove-log-durably-requires cleanup-staging-dir-requires returns)

@@ -21,13 +21,13 @@ add-result : tie.Need-add-result
 add-result c = search needs
 
 returns-2 : tie.Need-returns-2
-returns-2 c = marked-log (c .before .before .wide .ensures .0) (c .before .before .wide .ensures .1) (not-false _ (c .before .before .before .if1 .left)) (c .before .if2 .taken) (c .header-of .ensures .1 .1)
+returns-2 c = marked-log (c .before .before .before .wide .ensures .0) (c .before .before .before .wide .ensures .1) (not-false _ (c .before .before .before .before .if1 .left)) (c .before .if2 .taken) (c .header-of .ensures .1 .1)
 
 add-result-2 : tie.Need-add-result-2
 add-result-2 c = search needs
 
 returns-3 : tie.Need-returns-3
-returns-3 c = plain-log (c .before .wide .ensures .0) (c .before .wide .ensures .1) (not-false _ (c .before .before .if1 .left)) (c .if2 .left)
+returns-3 c = plain-log (c .before .before .wide .ensures .0) (c .before .before .wide .ensures .1) (not-false _ (c .before .before .before .if1 .left)) (c .if2 .left)
 
 pub log-size-spec : {M : Type 1} → statement M
 log-size-spec =

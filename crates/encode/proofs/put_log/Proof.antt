@@ -1,4 +1,5 @@
 -- `encode::put_log` meets its contract: no log, one with the header rewritten, or the log.
+use mathlib.Core.Path.{refl}
 use native.Mathlib.Omega.{arith}
 use borrow.Author.Needs.{needs}
 use borrow.Author.Tests.{not-true, not-false}
@@ -22,7 +23,7 @@ same-length : tie.Need-same-length
 same-length c = search needs
 
 returns-2 : tie.Need-returns-2
-returns-2 c = log-rewritten _ _ _ _ _ (c .before .before .before .before .before .before .wide .ensures .0) (c .before .before .before .before .before .wide2 .ensures .0) (not-false _ (c .before .before .before .before .before .before .before .if1 .left)) (c .before .before .before .before .if2 .taken) (c .before .before .put-marked .ensures)
+returns-2 c = log-rewritten _ _ _ _ _ (c .before .before .before .before .before .before .wide .ensures .0) (c .before .before .before .before .before .wide2 .ensures .0) (not-false _ (c .before .before .before .before .before .before .before .if1 .left)) refl (c .before .before .before .before .if2 .taken) (c .before .before .put-marked .ensures)
 
 add-end : tie.Need-add-end
 add-end c = search needs

@@ -35,11 +35,11 @@ low-requires c κs = search needs
 put-field-head-requires : tie.Need-put-field-head-requires
 put-field-head-requires c κs = search needs
 
-add-mark-committing : tie.Need-add-mark-committing
-add-mark-committing c = search needs
+add-rewrite-header : tie.Need-add-rewrite-header
+add-rewrite-header c = search needs
 
-mark-committing-requires : tie.Need-mark-committing-requires
-mark-committing-requires c κs = search needs
+rewrite-header-requires : tie.Need-rewrite-header-requires
+rewrite-header-requires c κs = search needs
 
 add-put-bytes : tie.Need-add-put-bytes
 add-put-bytes c = search needs
@@ -60,10 +60,10 @@ same-length : tie.Need-same-length
 same-length c = search needs
 
 returns : tie.Need-returns
-returns c = marked-written _ _ _ _ _ _ _ (c .before .before .before .before .before .before .before .before .before .before .before .before .before .before .before .before .before .before .before .pre .0) (c .before .before .before .before .before .before .before .before .before .before .before .before .before .before .before .before .header-of .ensures .1 .0) (c .before .before .before .before .before .before .before .before .before .before .before .before .before .before .before .before .header-of .ensures .1 .1) _ (c .before .before .before .before .before .before .before .before .before .before .before .before .low .ensures) (c .before .before .before .before .before .before .before .before .before .before .before .put-field-head .ensures) (c .before .before .before .before .before .before .before .mark-committing .ensures) (c .before .before .put-bytes .ensures) (omega arith)
+returns c = marked-written _ _ _ _ _ _ _ _ (c .before .before .before .before .before .before .before .before .before .before .before .before .before .before .before .before .before .before .before .pre .0) (c .before .before .before .before .before .before .before .before .before .before .before .before .before .before .before .before .header-of .ensures .1 .0) (c .before .before .before .before .before .before .before .before .before .before .before .before .before .before .before .before .header-of .ensures .1 .1) _ (c .before .before .before .before .before .before .before .before .before .before .before .before .low .ensures) (c .before .before .before .before .before .before .before .before .before .before .before .put-field-head .ensures) (c .before .before .before .before .before .before .before .rewrite-header .ensures) (c .before .before .put-bytes .ensures) (omega arith)
 
 returns-2 : tie.Need-returns-2
-returns-2 c = marked-none _ _ _ _ _ _ _ (c .before .before .before .before .before .pre .0) (c .before .before .header-of .ensures .1 .0) (c .before .before .header-of .ensures .1 .1) (omega arith)
+returns-2 c = marked-none _ _ _ _ _ _ _ _ (c .before .before .before .before .before .pre .0) (c .before .before .header-of .ensures .1 .0) (c .before .before .header-of .ensures .1 .1) (omega arith)
 
 pub put-marked-spec : {M : Type 1} → statement M
 put-marked-spec =
@@ -79,8 +79,8 @@ put-marked-spec =
     add-low-2
     low-requires
     put-field-head-requires
-    add-mark-committing
-    mark-committing-requires
+    add-rewrite-header
+    rewrite-header-requires
     add-put-bytes
     sub-put-bytes
     part-put-bytes-start

@@ -74,7 +74,7 @@ rollback-requires c κs = search needs
 returns : tie.Need-returns
 returns c =
     let z = c .before .before .before .before .before .before .before .before in
-    rw (c .before .enum-told .given .1) (c .begin-transaction .ensures (z .args .src .now) (z .args .tree .now) (z .args .staging .now) (z .pre .ready .sound))
+    rw (c .before .enum-told .given .1) (c .begin-transaction .ensures (z .args .tree .now) (z .args .staging .now) (z .pre .ready .sound))
 
 returns-2 : tie.Need-returns-2
 returns-2 c =

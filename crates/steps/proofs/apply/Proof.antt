@@ -2,15 +2,15 @@
 use borrow.Author.Needs.{needs}
 use Rattle.steps.proofs.Room.{room}
 use Rattle.steps.proofs.Arms.{names-of}
-use Rattle.steps.proofs.Applying.{marks, unlogs, makes, renames, renames-dir, copies, removes, removes-dir, unstages, moves, idles}
+use Rattle.steps.proofs.Applying.{marks, holds, unlogs, makes, renames, renames-dir, copies, removes, removes-dir, unstages, moves, idles}
 use Rattle.steps.proofs.apply.Statement.{statement}
 use Rattle.steps.proofs.apply.Tie as tie
 
 enum-told : tie.Need-enum-told
 enum-told c = search needs
 
-marked-requires : tie.Need-marked-requires
-marked-requires c κs = search needs
+rewritten-requires : tie.Need-rewritten-requires
+rewritten-requires c κs = search needs
 
 with-log-requires : tie.Need-with-log-requires
 with-log-requires c κs = search needs
@@ -18,11 +18,20 @@ with-log-requires c κs = search needs
 enum-told-2 : tie.Need-enum-told-2
 enum-told-2 c = search needs
 
-removed-requires : tie.Need-removed-requires
-removed-requires c κs = search needs
+rewritten-requires-2 : tie.Need-rewritten-requires-2
+rewritten-requires-2 c κs = search needs
 
 with-log-requires-2 : tie.Need-with-log-requires-2
 with-log-requires-2 c κs = search needs
+
+enum-told-3 : tie.Need-enum-told-3
+enum-told-3 c = search needs
+
+removed-requires : tie.Need-removed-requires
+removed-requires c κs = search needs
+
+with-log-requires-3 : tie.Need-with-log-requires-3
+with-log-requires-3 c κs = search needs
 
 enum-known-x : tie.Need-enum-known-x
 enum-known-x c = search needs
@@ -121,48 +130,54 @@ with-staging-requires-2 : tie.Need-with-staging-requires-2
 with-staging-requires-2 c κs = search needs
 
 returns : tie.Need-returns
-returns c = marks (c .before .before .before .before .before .pre) (c .with-log .ensures) (c .before .before .enum-told .given .1) (c .before .marked .ensures)
+returns c = marks (c .before .before .before .before .before .pre) (c .with-log .ensures) (c .before .before .enum-told .given .1) (c .before .rewritten .ensures)
 
 returns-2 : tie.Need-returns-2
-returns-2 c = unlogs (c .before .before .before .before .before .pre) (c .with-log2 .ensures) (c .before .before .enum-told2 .given .1) (c .before .removed .ensures)
+returns-2 c = holds (c .before .before .before .before .before .pre) (c .with-log2 .ensures) (c .before .before .enum-told2 .given .1) (c .before .rewritten2 .ensures)
 
 returns-3 : tie.Need-returns-3
-returns-3 c = makes (c .before .before .before .before .before .before .before .before .pre) (c .with-tree .ensures) (c .before .before .before .before .before .x .given .1) (c .before .before .empty .ensures _) (c .before .put-in .ensures)
+returns-3 c = unlogs (c .before .before .before .before .before .pre) (c .with-log3 .ensures) (c .before .before .enum-told3 .given .1) (c .before .removed .ensures)
 
 returns-4 : tie.Need-returns-4
-returns-4 c = renames (c .before .before .before .before .before .before .before .pre) (c .with-tree2 .ensures) (c .before .before .before .before .x2 .given .1) (c .before .rename-file .ensures)
+returns-4 c = makes (c .before .before .before .before .before .before .before .before .pre) (c .with-tree .ensures) (c .before .before .before .before .before .x .given .1) (c .before .before .empty .ensures _) (c .before .put-in .ensures)
 
 returns-5 : tie.Need-returns-5
-returns-5 c = moves (c .before .before .before .before .before .before .before .before .before .before .before .before .before .before .pre) (c .before .before .before .before .with-tree3 .ensures) (c .with-staging .ensures) (c .before .before .before .before .before .before .before .before .before .before .before .x3 .given .1) (c .before .before .before .before .before .before .before .before .empty2 .ensures _) (c .before .before .empty3 .ensures _) (c .before .before .before .before .before .before .before .look .ensures) (c .before .before .before .before .before .put-held .ensures) (c .before .del .ensures)
+returns-5 c = renames (c .before .before .before .before .before .before .before .pre) (c .with-tree2 .ensures) (c .before .before .before .before .x2 .given .1) (c .before .rename-file .ensures)
 
 returns-6 : tie.Need-returns-6
-returns-6 c = renames-dir (c .before .before .before .before .before .before .before .pre) (c .with-tree4 .ensures) (c .before .before .before .before .x4 .given .1) (c .before .rename-dir .ensures)
+returns-6 c = moves (c .before .before .before .before .before .before .before .before .before .before .before .before .before .before .pre) (c .before .before .before .before .with-tree3 .ensures) (c .with-staging .ensures) (c .before .before .before .before .before .before .before .before .before .before .before .x3 .given .1) (c .before .before .before .before .before .before .before .before .empty2 .ensures _) (c .before .before .empty3 .ensures _) (c .before .before .before .before .before .before .before .look .ensures) (c .before .before .before .before .before .put-held .ensures) (c .before .del .ensures)
 
 returns-7 : tie.Need-returns-7
-returns-7 c = copies (c .before .before .before .before .before .before .before .before .before .pre) (c .with-tree5 .ensures) (c .before .before .before .before .before .before .x5 .given .1) (c .before .before .before .look2 .ensures) (c .before .put-held2 .ensures)
+returns-7 c = renames-dir (c .before .before .before .before .before .before .before .pre) (c .with-tree4 .ensures) (c .before .before .before .before .x4 .given .1) (c .before .rename-dir .ensures)
 
 returns-8 : tie.Need-returns-8
-returns-8 c = removes (c .before .before .before .before .before .before .before .pre) (c .with-tree6 .ensures) (c .before .before .before .before .x6 .given .1) (c .before .del2 .ensures)
+returns-8 c = copies (c .before .before .before .before .before .before .before .before .before .pre) (c .with-tree5 .ensures) (c .before .before .before .before .before .before .x5 .given .1) (c .before .before .before .look2 .ensures) (c .before .put-held2 .ensures)
 
 returns-9 : tie.Need-returns-9
-returns-9 c = removes-dir (c .before .before .before .before .before .before .before .pre) (c .with-tree7 .ensures) (c .before .before .before .before .x7 .given .1) (c .before .remove-dir .ensures)
+returns-9 c = removes (c .before .before .before .before .before .before .before .pre) (c .with-tree6 .ensures) (c .before .before .before .before .x6 .given .1) (c .before .del2 .ensures)
 
 returns-10 : tie.Need-returns-10
-returns-10 c = unstages (c .before .before .before .before .before .before .before .before .pre) (c .with-staging2 .ensures) (c .before .before .before .before .before .x8 .given .1) (c .before .before .empty4 .ensures _) (c .before .del3 .ensures)
+returns-10 c = removes-dir (c .before .before .before .before .before .before .before .pre) (c .with-tree7 .ensures) (c .before .before .before .before .x7 .given .1) (c .before .remove-dir .ensures)
 
 returns-11 : tie.Need-returns-11
-returns-11 c = idles (c .before .before .args .x) (c .before .before .pre) (c .match .keys11)
+returns-11 c = unstages (c .before .before .before .before .before .before .before .before .pre) (c .with-staging2 .ensures) (c .before .before .before .before .before .x8 .given .1) (c .before .before .empty4 .ensures _) (c .before .del3 .ensures)
+
+returns-12 : tie.Need-returns-12
+returns-12 c = idles (c .before .before .args .x) (c .before .before .pre) (c .match .keys12)
 
 pub apply-spec : {M : Type 1} → statement M
 apply-spec =
     tie.close
     (tie.spec
     enum-told
-    marked-requires
+    rewritten-requires
     with-log-requires
     enum-told-2
-    removed-requires
+    rewritten-requires-2
     with-log-requires-2
+    enum-told-3
+    removed-requires
+    with-log-requires-3
     enum-known-x
     empty-requires
     put-in-requires
@@ -205,4 +220,5 @@ apply-spec =
     returns-8
     returns-9
     returns-10
-    returns-11)
+    returns-11
+    returns-12)

@@ -1,10 +1,10 @@
--- `remove_log`: two steps in a row.
+-- `remove_log_durably`: two steps in a row.
 use mathlib.Core.List.{[], _∷_}
 use Rattle.model.specs.Step.{syncJournal}
 use Rattle.steps.specs.Steps.{stepOf}
-use Rattle.commit.proofs.Parts.{step-then}
-use Rattle.commit.proofs.remove_log.Statement.{statement}
-use Rattle.commit.proofs.remove_log.Tie as tie
+use Rattle.recovery.proofs.Follow.{step-then}
+use Rattle.recovery.proofs.remove_log_durably.Statement.{statement}
+use Rattle.recovery.proofs.remove_log_durably.Tie as tie
 
 advance-requires : tie.Need-advance-requires
 unfolding stepOf
@@ -18,5 +18,5 @@ returns : tie.Need-returns
 unfolding stepOf
 returns c = step-then (c .before .before .before .advance .ensures) (syncJournal ∷ []) (c .advance2 .ensures)
 
-pub remove-log-spec : {M : Type 1} → statement M
-remove-log-spec = tie.close (tie.spec advance-requires advance-requires-2 returns)
+pub remove-log-durably-spec : {M : Type 1} → statement M
+remove-log-durably-spec = tie.close (tie.spec advance-requires advance-requires-2 returns)

@@ -1,7 +1,7 @@
--- `wal::mark_committing` meets its contract.
+-- `wal::rewrite_header` meets its contract.
 use borrow.Author.Needs.{needs}
-use Rattle.wal.proofs.mark_committing.Statement.{statement}
-use Rattle.wal.proofs.mark_committing.Tie as tie
+use Rattle.wal.proofs.rewrite_header.Statement.{statement}
+use Rattle.wal.proofs.rewrite_header.Tie as tie
 
 encode-header-requires : tie.Need-encode-header-requires
 encode-header-requires c κs = search needs
@@ -18,8 +18,8 @@ same-length c = search needs
 returns : tie.Need-returns
 returns c = rw (← (c .before .before .before .before .before .encode-header .ensures)) (c .before .before .put-bytes .ensures)
 
-pub mark-committing-spec : {M : Type 1} → statement M
-mark-committing-spec =
+pub rewrite-header-spec : {M : Type 1} → statement M
+rewrite-header-spec =
     tie.close
     (tie.spec
     encode-header-requires

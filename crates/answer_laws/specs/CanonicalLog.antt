@@ -1,7 +1,7 @@
 -- 02, item 12, one way to write a log: what `canonicalLog` writes of a log is that log's status and operations, written again it is the same, and two logs
 -- have equal status and operations exactly if what is written for them is byte for byte equal. All statuses and kinds are covered: nothing here goes by them.
 use mathlib.Core.Path.{_≡_, refl, sym, ap, _∙_, ap₂}
-use mathlib.Core.List.{[], _∷_}
+use mathlib.Core.List.{[], _∷_, List}
 use mathlib.Core.Bool.{Bool, true, false, _&&_}
 use Prim.Native.Nat.{ℕ, _≤_}
 use native.Mathlib.Omega.{arith}
@@ -16,6 +16,25 @@ use Rattle.basic_laws.specs.Tests.{All, leb-le, le-leb, and-both, same-refl}
 use Rattle.basic_laws.specs.FieldLaws.{Byte}
 use Rattle.laws.specs.CanonicalLaws.{write-same, at-least-le}
 use Rattle.basics.specs.Crc32.{crc32}
+use Rattle.model.specs.Operation.{Op}
+
+-- Its answer by cases: these refusals, or what is written.
+abbrev pub canonicalRefusals : List ℕ
+canonicalRefusals = 1 ∷ 2 ∷ 21 ∷ 11 ∷ 12 ∷ []
+
+pub on-canonical : (P : Answer → Type 0) (l : Bytes) (out : ℕ) → All (λ n. P (refusal n)) canonicalRefusals
+    → ((ops : List Op) → P (record { number = 0; image = writeLog (getD l 1 0) ops; step = [] })) → P (canonicalLog l out)
+unfolding canonicalLog
+on-canonical P l out r h = go (leb (length l) logLimit) (leb (length l) out) (validHeader l) (entries l .end)
+  where
+    go : (a b c : Bool) (d : Ending) → P (if_then_else_ a (if_then_else_ b (if_then_else_ c (canonicalBy (getD l 1 0) (entries l .ops) d) (refusal 21)) (refusal 2)) (refusal 1))
+    go true true true whole = h (entries l .ops)
+    go true true true (truncated c) = r .1 .1 .0
+    go true true true undecodable = r .1 .1 .1 .0
+    go true true true tooMany = r .1 .1 .1 .1 .0
+    go true true false d = r .1 .1 .0
+    go true false c d = r .1 .0
+    go false b c d = r .0
 
 -- "each log with a valid header that is read untruncated and decoded", within the limit and lent an output that is as long.
 pub record Canonical (l : Bytes) (out : ℕ) : Type 0 where

@@ -13,15 +13,17 @@ use Rattle.basics.specs.Name.{lastDot, extension, stripExtension, backupExtensi
 use Rattle.basics.specs.Crc32.{crc32, register, feedByte, shifts, shift, addPolynomial, polynomial}
 use Rattle.basics.specs.Field.{littleEndian, fromLittleEndian, encodeField, encodeFields, fieldsFrom, decodeFields, hasTag}
 use Rattle.basics.specs.Worked.{text, digit, pairs, hex, bit, Row, row, equal, agree}
-use Rattle.model.specs.Operation.{fieldTable, fieldTags, kind, values, tagged, encodePayload, makers, validValue, opOfFields, decodePayload}
-use Rattle.model.specs.Log.{header, entry, validHeader, firstPayload, walk, entries, readJournal, markCommitting, markHeld, appendOperation}
+use Rattle.model.specs.Operation as operation
+use Rattle.model.specs.Operation.{Op, fieldTable, fieldTags, kind, values, tagged, encodePayload, makers, validValue, opOfFields, decodePayload}
+use Rattle.model.specs.Log.{header, entry, validHeader, firstPayload, walk, entries, readJournal, markCommitting, markHeld, appendOperation, writeLog}
 use Rattle.model.specs.Store.{dirs, files, validNode, validNodes, validStaged, ascending, wellFormed, hasBackupFiles, firstBackup, hasPendingWork}
 use Rattle.model.specs.Image.{hitFields, imageFields, encode, treeOf, stagingOf, logOf, storeOf, decode}
 use Rattle.model.specs.Step.{removeDir, renameDir, apply, zeroSeparated, tagAndNames, stepField, stepFault}
 use Rattle.model.specs.Plan.{opSteps, undoSteps, restoreFile, restoreDirectory, removeBackupFile, removeBackupsIn, firstNamings, syncExisting, commitFault, planEnding, endingAt, isNewArtifact, recoverPlan, recoveredAt, recovered, revertPlan, revertedAt, reverted, keepPlan, keptAt, kept}
 use Rattle.model.specs.Record.{transaction, beginTransaction, discard, recordWrite, keyList}
-use Rattle.answers.specs.Answers.{Answer, Pending, begin, rollback, write, endingStore, commit, hold, recoverStore, recover, keepStore, keep, revertStore, revert, commitStep, holdStep, recoverStep, keepStep, revertStep, pending, listKeys, findBackup, decimal, listingLine, listing}
+use Rattle.answers.specs.Answers.{Answer, Pending, begin, rollback, write, endingStore, commit, hold, recoverStore, recover, keepStore, keep, revertStore, revert, commitStep, holdStep, recoverStep, keepStep, revertStep, pending, listKeys, findBackup, canonicalLog, decimal, listingLine, listing}
 use Rattle.answers.specs.Inventory.{contents, collections, escaped, quoted, object, fileMember, collectionMember, inventoryText, inventory}
+use mathlib.Core.Option.{some}
 
 -- An answer as its number, its image and its step field; the pending question's as its number and 1 for yes.
 flat : Answer → Bytes
@@ -43,6 +45,10 @@ heldTen : Bytes
 unfolding tenSteps
 heldTen = hold tenSteps imageRoom .image
 
+-- Two operations, of kinds 3 and 7.
+twoOps : List Op
+twoOps = operation.deleteAll (text "db") ∷ operation.write (record { collection = text "db"; key = text "a"; staged = text "s"; mark = some false }) ∷ []
+
 stepOn : Bytes → ℕ → Answer
 stepOn b n = commitStep n b imageRoom stepRoom
 
@@ -52,7 +58,7 @@ unfolding stepOn tenSteps
 listAt n = listing (stepOn tenSteps n .image)
 
 table : List Row
-unfolding db flat asked tenSteps heldTen stepOn listAt
+unfolding db flat asked tenSteps heldTen twoOps stepOn listAt
 table =
     row "begin, a Write, commit: a=9"
     (flat (commit tenSteps imageRoom))
@@ -103,6 +109,14 @@ table =
     ∷ row "02: keep and revert without a Held log: 18; so their step entries, before 16"
     (flat (keep tenSteps imageRoom) ++ flat (revert (db 7) imageRoom) ++ flat (keepStep 99 (db 7) imageRoom stepRoom) ++ flat (revertStep 99 tenSteps imageRoom stepRoom))
     (hex "12 12 12 12")
+    ∷ row "02: a log whose bytes 2 and 3 hold anything is written with zeros there: the log of this status and these operations, Held here"
+    (flat (canonicalLog (hex "CA 02 41 42 17 4C C2 9E" ++ drop 8 (writeLog 0 twoOps)) 99))
+    (0 ∷ writeLog 2 twoOps)
+    ∷ row "02: written again it is the same" (flat (canonicalLog (writeLog 1 twoOps) 99)) (0 ∷ writeLog 1 twoOps)
+    ∷ row "02: one byte less of output: 2; no valid header: 21, after 2; an entry header too short: 21; a payload that doesn't decode: 11"
+    (flat (canonicalLog (writeLog 0 []) 7) ++ flat (canonicalLog (hex "CA 03 00 00 00 00 00 00") 8) ++ flat (canonicalLog (hex "CA") 0)
+    ++ flat (canonicalLog (writeLog 2 twoOps ++ hex "00") 99) ++ flat (canonicalLog (header 0 ++ entry (text "x")) 99))
+    (hex "02 15 02 15 0B")
     ∷ row "02: the backup that stands after 4 steps, db/a.bak=7"
     (flat (findBackup (stepOn tenSteps 4 .image) hitRoom))
     (hex "00 10 02 00 64 62 11 09 00 07 00 00 00 61 2E 62 61 6B")
@@ -128,18 +142,18 @@ table =
 
 -- Every row computes to what is stated.
 worked : map (λ r. r .computed) table ≡ map (λ r. r .stated) table
-unfolding table flat asked db tenSteps heldTen stepOn listAt
+unfolding table flat asked db tenSteps heldTen twoOps stepOn listAt
     text digit pairs hex bit row equal
     crc32 register feedByte shifts shift addPolynomial polynomial
     littleEndian fromLittleEndian encodeField encodeFields fieldsFrom decodeFields hasTag
     lastDot extension stripExtension backupExtension stagingExtension backupName originalName stripTmp isNameByte refusedNames validName lowerByte lower
     fieldTable fieldTags kind values tagged encodePayload makers validValue opOfFields decodePayload
-    header entry validHeader firstPayload walk entries readJournal markCommitting markHeld appendOperation
+    header entry validHeader firstPayload walk entries readJournal markCommitting markHeld appendOperation writeLog
     cmpKey look put del dirs files validNode validNodes validStaged ascending wellFormed hasBackupFiles firstBackup hasPendingWork
     imageFields encode treeOf stagingOf logOf storeOf decode
     removeDir renameDir apply zeroSeparated tagAndNames stepField stepFault
     opSteps undoSteps restoreFile restoreDirectory removeBackupFile removeBackupsIn firstNamings syncExisting commitFault planEnding endingAt isNewArtifact recoverPlan recoveredAt recovered revertPlan revertedAt reverted keepPlan keptAt kept
     transaction beginTransaction discard recordWrite keyList
-    begin rollback write endingStore commit hold recoverStore recover keepStore keep revertStore revert commitStep holdStep recoverStep keepStep revertStep pending listKeys findBackup decimal listingLine listing
+    begin rollback write endingStore commit hold recoverStore recover keepStore keep revertStore revert commitStep holdStep recoverStep keepStep revertStep pending listKeys findBackup canonicalLog decimal listingLine listing
     contents collections escaped quoted object fileMember collectionMember inventoryText inventory
 worked = agree table refl

@@ -1,4 +1,5 @@
 pub mod EntryLaws
+pub mod CanonicalLog
 pub mod CauseLaws
 pub mod Spread
 pub mod SpreadExamples

@@ -2,7 +2,7 @@
 use Prim.Native.Nat.{ℕ, zero, suc, _+_, _/_, _%_}
 use mathlib.Core.List.{List, [], _∷_, _++_}
 use mathlib.Core.Bool.{Bool, false, _&&_}
-use lib.ListN.{length, drop}
+use lib.ListN.{length, drop, getD}
 use lib.Dec.{leb}
 use Rattle.basics.specs.Limits.{imageRoom, keysRoom, stepRoom, hitRoom, logLimit}
 use Rattle.basics.specs.Order.{Name}
@@ -10,12 +10,13 @@ use Rattle.basics.specs.Map.{Node}
 use Rattle.basics.specs.Base.{Bytes, caseOption, if_then_else_, ifEmpty, flatMap}
 use Rattle.basics.specs.Name.{validName}
 use Rattle.basics.specs.Field.{encodeFields}
-use Rattle.model.specs.Log.{Ending, whole, truncated, undecodable, tooMany, endingCause, validHeader, entries, journal, isHeld}
+use Rattle.model.specs.Log.{journal, isHeld, Ending, whole, truncated, undecodable, tooMany, validHeader, entries, writeLog, endingCause}
 use Rattle.model.specs.Store.{Store, firstBackup, hasPendingWork}
 use Rattle.model.specs.Image.{hitFields, encode, decode}
 use Rattle.model.specs.Step.{Step, fieldAt, commitNumber}
 use Rattle.model.specs.Plan.{commitFault, commitEnd, holdEnd, planEnding, endingAt, unheld, recoverFault, discardedCause, recoverPlan, recoveredAt, recovered, revertPlan, revertedAt, reverted, keepPlan, keptAt, kept, withoutMark}
 use Rattle.model.specs.Record.{Outcome, refuse, give, transaction, beginTransaction, discard, recordWrite, recordDelete, recordDeleteAll, recordCreate, recordDeleteCollection, recordCopy, keyList}
+use Rattle.model.specs.Operation.{Op}
 
 -- The number (0 is done), the bytes written to the output, and those written to the step output.
 pub record Answer : Type 0 where
@@ -198,6 +199,21 @@ listKeys c b out = onImage b (leb keysRoom out) λ s. if validName c then record
 -- `cda_storage_find_backup`: 1, 2. 02, item 2: the fields of the hit, none where no backup stands.
 unfoldable pub findBackup : Bytes → ℕ → Answer
 findBackup b out = onImage b (leb hitRoom out) λ s. record { number = 0; image = encodeFields (hitFields (firstBackup (s .tree))); step = [] }
+
+-- A whole log's answer, by how its walk ended. 02, item 12: "Within the walk the first met of truncation (21), 11 and 12 decides, for each status."
+abbrev pub canonicalBy : ℕ → List Op → Ending → Answer
+canonicalBy status ops whole = record { number = 0; image = writeLog status ops; step = [] }
+canonicalBy status ops (truncated c) = refusal 21
+canonicalBy status ops undecodable = refusal 11
+canonicalBy status ops tooMany = refusal 12
+
+-- `cda_storage_canonical_log`: 1, 2, 21, 11, 12. 02, item 12: "Here 1 means a log over 6,952 bytes and 2 an output shorter than the log. Turned away: 21, no
+-- valid header, tested after 2, or truncated."
+unfoldable pub canonicalLog : Bytes → ℕ → Answer
+canonicalLog l out =
+    if leb (length l) logLimit then
+    (if leb (length l) out then (if validHeader l then canonicalBy (getD l 1 0) (entries l .ops) (entries l .end) else refusal 21) else refusal 2)
+    else refusal 1
 
 -- A number of at most so many digits, in decimal.
 unfoldable pub decimal : ℕ → ℕ → Bytes

@@ -1,9 +1,8 @@
 -- Splitting what was joined gives the fields back.
-use mathlib.Core.Path.{_≡_, refl, sym, _∙_, ap, ap₂, subst}
+use mathlib.Core.Path.{_≡_, refl, sym, _∙_, ap}
 use Prim.Native.Nat.{ℕ, zero, suc, _+_, _*_, _/_, _%_, _≤_, _<_}
 use native.Mathlib.Omega.{arith}
-use native.Mathlib.Nat.{div-add-mod', mod-eq-of-lt}
-use mathlib.Core.List.{List, [], _∷_, _++_, map, append-nil, append-assoc}
+use mathlib.Core.List.{List, [], _∷_, _++_, append-nil, append-assoc}
 use mathlib.Core.Option.{Option, none, some}
 use lib.ListN.{length, take, drop, take-append-drop}
 use lib.Seq.{take-append-seam, length-take-le}
@@ -66,15 +65,21 @@ encode-one f = append-nil (encodeField f)
 abbrev pub Byte : ℕ → Type 0
 Byte x = x < 256
 
-two-bytes : (a b n : ℕ) → a < 256 → b < 256 → n ≡ fromLittleEndian (a ∷ b ∷ []) → littleEndian 2 n ≡ a ∷ b ∷ []
+-- The bytes of the number of some bytes are these bytes.
+pub bytes-again : (l : Bytes) → All Byte l → littleEndian (length l) (fromLittleEndian l) ≡ l
 unfolding littleEndian fromLittleEndian
-two-bytes a b n p q e =
-    let z : n / 256 ≡ b = omega arith in
-    let d : b * 256 + n % 256 ≡ n = rw z at (div-add-mod' n 256) in
-    let x : n % 256 ≡ a = omega arith in
-    let w : b % 256 ≡ b = mod-eq-of-lt q in
-    let y : n / 256 % 256 ≡ b = rw z w in
-    ap₂ (λ (u v : ℕ). u ∷ v ∷ []) x y
+bytes-again [] h = refl
+bytes-again (b ∷ r) h = go (fromLittleEndian r) (bytes-again r (h .1))
+  where
+    go : (n : ℕ) → littleEndian (length r) n ≡ r → (b + 256 * n) % 256 ∷ littleEndian (length r) ((b + 256 * n) / 256) ≡ b ∷ r
+    go n e =
+        let p : b < 256 = h .0 in
+        let low : (b + 256 * n) % 256 ≡ b = omega arith in
+        let high : (b + 256 * n) / 256 ≡ n = omega arith in
+        rw (low, high, e)
+
+two-bytes : (a b n : ℕ) → a < 256 → b < 256 → n ≡ fromLittleEndian (a ∷ b ∷ []) → littleEndian 2 n ≡ a ∷ b ∷ []
+two-bytes a b n p q e = rw e (bytes-again (a ∷ b ∷ []) (p, (q, tt)))
 
 pub record Joined (m : ℕ) (p : Bytes) (fs : List Field) : Type 0 where
   pub fits : m ≤ length p

@@ -15,10 +15,9 @@ use Rattle.basics.specs.Field.{Field, littleEndian, fromLittleEndian}
 use Rattle.model.specs.Store.{validNumber, validNode, validStaged}
 use Rattle.model.specs.Image.{nodeField}
 use Rattle.basic_laws.specs.Tests.{All, eqb-eq}
-use Rattle.basic_laws.specs.FieldLaws.{Byte, le-four}
+use Rattle.basic_laws.specs.FieldLaws.{Byte, le-four, bytes-again}
 use Rattle.laws.specs.ImageLaws.{listed, number-le, node-parts, file-parts, staged-parts}
 use Rattle.field.specs.Writing.{field}
-use Rattle.field.proofs.Numbers.{bytes-again}
 use Rattle.decode.specs.Listing.{fileTag, own, validAt}
 use Rattle.decode.specs.Spots.{InDir}
 

@@ -13,13 +13,12 @@ use types.Run.{OneOf}
 use denote.Enum.Declared.{tagOf}
 use Rattle.basics.specs.Base.{Bytes}
 use Rattle.basics.specs.Field.{littleEndian, fromLittleEndian, encodeField, fieldsFrom}
-use Rattle.basic_laws.specs.FieldLaws.{Byte, split-first}
+use Rattle.basic_laws.specs.FieldLaws.{Byte, split-first, bytes-again}
 use Rattle.field.specs.Reading.{u32At, fieldOf, Reads, Stands, Headless, Valueless}
 use Rattle.field.specs.declared.Item.{Item}
 use Rattle.field.specs.declared.Read.{Read}
 use Rattle.field.specs.declared.Read.the-variants.{Is, NoHeader, NoValue}
 use Rattle.field.proofs.Read.{the-type}
-use Rattle.field.proofs.Numbers.{bytes-again}
 
 -- One byte and those behind it.
 next : (s : Bytes) (at k : ℕ) → k ≡ at + 1 → at < length s → drop at s ≡ getD s at 0 ∷ drop k s

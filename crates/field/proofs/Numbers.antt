@@ -1,27 +1,10 @@
 -- Little-endian numbers: what crate basic_laws has no law for.
-use mathlib.Core.Path.{_≡_, refl, sym, ap, _∙_}
+use mathlib.Core.Path.{_≡_, sym, ap, _∙_}
 use mathlib.Core.List.{[], _∷_, _++_}
 use Prim.Native.Nat.{ℕ, _+_, _*_, _/_, _%_, _<_}
 use native.Mathlib.Omega.{arith}
 use native.Mathlib.Nat.{div-add-mod'}
-use lib.ListN.{length}
-use Rattle.basics.specs.Base.{Bytes}
-use Rattle.basics.specs.Field.{littleEndian, fromLittleEndian}
-use Rattle.basic_laws.specs.Tests.{All}
-use Rattle.basic_laws.specs.FieldLaws.{Byte}
-
--- The bytes of the number of some bytes are these bytes.
-pub bytes-again : (l : Bytes) → All Byte l → littleEndian (length l) (fromLittleEndian l) ≡ l
-unfolding littleEndian fromLittleEndian
-bytes-again [] h = refl
-bytes-again (b ∷ r) h = go (fromLittleEndian r) (bytes-again r (h .1))
-  where
-    go : (n : ℕ) → littleEndian (length r) n ≡ r → (b + 256 * n) % 256 ∷ littleEndian (length r) ((b + 256 * n) / 256) ≡ b ∷ r
-    go n e =
-        let p : b < 256 = h .0 in
-        let low : (b + 256 * n) % 256 ≡ b = omega arith in
-        let high : (b + 256 * n) / 256 ≡ n = omega arith in
-        rw (low, high, e)
+use Rattle.basics.specs.Field.{littleEndian}
 
 -- Two bytes, the higher without a remainder taken.
 pub two-bytes : (n : ℕ) → n < 0x1_0000 → n % 0x100 ∷ n / 0x100 ∷ [] ≡ littleEndian 2 n

@@ -16,7 +16,7 @@ use Rattle.basics.specs.Field.{littleEndian, fromLittleEndian, encodeField, enc
 use Rattle.basics.specs.Worked.{text, digit, pairs, hex, bit, times, Row, row, equal, agree}
 use Rattle.model.specs.Operation as operation
 use Rattle.model.specs.Operation.{Op, fieldTable, fieldTags, kind, values, tagged, encodePayload, makers, validValue, opOfFields, decodePayload}
-use Rattle.model.specs.Log.{header, entry, validHeader, firstPayload, walk, entries, readJournal, markCommitting, markHeld, appendOperation, Journal, absent, recording, committing, held, journal, Ending, whole, truncated, undecodable, tooMany, Cause, causeNumber, firstCause}
+use Rattle.model.specs.Log.{header, entry, validHeader, firstPayload, walk, entries, readJournal, markCommitting, markHeld, appendOperation, writeLog, Journal, absent, recording, committing, held, journal, Ending, whole, truncated, undecodable, tooMany, Cause, causeNumber, firstCause}
 use Rattle.model.specs.Store.{Store, dirs, files, validNode, validNodes, validStaged, ascending, wellFormed, hasBackupFiles, firstBackup}
 use Rattle.model.specs.Image.{hitFields, imageFields, encode, treeOf, stagingOf, logOf, storeOf, decode}
 use Rattle.model.specs.Step.{removeDir, renameDir, apply, zeroSeparated, tagAndNames, stepField, fieldAt, stepFault, commitNumber}
@@ -51,13 +51,8 @@ file d f x = ((text d, text f), x)
 staged : String → ℕ → Node
 staged f x = (([], text f), x)
 
-appendAll : List Op → Bytes → Bytes
-appendAll [] l = l
-appendAll (o ∷ r) l = appendAll r (appendOperation o l)
-
 logged : ℕ → List Op → Option Bytes
-unfolding appendAll
-logged status ops = some (appendAll ops (header status))
+logged status ops = some (writeLog status ops)
 
 -- A store with nothing else; with a standing log; with a transaction open whose operations these are.
 plain : Map → Store
@@ -114,8 +109,8 @@ writtenDeleted = recorded (dir "c" ∷ file "c" "a" 7 ∷ []) (staged "s" 9 ∷ 
 
 -- db/a=7 and a Committing log of a Write to a, with one byte behind it.
 truncatedWrite : Option Bool → Store
-unfolding withLog db appendAll toDb
-truncatedWrite mark = withLog (db 7) (some (appendAll (toDb mark "a" "s" ∷ []) (header 1) ++ hex "00"))
+unfolding withLog db toDb
+truncatedWrite mark = withLog (db 7) (some (writeLog 1 (toDb mark "a" "s" ∷ []) ++ hex "00"))
 
 -- What is answered: the number, and behind 0, 14 and 15 the image.
 outcome : Outcome → Bytes
@@ -254,7 +249,7 @@ logs =
     ∷ []
 
 recordings : List Row
-unfolding begun db dir file plain outcome commits recorded logged appendAll deletedCopied twoWrites cutAt
+unfolding begun db dir file plain outcome commits recorded logged deletedCopied twoWrites cutAt
 recordings =
     row "the store db/a=7 [P]"
     (encode (plain (db 7)))
@@ -411,13 +406,13 @@ table = names ++ logs ++ recordings ++ recoveries ++ holding ++ searches
 worked : map (λ r. r .computed) table ≡ map (λ r. r .stated) table
 unfolding table names logs recordings recoveries holding searches
     text digit pairs hex bit times row equal
-    ending readAs readLog dir file staged appendAll logged plain withLog recorded into toDb db begun outcome done commits recovers cutAt cutAgain reverts keeps stepAt met
+    ending readAs readLog dir file staged logged plain withLog recorded into toDb db begun outcome done commits recovers cutAt cutAgain reverts keeps stepAt met
     tenSteps markedTen heldTen heldOld twoWrites failingWrite deletedCopied writtenDeleted truncatedWrite
     polynomial generator addFront divide remainder bitsOf ofBits messageBits complementFirst zeros dividend ieeeCrc32 xor crc32 register feedByte shifts shift addPolynomial
     littleEndian fromLittleEndian encodeField encodeFields fieldsFrom decodeFields hasTag
     lastDot extension stripExtension backupExtension stagingExtension backupName originalName stripTmp isNameByte refusedNames validName lowerByte lower
     fieldTable fieldTags kind values tagged encodePayload makers validValue opOfFields decodePayload
-    header entry validHeader firstPayload firstCause walk entries readJournal markCommitting markHeld appendOperation
+    header entry validHeader firstPayload firstCause walk entries readJournal markCommitting markHeld appendOperation writeLog
     cmpKey look put del dirs files validNode validNodes validStaged ascending wellFormed hasBackupFiles firstBackup
     imageFields encode treeOf stagingOf logOf storeOf decode
     removeDir renameDir apply zeroSeparated tagAndNames stepField stepFault

@@ -11,10 +11,9 @@ use borrow.Author.Tests.{eqb-true, eq-eqb}
 use Rattle.basics.specs.Base.{Bytes, sameBytes, atLeast}
 use Rattle.basics.specs.Field.{littleEndian, fromLittleEndian}
 use Rattle.basic_laws.specs.Tests.{All}
-use Rattle.basic_laws.specs.FieldLaws.{Byte, le-four}
+use Rattle.basic_laws.specs.FieldLaws.{Byte, le-four, bytes-again}
 use Rattle.field.specs.Reading.{u32At}
 use Rattle.field.proofs.Fields.{number-there}
-use Rattle.field.proofs.Numbers.{bytes-again}
 use Rattle.transaction.proofs.Same.{same-as}
 
 part-bytes : (n at : ℕ) (l : Bytes) → ((i : ℕ) → Byte (getD l i 0)) → All Byte (take n (drop at l))

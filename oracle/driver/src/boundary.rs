@@ -39,6 +39,7 @@ fn names(panel: &mut Panel, length: usize) {
         format!("recording /create_collection/{word} open"),
         format!("{word}.bak/a=1 {word}/b=2 committing"),
         format!("db/{word}.bak=1 db/{word}=2 committing /write/db/{word}/s/1"),
+        format!("db/{word}.bak=1 db/{word}=2 {word}.bak/a=1 held /write/db/{word}/s/1 /delete_collection/{word}"),
     ];
     for store in stores {
         let image = text::read_store(&store).encode();
@@ -83,7 +84,12 @@ fn plans(panel: &mut Panel, image: &[u8]) {
         for cut in cuts.iter().step_by(1 + cuts.len() / 16) {
             panel.plan(Plan::Recover, cut);
         }
-        panel.plan(Plan::Recover, &image);
+        let held = panel.plan(Plan::Hold, &image).pop();
+        for image in held.into_iter().chain([image]) {
+            for plan in [Plan::Recover, Plan::Keep, Plan::Revert] {
+                panel.plan(plan, &image);
+            }
+        }
     }
 }
 
@@ -101,7 +107,9 @@ fn counts(panel: &mut Panel, slack: isize) {
     let filled = |byte: u8| Image { log: Some(vec![byte; at(LOG_LIMIT)]), ..empty.clone() };
     let recording = [logged(Status::Recording, &[]), logged(Status::Recording, &[0])];
     let committing = [logged(Status::Committing, &[]), logged(Status::Committing, &[0])];
-    for image in [dirs, files, staging, filled(0), filled(0xCA)].into_iter().chain(recording).chain(committing) {
+    let held = [logged(Status::Held, &[]), logged(Status::Held, &[0])];
+    let logs = recording.into_iter().chain(committing).chain(held);
+    for image in [dirs, files, staging, filled(0), filled(0xCA)].into_iter().chain(logs) {
         plans(panel, &image.encode());
         calls(panel, &image.encode(), &b"db".to_vec());
         panel.ask(&Call::LogCause, image.log.as_deref().unwrap_or_default(), Lent::AMPLE);
@@ -150,7 +158,8 @@ fn lent_lengths(panel: &mut Panel) {
     let lengths = |room: usize| [0, 1, room - 1, room, room + 1, 2 * room];
     let store = "db/a=7 db/B=2 ~s.tmp=9 recording /write/db/a/s.tmp/1 open";
     let hit = format!("{}/{}.bak={}", "d".repeat(64), "f".repeat(60), u32::MAX);
-    let stores = [store, &store.replace("open", ""), &hit].map(|store| text::read_store(store).encode());
+    let held = "db/a=9 db/a.bak=7 held /write/db/a/s.tmp/1";
+    let stores = [store, &store.replace("open", ""), &hit, held].map(|store| text::read_store(store).encode());
     for image in stores.into_iter().chain([b"\x10".to_vec()]) {
         for out in [IMAGE_ROOM, KEYS_ROOM, HIT_ROOM].into_iter().flat_map(lengths) {
             let some = Lent { out, step: STEP_ROOM };
@@ -170,13 +179,17 @@ fn lent_lengths(panel: &mut Panel) {
                 Call::ListKeys { collection: b"".to_vec() },
                 Call::FindBackup,
                 Call::Inventory,
+                Call::Hold,
+                Call::Keep,
+                Call::Revert,
             ] {
                 panel.ask(&call, &image, some);
             }
             for step in lengths(STEP_ROOM) {
                 for n in [0, 4, 10, 11] {
-                    panel.ask(&Call::CommitStep(n), &image, Lent { out, step });
-                    panel.ask(&Call::RecoverStep(n), &image, Lent { out, step });
+                    for plan in Plan::ALL {
+                        panel.ask(&plan.step(n), &image, Lent { out, step });
+                    }
                 }
             }
         }
@@ -197,7 +210,7 @@ fn largest(panel: &mut Panel) {
             mark,
         };
         let writes: Vec<Operation> = (0..OPERATION_LIMIT).map(write).collect();
-        for status in [Status::Recording, Status::Committing] {
+        for status in [Status::Recording, Status::Committing, Status::Held] {
             let image = Image {
                 dirs: dirs.iter().enumerate().map(|(i, dir)| (dir.clone(), files(i))).collect(),
                 staging: staged.iter().map(|s| (s.clone(), 1)).collect(),
@@ -205,8 +218,9 @@ fn largest(panel: &mut Panel) {
                 open: true,
             };
             assert_eq!(image.encode().len() == IMAGE_ROOM, length == 64 && mark.is_some());
-            panel.plan(Plan::Commit, &image.encode());
-            panel.plan(Plan::Recover, &image.encode());
+            for plan in Plan::ALL {
+                panel.plan(plan, &image.encode());
+            }
             calls(panel, &image.encode(), &dirs[0]);
             let one_dir = (0..FILE_LIMIT).map(|i| (name('K', i, 64), 1)).collect();
             let keys = Image { dirs: [(b"db".to_vec(), one_dir)].into(), ..image };
@@ -232,9 +246,12 @@ fn inventories(panel: &mut Panel) {
 
 /// Step numbers past the end.
 fn step_numbers(panel: &mut Panel) {
-    let image = text::read_store("db/a=7 ~s.tmp=9 recording /write/db/a/s.tmp/1 open").encode();
-    for n in [9, 10, 11, 12, 256, 266, 1 << 32, (1 << 32) + 10, u64::MAX - 1, u64::MAX] {
-        panel.ask(&Call::CommitStep(n), &image, Lent::AMPLE);
-        panel.ask(&Call::RecoverStep(n), &image, Lent::AMPLE);
+    let stores = ["db/a=7 ~s.tmp=9 recording /write/db/a/s.tmp/1 open", "db/a=9 db/a.bak=7 held /write/db/a/s.tmp/1"];
+    for image in stores.map(|store| text::read_store(store).encode()) {
+        for n in [3, 4, 9, 10, 11, 12, 256, 266, 1 << 32, (1 << 32) + 10, u64::MAX - 1, u64::MAX] {
+            for plan in Plan::ALL {
+                panel.ask(&plan.step(n), &image, Lent::AMPLE);
+            }
+        }
     }
 }

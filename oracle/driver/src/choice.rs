@@ -11,8 +11,8 @@ use std::collections::{BTreeMap, BTreeSet};
 use store::{Answer, Call, HIT_ROOM, IMAGE_ROOM, KEYS_ROOM, Plan, STEP_ROOM, Store, ask};
 
 /// No more questions are chosen, nor more bytes of images, nor longer ones without need; no more of a kind are kept to choose from.
-const QUESTIONS: usize = 3_000;
-const BYTES: usize = 480_000;
+const QUESTIONS: usize = 4_000;
+const BYTES: usize = 640_000;
 const SHORT: usize = 300;
 const OF_A_KIND: usize = 3;
 
@@ -20,7 +20,7 @@ const OF_A_KIND: usize = 3;
 const LONGEST: usize = 19_430;
 const LONGEST_STEP: usize = 300;
 
-pub const LOGS: [&str; 16] = [
+pub const LOGS: [&str; 22] = [
     "image refused",
     "absent",
     "under 8 bytes",
@@ -37,7 +37,16 @@ pub const LOGS: [&str; 16] = [
     "Committing, checksum wrong",
     "Committing, undecodable",
     "Committing, over 32",
+    "Held",
+    "Held, entry header short",
+    "Held, payload missing",
+    "Held, checksum wrong",
+    "Held, undecodable",
+    "Held, over 32",
 ];
+
+/// The number of a keep or revert that finds nothing held.
+const NOTHING_HELD: u32 = 18;
 
 /// Where the signs say what the answer hands back: nothing, the image as it was, another.
 const HANDED_BACK: usize = 4;
@@ -45,7 +54,7 @@ const HANDED_BACK: usize = 4;
 /// What is looked at in a question and its answer.
 #[derive(Clone, PartialEq, Eq, PartialOrd, Ord)]
 pub struct Kind {
-    /// 1 to 16, as in crates/questions/src/lib.rt.
+    /// As in crates/questions/src/lib.rt, from 1.
     pub entry: u8,
     pub number: u32,
     /// An index of LOGS.
@@ -80,7 +89,7 @@ impl Choice {
         }
     }
 
-    /// First what brings a new fact, then each turn, the shortest questions first.
+    /// First what brings a new fact, then each turn, those by item 4 first and the shortest questions first.
     pub fn chosen(self) -> Vec<(Kind, Question)> {
         let mut facts = BTreeSet::new();
         let (mut first, mut rest) = (Vec::new(), Vec::new());
@@ -94,7 +103,7 @@ impl Choice {
         rest.sort_by_cached_key(|(_, kind, _)| {
             let turn = turns.entry(kind.turn()).or_default();
             *turn += 1;
-            *turn / kind.share()
+            (*turn / kind.share(), !kind.by_item_4)
         });
         let mut bytes = 0;
         let within = |(size, ..): &(usize, Kind, Question)| {
@@ -121,7 +130,7 @@ impl Choice {
 impl Kind {
     /// The tag of the step that was asked for.
     pub fn asked_for(&self) -> Option<u8> {
-        self.steps.first().copied().filter(|_| [10, 13].contains(&self.entry))
+        self.steps.first().copied().filter(|_| [10, 13, 19, 21, 23].contains(&self.entry))
     }
 
     /// The entry, number and log, whether item 4 shows, and the step that was asked for or the operations that are carried out.
@@ -132,17 +141,21 @@ impl Kind {
 
     /// How many go into a turn: few of the many refusals and of the many sets of operations.
     fn share(&self) -> usize {
+        if self.number == NOTHING_HELD {
+            return 1;
+        }
         let hands_back = self.signs[HANDED_BACK] != 0;
         if hands_back && self.operations.len() < 2 || self.asked_for().is_some() { 12 } else { 3 }
     }
 
     /// What the list must hold of each kind that came up, in at least one question: an entry with a number and a log, an operation,
-    /// a step, a kind of name.
+    /// a step, a kind of name, a number that item 4 gives.
     fn facts(&self) -> Vec<(u8, u32, u8, usize)> {
         let mut facts = vec![(self.entry, self.number, 0, self.log)];
         facts.extend(self.operations.iter().map(|kind| (self.entry, self.number, 1, usize::from(*kind))));
         facts.extend(self.steps.iter().map(|tag| (self.entry, 0, 2, usize::from(*tag))));
         facts.extend(self.names.iter().enumerate().map(|(at, like)| (self.entry, self.number, 3, at * 16 + usize::from(*like))));
+        facts.push((self.entry, self.number, 5, usize::from(self.by_item_4)));
         facts.extend(self.signs.iter().enumerate().map(|(at, sign)| (self.entry, self.number, 4, at * 16 + usize::from(*sign))));
         facts
     }
@@ -168,15 +181,22 @@ pub fn entry(call: &Call) -> (u8, Vec<&Name>) {
         Call::FindBackup => (15, vec![]),
         Call::LogCause => (16, vec![]),
         Call::Inventory => (17, vec![]),
+        Call::Hold => (18, vec![]),
+        Call::HoldStep(_) => (19, vec![]),
+        Call::Keep => (20, vec![]),
+        Call::KeepStep(_) => (21, vec![]),
+        Call::Revert => (22, vec![]),
+        Call::RevertStep(_) => (23, vec![]),
     }
 }
 
 fn kind(question: &Question, answer: &Answer) -> Kind {
     let (entry, names) = entry(&question.call);
     let image = Image::decode(&question.image);
-    let alone = Some(question.image.as_slice()).filter(|_| question.call == Call::LogCause);
+    let alone = Some(question.image.as_slice()).filter(|_| question.call.takes_log());
     let log = alone.or(image.as_ref().and_then(|image| image.log.as_deref()));
-    let carried = (8..=10).contains(&entry) || (12..=13).contains(&entry);
+    // Keep reads no entry, nor does a refusal for a log that isn't Held.
+    let carried = [8, 9, 10, 12, 13, 18, 19, 22, 23].contains(&entry) && answer.number != NOTHING_HELD;
     Kind {
         entry,
         number: answer.number,
@@ -213,10 +233,8 @@ fn operation_kinds(log: &[u8]) -> BTreeSet<u8> {
 
 /// The tags of the steps, by the plain reading.
 fn steps(question: &Question, answer: &Answer) -> BTreeSet<u8> {
-    let plan = match question.call {
-        Call::Commit => Plan::Commit,
-        Call::Recover => Plan::Recover,
-        _ => return answer.step.iter().filter_map(|field| field.first()).copied().collect(),
+    let Some(plan) = Plan::of(&question.call) else {
+        return answer.step.iter().filter_map(|field| field.first()).copied().collect();
     };
     let answers = Plain.plan(plan, &question.image).1;
     answers.iter().filter_map(|answer| answer.step.as_ref()?.first()).copied().collect()

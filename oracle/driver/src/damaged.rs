@@ -9,7 +9,7 @@ use plain::{
 use store::{Call, Lent, Plan};
 
 /// Stores in which damage shows: backups stand, and what the log names stands or doesn't.
-const STORES: [&str; 11] = [
+const STORES: [&str; 13] = [
     "db/a=7 ~s.tmp=9 recording /write/db/a/s.tmp open",
     "db/a=7 db/a.bak=8 ~s=1 committing",
     "db/a=9 db/a.bak=7 committing /write/db/a/s.tmp open",
@@ -21,6 +21,8 @@ const STORES: [&str; 11] = [
     "db/a=7 ~s.tmp=9 recording /write/db/a/s.tmp/1 /write/db/b/t/0 open",
     "db/a=7 db/b=1 ~s=9 committing /write/db/a/s/1 /write/db/b/t",
     "db/a=9 db/a.bak=7 db/b=1 committing /write/db/b/t/0 /write/db/a/s/1 open",
+    "db/a=9 db/a.bak=7 db/b=1 held /write/db/a/s/1 /write/db/b/t/0",
+    "db/b=1 ~s=2 held /write/db/a/s /delete/db/b open",
 ];
 
 pub fn run(panel: &mut Panel, every: usize) {
@@ -39,8 +41,10 @@ pub fn run(panel: &mut Panel, every: usize) {
     }
     let total = damaged.len() as u64;
     for (i, image) in damaged.iter().enumerate().step_by(every) {
-        panel.plan(Plan::Recover, image);
-        panel.plan(Plan::Commit, image);
+        for plan in Plan::ALL {
+            panel.plan(plan, image);
+        }
+        panel.ask(&Call::Begin, image, Lent::AMPLE);
         panel.ask(&Call::HasPendingWork, image, Lent::AMPLE);
         panel.ask(&Call::FindBackup, image, Lent::AMPLE);
         if let Some(log) = Image::decode(image).and_then(|image| image.log) {

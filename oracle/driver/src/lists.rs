@@ -18,7 +18,7 @@ const TEXT: u8 = 0x40;
 const ASKED: u8 = 0x41;
 const ASKED_BY_DOCUMENTS: u8 = 0x42;
 
-const ENTRIES: [&str; 17] = [
+const ENTRIES: [&str; 23] = [
     "begin",
     "write",
     "delete",
@@ -36,11 +36,17 @@ const ENTRIES: [&str; 17] = [
     "find_backup",
     "log_cause",
     "inventory",
+    "hold",
+    "hold_step",
+    "keep",
+    "keep_step",
+    "revert",
+    "revert_step",
 ];
 
 /// The numbers that an entry answers.
 fn numbers() -> impl Iterator<Item = u32> {
-    (0..=16).chain([21])
+    (0..=18).chain([21])
 }
 
 /// As `choice::Kind` numbers them, from 1.
@@ -105,7 +111,9 @@ fn fields(question: &Question) -> Vec<u8> {
     tags.iter().zip(names).for_each(|(tag, name)| put_field(&mut out, *tag, &[name]));
     match question.call {
         Call::Write { number, .. } => put_field(&mut out, 0x06, &[&number.to_le_bytes()]),
-        Call::CommitStep(n) | Call::RecoverStep(n) => put_field(&mut out, 0x06, &[&n.to_le_bytes()]),
+        Call::CommitStep(n) | Call::RecoverStep(n) | Call::HoldStep(n) | Call::KeepStep(n) | Call::RevertStep(n) => {
+            put_field(&mut out, 0x06, &[&n.to_le_bytes()])
+        }
         _ => {}
     }
     if question.lent != Lent::AMPLE {
@@ -244,7 +252,7 @@ where it has no opinion, or document 02, item 4 departs from it, they are the do
 The questions are those of the runs `random {SEED} {CASES}`, `small narrow {EVERY}`, `boundary` and `damaged` of oracle/driver. They are sorted into
 kinds: entry, number, kind of log, kinds of operations in it, tags of the steps, what the names, the image and the lent lengths are like, and
 whether document 02, item 4 gives another answer than the original. The shortest of each kind are kept. Of these are taken, first, all that
-bring an entry's first answer of a number with some log, operation, name or sign, or its first step of a tag; then, in turn, some of each
+bring an entry's first answer of a number with some log, operation, name or sign, or by item 4, or its first step of a tag; then, in turn, some of each
 entry, number, log, and step or operations (oracle/driver/src/choice.rs). Every number and every step must be there, and each of the useless
 stores of oracle/driver/src/wrong.rs is found out.
 

@@ -20,7 +20,7 @@ mod wrong;
 use panel::Panel;
 use plain::image::unmarked;
 use std::io::Write;
-use store::{Call, Lent, Plan, Store, ask};
+use store::{Call, Lent, NO_OPINION, Plan, Store, ask};
 
 const USAGE: &str = "diff corners FILE                questions with the answers that a paper gives
 diff wrong FILE                  useless stores, found out by such questions
@@ -29,11 +29,11 @@ diff small narrow|wide [N REST]  every small case, or each whose number divided 
 diff boundary                    limits
 diff damaged [N]                 damaged logs and images, all or each N-th
 diff cuts SEED TRANSACTIONS      the original stopped after each step
-diff rule SEED TRANSACTIONS      the cut rule of documents 01 and 02, recoveries cut again too
+diff rule SEED TRANSACTIONS      the cut rule of documents 01 and 02, recoveries cut again too; updates held, kept and reverted
 diff rule small                  the same of every small case
 diff host SEED TURNS             the host and the original on one directory, in turns
 diff lists FILE ROOT             the lists of the programs corners and replay, and what these must print
-diff show CALL IMAGE             every judge's answer; the steps too, of a commit or recovery
+diff show CALL IMAGE             every judge's answer; the steps too, of an entry that has a plan
 diff show restart IMAGE          the original opens a store, whose names may be such as 01 refuses
       --lent OUT STEP            lengths of the lent outputs
       --without-original         the plain reading and the port alone";
@@ -93,33 +93,31 @@ fn show(panel: &Panel, words: &[String], lent: Lent) {
     for judge in panel.judges() {
         lines += &format!("{:8} {}\n", judge.name(), text::answer(&call, &ask(judge, &call, &image, lent)));
     }
-    let plan = match call {
-        Call::Commit => Some(Plan::Commit),
-        Call::Recover => Some(Plan::Recover),
-        _ => None,
-    };
     let marked = panel.original.is_some() && unmarked(&image) != image;
     if marked {
         lines += "the original has no marked Write: it is given Writes of kind 1\n";
     }
-    if let Some(plan) = plan {
+    if let Some(plan) = Plan::of(&call) {
         let judges = panel.judges();
-        lines += &steps(judges[0], plan, &image);
-        if marked {
+        let has_opinion = judges[0].plan(plan, &image).0.number != NO_OPINION;
+        if has_opinion {
+            lines += &steps(judges[0], plan, &image);
+        }
+        if marked || !has_opinion {
             lines += &steps(judges[judges.len() - 1], plan, &image);
         }
     }
     let _ = std::io::stdout().write_all(lines.as_bytes());
 }
 
-/// The image after each step and, of a commit, what recovery makes of a cut there.
+/// The image after each step and, but of a recovery, what recovery makes of a cut there.
 fn steps(judge: &dyn Store, plan: Plan, image: &[u8]) -> String {
-    let cuts = if plan == Plan::Commit { ", and what recovery makes of a cut there" } else { "" };
+    let cuts = if plan != Plan::Recover { ", and what recovery makes of a cut there" } else { "" };
     let mut lines = format!("\nsteps of the {}{cuts}\n", judge.name());
     for (n, step) in judge.plan(plan, image).1.iter().enumerate().filter(|(_, s)| s.number == 0) {
         let cut = step.out.as_ref().unwrap();
         lines += &format!("{n:3}  {:28} {}\n", text::field(step.step.as_ref().unwrap()), text::image(cut));
-        if plan == Plan::Commit {
+        if plan != Plan::Recover {
             lines += &format!("     {:28} -> {}\n", "", text::answer(&Call::Recover, &ask(judge, &Call::Recover, cut, Lent::AMPLE)));
         }
     }

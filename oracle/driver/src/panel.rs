@@ -2,7 +2,8 @@
 //!
 //! The original has no marked Write (document 02, item 4). Whatever is asked about a log with some is first asked, of every judge, about
 //! the old log, with Writes of kind 1 in their place. The original's answer there is then held to the others' about the log itself: but for
-//! the kinds and marks, and but for what item 4 says of a recovery or rollback.
+//! the kinds and marks, and but for what item 4 says of a recovery or rollback. Nor has it a Held log (item 6): whatever is asked about one, the
+//! documents decide.
 use crate::{choice::Choice, shrink::shrink, text};
 use original::{Original, old};
 use plain::{Image, Plain, image::unmarked, log};
@@ -33,7 +34,7 @@ pub enum By {
     Documents,
 }
 
-/// What is asked of an image: one call, or a commit or recovery, whole and after every step.
+/// What is asked of an image: one call, or a plan, whole and after every step.
 #[derive(Clone, Copy)]
 enum Asked<'a> {
     One(&'a Call, Lent),
@@ -90,14 +91,15 @@ fn is_of_item_4(q: &Question) -> bool {
     carried_out && log.is_some_and(|log| log::operations(&log).0.iter().any(|operation| operation.mark() == Some(true)))
 }
 
-/// The same of what a call is lent, which is a log alone for `log_cause`.
+/// The same of what a call is lent, which may be a log alone.
 fn old_lent(call: &Call, lent: &[u8]) -> Vec<u8> {
-    if *call == Call::LogCause { log::unmarked(lent) } else { old_image(lent) }
+    if call.takes_log() { log::unmarked(lent) } else { old_image(lent) }
 }
 
-/// What the original doesn't say of a truncated log: how it broke (document 02, item 1).
-fn says_how(q: &Question, said: &Answer) -> bool {
-    q.call == Call::LogCause && said.number == 0 && said.cause != Some(0)
+/// Whether a Held log is asked about (document 02, item 6).
+fn is_of_held(q: &Question) -> bool {
+    let log = if q.call.takes_log() { Some(q.image.clone()) } else { Image::decode(&q.image).and_then(|image| image.log) };
+    log::is_held(log.as_deref())
 }
 
 /// A recovery's answer without the cause, which the original doesn't hand back.
@@ -105,10 +107,17 @@ fn without_cause(q: &Question, said: &Answer) -> Answer {
     Answer { cause: said.cause.filter(|_| q.call != Call::Recover), ..said.clone() }
 }
 
-/// What the original doesn't say: which backup stands (document 02, item 2), and an inventory (item 9).
+/// What the original doesn't say: how a log broke (document 02, item 1), which backup stands (item 2), all about a held update (item 6), an
+/// inventory (item 9).
 fn is_added(q: &Question, said: &Answer) -> bool {
     let told = said.number == 0 && said.out.as_ref().is_some_and(|out| !out.is_empty());
-    told && matches!(q.call, Call::FindBackup | Call::Inventory)
+    match q.call {
+        Call::Hold | Call::HoldStep(_) | Call::Keep | Call::KeepStep(_) | Call::Revert | Call::RevertStep(_) => true,
+        _ if is_of_held(q) => true,
+        Call::LogCause => said.number == 0 && said.cause != Some(0),
+        Call::FindBackup | Call::Inventory => told,
+        _ => false,
+    }
 }
 
 impl Panel {
@@ -147,7 +156,7 @@ impl Panel {
         let Some(answer) = by_original else { return Some(By::Documents) };
         let question = question();
         if answer.number == NO_OPINION {
-            let added = ADDED.contains(&said.number) || is_added(&question, said) || says_how(&question, said);
+            let added = ADDED.contains(&said.number) || is_added(&question, said);
             return added.then_some(By::Documents);
         }
         match without_cause(&question, said) {
@@ -181,9 +190,11 @@ impl Panel {
         let mut others: Vec<Vec<Answer>> = self.others().iter().map(|judge| asked.answers(*judge, image)).collect();
         let most = others.iter().map(Vec::len).chain(by_original.map(<[Answer]>::len)).max().unwrap();
         let missing = Answer::refusal(16);
+        // Without an opinion of the whole the original has none of a step.
+        let unsaid = by_original.and_then(<[Answer]>::first).filter(|whole| whole.number == NO_OPINION).unwrap_or(&missing);
         for n in 0..most {
             let said: Vec<&Answer> = others.iter().map(|answers| answers.get(n).unwrap_or(&missing)).collect();
-            let by_original = by_original.map(|answers| answers.get(n).unwrap_or(&missing));
+            let by_original = by_original.map(|answers| answers.get(n).unwrap_or(unsaid));
             let question = || asked.question(n, image);
             match self.decided(question, by_original, &said) {
                 Some(by) => self.count(by, said[0], question),
@@ -218,7 +229,7 @@ impl Panel {
         self.compare(asked, image, by_original.as_deref()).remove(0)
     }
 
-    /// Asks all judges for a commit or recovery, whole and after every step. The images after 0, 1, .. steps.
+    /// Asks all judges for a plan, whole and after every step. The images after 0, 1, .. steps.
     pub fn plan(&mut self, plan: Plan, image: &[u8]) -> Vec<Vec<u8>> {
         self.plans(plan, &[image]).remove(0)
     }

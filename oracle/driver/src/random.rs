@@ -1,4 +1,5 @@
-//! Random runs: commits and recoveries with every step, cuts recovered, single calls, and transactions from begin to end.
+//! Random runs: commits, held or not, and recoveries with every step, cuts recovered, updates kept and reverted, single calls, and transactions from
+//! begin to end.
 use crate::generate::{self, Rng};
 use crate::panel::Panel;
 use plain::Image;
@@ -7,14 +8,15 @@ use store::{Call, Lent, Plan};
 pub fn run(panel: &mut Panel, seed: u64, from: u64, cases: u64) {
     for case in from..from + cases {
         let rng = &mut Rng::new(seed, case);
-        match rng.below(8) {
+        match rng.below(9) {
             0..=1 => cut_commit(panel, rng),
             2..=3 => {
                 let image = generate::leftover(rng);
-                panel.plan(Plan::Recover, &image.encode());
+                every_end(panel, &image.encode());
                 broken_log(panel, &generate::broken(rng, image));
             }
             4..=5 => single_calls(panel, rng),
+            6 => held(panel, rng),
             _ => transaction(panel, rng),
         }
         panel.progress("random", case - from, cases);
@@ -34,9 +36,29 @@ fn cut_commit(panel: &mut Panel, rng: &mut Rng) {
     }
 }
 
+/// A held commit, then recovery, keep and revert from one of its cuts and from its end, each cut too.
+fn held(panel: &mut Panel, rng: &mut Rng) {
+    let images = panel.plan(Plan::Hold, &generate::transaction(rng).encode());
+    let Some(end) = images.last() else { return };
+    let cut = &images[rng.below(images.len())];
+    panel.plan(Plan::Recover, cut);
+    panel.ask(&Call::Begin, end, Lent::AMPLE);
+    for image in [cut, end] {
+        let left = every_end(panel, image);
+        if !left.is_empty() {
+            every_end(panel, &left[rng.below(left.len())]);
+        }
+    }
+}
+
+/// Recovery, keep and revert of an image: what their cuts leave.
+fn every_end(panel: &mut Panel, image: &[u8]) -> Vec<Vec<u8>> {
+    [Plan::Recover, Plan::Keep, Plan::Revert].into_iter().flat_map(|plan| panel.plan(plan, image)).collect()
+}
+
 /// A log that may be truncated: how it broke, by itself and by its recovery.
 fn broken_log(panel: &mut Panel, image: &Image) {
-    panel.plan(Plan::Recover, &image.encode());
+    every_end(panel, &image.encode());
     panel.ask(&Call::LogCause, image.log.as_deref().unwrap_or_default(), Lent::AMPLE);
 }
 
@@ -56,7 +78,7 @@ fn transaction(panel: &mut Panel, rng: &mut Rng) {
         let image = Image::decode(&bytes).unwrap_or_default();
         let call = if turn == 0 { Call::Begin } else { generate::call(rng, &image) };
         let answer = panel.ask(&call, &bytes, Lent::AMPLE);
-        if let (Some(next), false) = (answer.out, matches!(call, Call::ListKeys { .. } | Call::FindBackup | Call::Inventory)) {
+        if let (Some(next), true) = (answer.out, call.hands_image_on()) {
             bytes = next;
         }
     }

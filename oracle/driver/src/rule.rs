@@ -1,13 +1,19 @@
-//! The cut rule, in the documents' words and not by comparison: demand 3 of document 01, and items 4 and 5 of document 02.
+//! The cut rule, in the documents' words and not by comparison: demand 3 of document 01, and items 4, 5 and 6 of document 02.
 //!
 //! A commit of Writes alone is cut after each of its steps and recovered: what stands then is the store from before if the log stood, else
 //! the store with all writes done. Where every Write is marked, each recovery is cut too, after each of its steps, and what is left is cut
 //! again and again before one runs to its end: the image is the same. There a commit that fails hands back the store from before, and so
-//! does recovery from each of its cuts. Every judge is held to the rule, the original for Writes of kind 1.
+//! does recovery from each of its cuts. The same transactions are held: a revert gives the store from before, a keep the commit's image; where every
+//! Write is marked, after cuts too. Every judge is held to the rule, the original for Writes of kind 1 and commits alone.
 use crate::generate::{self, Rng};
 use crate::panel::Panel;
 use crate::{small, text};
-use plain::{Image, Name, Operation, log::operations, name::backup, step::Step};
+use plain::{
+    Image, Name, Operation,
+    log::{is_held, operations},
+    name::backup,
+    step::Step,
+};
 use std::time::Instant;
 use store::{Answer, Call, Lent, Plan, Store, ask};
 
@@ -36,11 +42,18 @@ struct Counts {
     recorded: u64,
     cuts: u64,
     again: u64,
+    /// Updates that were held, then kept and reverted; cuts of these three.
+    held: u64,
+    held_cuts: u64,
 }
 
 /// An image as recovery leaves it, with "no 0x12, 0x13 or 0x14".
 fn settled(tree: Image) -> Vec<u8> {
     Image { dirs: tree.dirs, ..Image::default() }.encode()
+}
+
+fn has_held_log(image: &[u8]) -> bool {
+    is_held(Image::decode(image).and_then(|image| image.log).as_deref())
 }
 
 /// No name of a directory or file before, and no key, ends so.
@@ -158,6 +171,9 @@ impl Held<'_> {
         if fails {
             self.counts.failing[whole.number as usize - 14] += 1;
         }
+        if self.judge.name() != "original" {
+            self.held(rng, &before, &whole);
+        }
         let steps: Vec<&Answer> = steps.iter().collect();
         for n in 0..steps.len() {
             if n == 0 || !self.transaction.waits(&steps[..=n]) {
@@ -188,6 +204,50 @@ impl Held<'_> {
             self.require(same, || format!("cut after {n} steps, recoveries cut after {again:?} steps"));
             self.counts.again += 1;
         }
+    }
+
+    /// "revert after an uncut held commit gives exactly the collections, names and contents from before, and keep gives the ordinary commit's
+    /// image"; "A held commit that fails rolls back as before."
+    fn held(&mut self, rng: &mut Rng, before: &Vec<u8>, committed: &Answer) {
+        let (whole, cuts) = self.plan(Plan::Hold, &self.transaction.image.encode());
+        self.require(whole.number == committed.number, || "hold answers another number than commit".into());
+        let held = whole.out.expect("an image");
+        if whole.number != 0 {
+            self.require(held == *before, || "a held commit that fails".into());
+            return;
+        }
+        self.counts.held += 1;
+        self.require(self.ask(&Call::Keep, &held).out == committed.out, || "held and kept".into());
+        self.require(self.ask(&Call::Revert, &held).out.as_ref() == Some(before), || "held and reverted".into());
+        if !self.transaction.is_marked() {
+            return;
+        }
+        let (done, image) = (committed.out.as_ref().expect("an image"), |step: &Answer| step.out.clone().expect("an image"));
+        for (n, cut) in cuts.iter().map(image).enumerate() {
+            self.recovered(rng, n, &cut, if has_held_log(&cut) { &held } else { before });
+        }
+        let (keeps, reverts) = (self.plan(Plan::Keep, &held).1, self.plan(Plan::Revert, &held).1);
+        for (n, cut) in keeps.iter().map(image).enumerate() {
+            self.recovered(rng, n, &cut, if has_held_log(&cut) { &held } else { done });
+        }
+        for (n, cut) in reverts.iter().map(image).enumerate() {
+            self.reverted(rng, n, cut, before);
+        }
+        self.counts.held_cuts += (cuts.len() + keeps.len() + reverts.len()) as u64;
+    }
+
+    /// A revert that was cut is begun again, and may be cut again, as long as its log stands; then it is recovered.
+    fn reverted(&mut self, rng: &mut Rng, n: usize, mut cut: Vec<u8>, before: &Vec<u8>) {
+        while has_held_log(&cut) {
+            let (whole, steps) = self.plan(Plan::Revert, &cut);
+            self.require(whole.number == 0 && whole.out.as_ref() == Some(before), || format!("a revert cut after {n} steps"));
+            let next = steps[rng.below(steps.len())].out.clone().expect("an image");
+            if next == cut && rng.one_in(2) {
+                return;
+            }
+            cut = next;
+        }
+        self.recovered(rng, n, &cut, before);
     }
 
     /// A transaction that can be recorded has true marks.
@@ -233,11 +293,13 @@ impl Rule<'_> {
             let ([old, marked, both], [step_failed, full]) = (counts.transactions, counts.failing);
             println!(
                 "{what}: {} keeps the cut rule; transactions under its conditions: {old} of kind 1, {marked} marked, {both} of both, of these {step_failed} that \
-                 answer 14, {full} that answer 15, {} also recorded by begin and Writes; {} cuts of commits recovered, {} recoveries cut again and recovered",
+                 answer 14, {full} that answer 15, {} also recorded by begin and Writes; {} cuts recovered, {} recoveries cut again and recovered; {} held, kept and reverted, {} cuts of that",
                 judge.name(),
                 counts.recorded,
                 counts.cuts,
-                counts.again
+                counts.again,
+                counts.held,
+                counts.held_cuts
             );
         }
         println!("{what}: {:.1} s", self.started.elapsed().as_secs_f64());

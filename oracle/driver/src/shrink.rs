@@ -17,9 +17,13 @@ pub fn shrink(mut question: Question, differ: impl Fn(&Question) -> bool) -> Que
 fn smaller(q: &Question) -> Vec<Question> {
     let mut found = vec![Question { lent: Lent::AMPLE, ..q.clone() }];
     let fewer = |n: u64| [n / 2, n.saturating_sub(1)];
+    let with = |call: Call| Question { call, ..q.clone() };
     match q.call {
-        Call::CommitStep(n) => found.extend(fewer(n).map(|n| Question { call: Call::CommitStep(n), ..q.clone() })),
-        Call::RecoverStep(n) => found.extend(fewer(n).map(|n| Question { call: Call::RecoverStep(n), ..q.clone() })),
+        Call::CommitStep(n) => found.extend(fewer(n).map(|n| with(Call::CommitStep(n)))),
+        Call::RecoverStep(n) => found.extend(fewer(n).map(|n| with(Call::RecoverStep(n)))),
+        Call::HoldStep(n) => found.extend(fewer(n).map(|n| with(Call::HoldStep(n)))),
+        Call::KeepStep(n) => found.extend(fewer(n).map(|n| with(Call::KeepStep(n)))),
+        Call::RevertStep(n) => found.extend(fewer(n).map(|n| with(Call::RevertStep(n)))),
         _ => {}
     }
     match Image::decode(&q.image) {

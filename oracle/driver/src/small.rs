@@ -1,5 +1,5 @@
 //! Every small case: stores of up to two directories with up to two files each, lists of up to two operations, Writes of both kinds and with
-//! either mark, every cut. Of each store, the backup that it has and its inventory.
+//! either mark, every cut; each held, and what is held kept and reverted. Of each store, the backup that it has and its inventory.
 use crate::panel::Panel;
 use crate::text;
 use plain::{Image, Name, Operation, image::Files, log::Status};
@@ -39,6 +39,10 @@ pub fn run(panel: &mut Panel, names: &Names, every: u64, rest: u64) {
             let after_n: Vec<&[u8]> = cuts.iter().filter_map(|cuts| Some(cuts.get(n)?.as_slice())).filter(&mut is_new).collect();
             panel.plans(Plan::Recover, &after_n);
         }
+        let held: Vec<Vec<u8>> =
+            panel.plans(Plan::Hold, &images).into_iter().filter_map(|mut cuts| cuts.pop()).filter(|end| is_new(&end.as_slice())).collect();
+        panel.plans(Plan::Keep, &held);
+        panel.plans(Plan::Revert, &held);
         panel.progress("small", case, total);
     }
     let part = if every == 1 { String::new() } else { format!(", every {every}th from {rest} on") };

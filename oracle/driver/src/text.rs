@@ -1,11 +1,12 @@
 //! Images, calls and answers as text, so that a difference can be read, and pasted back.
 //!
-//! An image is words: `db/` a directory, `db/a=7` a file, `~s.tmp=9` a staging file, `recording` or `committing` a log,
+//! An image is words: `db/` a directory, `db/a=7` a file, `~s.tmp=9` a staging file, `recording`, `committing` or `held` a log,
 //! `/write/db/a/s.tmp` an operation in it, a Write of kind 1, `/write/db/a/s.tmp/1` a marked Write with its mark (and
 //! `/delete/db/a`, `/delete_all/db`, `/create_collection/db`, `/delete_collection/db`, `/copy_collection/db/e/0` with whether the
 //! destination existed), `times:32` that operation so many times in all, `more:HEX` bytes behind the log, `log:HEX` any other
 //! log, `open` the open mark. `dirs:16`, `files:128`, `staged:32` and `bytes:6952` are so many directories, files of db, staging
 //! files and zero bytes of log. `hex:HEX` is an image by its bytes. A name that can't be a word is `hex:HEX` too.
+pub use plain::log::written as log;
 use plain::{
     Image, Name, Operation,
     log::{Ending, Status, append, header, operations, status},
@@ -68,18 +69,12 @@ fn read_operation(text: &str) -> Operation {
     }
 }
 
-pub fn log(status: Status, operations: &[Operation]) -> Vec<u8> {
-    let mut log = header(status);
-    operations.iter().for_each(|o| append(&mut log, &o.encode()));
-    log
-}
-
 fn log_words(bytes: &[u8]) -> Vec<String> {
     if let Some(status) = status(bytes)
         && let (found, Ending::Whole) = operations(bytes)
         && log(status, &found) == bytes
     {
-        let word = if status == Status::Recording { "recording" } else { "committing" };
+        let word = ["recording", "committing", "held"][status as usize];
         return std::iter::once(word.to_string()).chain(found.iter().map(operation)).collect();
     }
     vec![format!("log:{}", hex(bytes))]
@@ -136,6 +131,7 @@ fn read_word(image: &mut Image, word: &str) {
     match kind {
         "recording" => image.log = Some(header(Status::Recording)),
         "committing" => image.log = Some(header(Status::Committing)),
+        "held" => image.log = Some(header(Status::Held)),
         "open" => image.open = true,
         "times" => {
             let log = image.log.as_mut().expect("a log");
@@ -156,19 +152,13 @@ pub fn read_image(text: &str) -> Vec<u8> {
     text.strip_prefix("hex:").map_or_else(|| read_store(text).encode(), unhex)
 }
 
-/// What a call is lent, in the words of an image; of `log_cause` the log in them, alone.
+/// What a call is lent, in the words of an image; of one that takes a log the log in them, alone.
 pub fn read_lent(call: &Call, text: &str) -> Vec<u8> {
-    match call {
-        Call::LogCause => read_store(text).log.expect("a log"),
-        _ => read_image(text),
-    }
+    if call.takes_log() { read_store(text).log.expect("a log") } else { read_image(text) }
 }
 
 pub fn lent(call: &Call, bytes: &[u8]) -> String {
-    match call {
-        Call::LogCause => log_words(bytes).join(" "),
-        _ => image(bytes),
-    }
+    if call.takes_log() { log_words(bytes).join(" ") } else { image(bytes) }
 }
 
 pub fn call(call: &Call) -> String {
@@ -191,6 +181,12 @@ pub fn call(call: &Call) -> String {
         Call::FindBackup => "find_backup".into(),
         Call::LogCause => "log_cause".into(),
         Call::Inventory => "inventory".into(),
+        Call::Hold => "hold".into(),
+        Call::HoldStep(n) => format!("hold_step {n}"),
+        Call::Keep => "keep".into(),
+        Call::KeepStep(n) => format!("keep_step {n}"),
+        Call::Revert => "revert".into(),
+        Call::RevertStep(n) => format!("revert_step {n}"),
     }
 }
 
@@ -221,6 +217,12 @@ pub fn read_call(words: &mut std::slice::Iter<String>) -> Call {
         "find_backup" => Call::FindBackup,
         "log_cause" => Call::LogCause,
         "inventory" => Call::Inventory,
+        "hold" => Call::Hold,
+        "hold_step" => Call::HoldStep(word().parse().expect("a step number")),
+        "keep" => Call::Keep,
+        "keep_step" => Call::KeepStep(word().parse().expect("a step number")),
+        "revert" => Call::Revert,
+        "revert_step" => Call::RevertStep(word().parse().expect("a step number")),
         other => panic!("no entry is called {other}"),
     }
 }

@@ -1,4 +1,4 @@
-//! Useless stores, most of them from document 01's note to the testers, three each of document 02's items 1 and 4, two each of its items 2
+//! Useless stores, most of them from document 01's note to the testers, three each of document 02's items 1 and 4, two each of its items 2, 6
 //! and 9, in the port's place: the panel must differ on each.
 use crate::corners;
 use crate::panel::{Panel, Question};
@@ -13,7 +13,7 @@ use store::{Call, Out, Plan, Store, pass};
 /// Spoils an answer of the plain reading: the call, the lent image, the number, the outputs, the cause.
 type Spoil = fn(&Call, &[u8], u32, &mut Out, &mut Out, &mut u32) -> u32;
 
-const WRONG: [(&str, Spoil); 21] = [
+const WRONG: [(&str, Spoil); 23] = [
     ("refuses each call", |_, _, _, _, _, _| 4),
     ("gives one image always", |_, _, number, out, _, _| {
         if number == 0 {
@@ -116,6 +116,17 @@ const WRONG: [(&str, Spoil); 21] = [
         Plain.inventory(image, &mut Out { bytes: &mut bytes, written: 0 });
         out.put(&bytes[..out.bytes.len()]);
         0
+    }),
+    ("recovery keeps what is held", |call, image, number, out, _, _| match call {
+        Call::Recover if number == 0 && Plain.keep(image, out) == 0 => 0,
+        _ => number,
+    }),
+    ("keep reads the entries", |call, image, number, _, _, _| {
+        let log = Image::decode(image).and_then(|image| image.log);
+        match log.map(|log| Plain.log_cause(&log, &mut 0)) {
+            Some(refused @ (11 | 12)) if *call == Call::Keep && number == 0 => refused,
+            _ => number,
+        }
     }),
 ];
 
@@ -237,5 +248,23 @@ impl Store for Wrong {
 
     fn inventory(&self, image: &[u8], out: &mut Out) -> u32 {
         self.one(Call::Inventory, image, out)
+    }
+    fn hold(&self, image: &[u8], out: &mut Out) -> u32 {
+        self.one(Call::Hold, image, out)
+    }
+    fn hold_step(&self, image: &[u8], n: u64, out: &mut Out, step: &mut Out) -> u32 {
+        self.answer(Call::HoldStep(n), image, out, step, &mut 0, &mut 0)
+    }
+    fn keep(&self, image: &[u8], out: &mut Out) -> u32 {
+        self.one(Call::Keep, image, out)
+    }
+    fn keep_step(&self, image: &[u8], n: u64, out: &mut Out, step: &mut Out) -> u32 {
+        self.answer(Call::KeepStep(n), image, out, step, &mut 0, &mut 0)
+    }
+    fn revert(&self, image: &[u8], out: &mut Out, cause: &mut u32) -> u32 {
+        self.answer(Call::Revert, image, out, &mut Out { bytes: &mut [], written: 0 }, &mut 0, cause)
+    }
+    fn revert_step(&self, image: &[u8], n: u64, out: &mut Out, step: &mut Out) -> u32 {
+        self.answer(Call::RevertStep(n), image, out, step, &mut 0, &mut 0)
     }
 }

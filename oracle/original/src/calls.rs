@@ -7,7 +7,7 @@
 //! - 0x29, remove directory and contents: an unlink for each file, then an rmdir, which is the step.
 //! - An mkdir of what stands is no step.
 use crate::trace::{EIO, Place, Watch, watched};
-use plain::step::Step;
+use plain::{log::Status, step::Step};
 use std::ffi::{CStr, c_char, c_int, c_long, c_uint, c_void};
 
 unsafe extern "C" {
@@ -127,7 +127,7 @@ extern "C" fn write(fd: c_int, bytes: *const c_void, count: usize) -> isize {
     let result = unsafe { syscall(WRITE, fd, bytes, count) } as isize;
     if asked == Some(Ok(true)) {
         assert_eq!((result, count), (8, 8), "the header in one write");
-        watched(|watch| watch.done(Step::RewriteHeader));
+        watched(|watch| watch.done(Step::RewriteHeader(Status::Committing)));
     }
     result
 }

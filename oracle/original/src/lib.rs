@@ -1,4 +1,4 @@
-//! The original behind the sixteen entries: an image is put on disk, the original's own code works on it, the disk is read
+//! The original behind the entries: an image is put on disk, the original's own code works on it, the disk is read
 //! back.
 //!
 //! Where document 01 added a rule, the original has no opinion (`NO_OPINION`): numbers 1, 2, 4, 5, 10, 12, and 6 for a name
@@ -6,7 +6,8 @@
 //! long backup name and 15 are 01's, and what follows them is the original's.
 //!
 //! The original has no marked Write (document 02, item 4): a log with some is put on disk with Writes of kind 1 in their
-//! place, and its answers have such a log too. Nor has it a cause (item 1): it says that a log is truncated, and not how.
+//! place, and its answers have such a log too. Nor has it a cause (item 1): it says that a log is truncated, and not how. Nor can it hold an update
+//! (item 6): it has no opinion of a store with a Held log.
 mod calls;
 mod disk;
 mod listing;
@@ -20,7 +21,7 @@ use cda_storage::{LocalStorage, WalStatus, collection, has_pending_work, open_wa
 use plain::{
     Image,
     image::{self, LOG_LIMIT, STAGING_LIMIT, put_field},
-    log::OPERATION_LIMIT,
+    log::{OPERATION_LIMIT, is_held},
     name::is_valid,
 };
 use std::cell::Cell;
@@ -111,6 +112,7 @@ impl Original {
         match plan {
             Plan::Commit => self.commit_until(image, cut),
             Plan::Recover => self.recover_until(image, cut),
+            Plan::Hold | Plan::Keep | Plan::Revert => None,
         }
     }
 
@@ -280,9 +282,9 @@ fn is_open(storage: &LocalStorage) -> bool {
     matches!(storage.begin_transaction(), Err(StorageError::TransactionBusy))
 }
 
-/// The store of an image, with an old log.
+/// The store of an image, with an old log. Status 0x02 is added: the original would take such a log for none.
 fn decode(image: &[u8], room: bool) -> Opinion<Image> {
-    Image::decode(image).filter(|_| room).map(Image::unmarked)
+    Image::decode(image).filter(|image| room && !is_held(image.log.as_deref())).map(Image::unmarked)
 }
 
 /// An answer as the original gives it: its image has an old log.
@@ -441,7 +443,7 @@ impl Store for Original {
     /// The original doesn't say how a log broke, so it has an opinion where none is: of a whole log, and of a payload that doesn't decode. A
     /// log over a limit, and one without a valid header, are the documents'.
     fn log_cause(&self, log: &[u8], cause: &mut u32) -> u32 {
-        if log.len() > LOG_LIMIT || plain::log::status(log).is_none() || goes_on(log) {
+        if log.len() > LOG_LIMIT || plain::log::status(log).is_none() || is_held(Some(log)) || goes_on(log) {
             return NO_OPINION;
         }
         match read_wal(log) {
@@ -454,8 +456,26 @@ impl Store for Original {
         }
     }
 
-    /// The original makes none.
+    /// The original makes none, and holds no update.
     fn inventory(&self, _: &[u8], _: &mut Out) -> u32 {
+        NO_OPINION
+    }
+    fn hold(&self, _: &[u8], _: &mut Out) -> u32 {
+        NO_OPINION
+    }
+    fn hold_step(&self, _: &[u8], _: u64, _: &mut Out, _: &mut Out) -> u32 {
+        NO_OPINION
+    }
+    fn keep(&self, _: &[u8], _: &mut Out) -> u32 {
+        NO_OPINION
+    }
+    fn keep_step(&self, _: &[u8], _: u64, _: &mut Out, _: &mut Out) -> u32 {
+        NO_OPINION
+    }
+    fn revert(&self, _: &[u8], _: &mut Out, _: &mut u32) -> u32 {
+        NO_OPINION
+    }
+    fn revert_step(&self, _: &[u8], _: u64, _: &mut Out, _: &mut Out) -> u32 {
         NO_OPINION
     }
 

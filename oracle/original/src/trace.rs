@@ -162,7 +162,7 @@ impl Watch {
                 self.read_dir(to);
             }
             Step::RemoveStaging(staged) => self.read_staged(staged),
-            Step::RewriteHeader | Step::RemoveLog => self.now.log = std::fs::read(self.root.log()).ok(),
+            Step::RewriteHeader(_) | Step::RemoveLog => self.now.log = std::fs::read(self.root.log()).ok(),
             _ => {}
         }
         self.trace.steps.push(step);

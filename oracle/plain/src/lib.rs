@@ -1,4 +1,4 @@
-//! A plain reading of document 01, and of items 1, 2, 4 and 9 of document 02: a store in memory, on ordered maps, with nothing in mind but the text.
+//! A plain reading of document 01, and of items 1, 2, 4, 6 and 9 of document 02: a store in memory, on ordered maps, with nothing in mind but the text.
 pub mod image;
 pub mod log;
 pub mod name;
@@ -95,24 +95,87 @@ fn recovery(image: &Image) -> Refused<Recovery> {
     match log::status(log) {
         None => Ok(Recovery::NoLog),
         Some(Status::Recording) => Ok(Recovery::Discard),
-        Some(Status::Committing) => match log::operations(log) {
-            (operations, Ending::Whole) => Ok(Recovery::Undo(operations)),
-            (_, Ending::Undecodable) => Err(11),
-            (_, Ending::TooMany) => Err(12),
-            (operations, Ending::Truncated(_)) => {
-                refuse_unless(!any_backup(image) && !any_new_artifact(image, &operations), 13)?;
-                Ok(Recovery::Discard)
-            }
-        },
+        Some(Status::Committing) => undoing(image, log),
+        Some(Status::Held) => Ok(Recovery::Held),
     }
 }
 
-/// 02, item 1: "Recovery also hands that number back when it discards a truncated Committing log, and 0 whenever else it is done".
-fn discarded(image: &Image) -> u32 {
-    let committing = image.log.as_deref().filter(|log| log::status(log) == Some(Status::Committing));
-    match committing.map(|log| log::operations(log).1) {
+/// What recovery does for a Committing log, this one.
+fn undoing(image: &Image, log: &[u8]) -> Refused<Recovery> {
+    match log::operations(log) {
+        (operations, Ending::Whole) => Ok(Recovery::Undo(operations)),
+        (_, Ending::Undecodable) => Err(11),
+        (_, Ending::TooMany) => Err(12),
+        (operations, Ending::Truncated(_)) => {
+            refuse_unless(!any_backup(image) && !any_new_artifact(image, &operations), 13)?;
+            Ok(Recovery::Discard)
+        }
+    }
+}
+
+/// 02, item 6: "18, keep or revert without a Held log".
+fn held(image: &Image) -> Refused<&[u8]> {
+    image.log.as_deref().filter(|log| log::is_held(Some(log))).ok_or(18)
+}
+
+/// 02, item 6: "Revert does what recovery does for a Committing log."
+fn reverting(image: &Image) -> Refused<Recovery> {
+    undoing(image, held(image)?)
+}
+
+/// 02, item 1: "Recovery also hands that number back when it discards a truncated Committing log, and 0 whenever else it is done". So does revert
+/// of a Held one.
+fn discarded(image: &Image, status: Status) -> u32 {
+    let undone = image.log.as_deref().filter(|log| log::status(log) == Some(status));
+    match undone.map(|log| log::operations(log).1) {
         Some(Ending::Truncated(cause)) => cause as u32,
         _ => 0,
+    }
+}
+
+/// A commit, held or not.
+fn commit(image: &[u8], out: &mut Out, hold: bool) -> u32 {
+    let begun = decode(image, out.bytes.len() >= IMAGE_ROOM).and_then(|image| Ok((transaction(&image)?, image)));
+    match begun {
+        Err(number) => number,
+        Ok((operations, image)) => {
+            let mut run = Run { image, left: u64::MAX, last: None };
+            let Ok(number) = run.commit(&operations, hold) else { unreachable!("no cut") };
+            out.put(&run.image.encode());
+            number
+        }
+    }
+}
+
+fn commit_step(image: &[u8], n: u64, out: &mut Out, step: &mut Out, hold: bool) -> u32 {
+    let begun = decode(image, step_room(out, step)).and_then(|image| Ok((transaction(&image)?, image)));
+    match begun {
+        Err(number) => number,
+        Ok((operations, image)) => step_answer(image, n, out, step, |run| run.commit(&operations, hold).map(|_| ())),
+    }
+}
+
+/// An entry that carries out steps which can't fail, to their end. It drops the open mark before the first one.
+fn settle(image: &mut Image, go: impl FnOnce(&mut Run) -> Result<(), Stop>) {
+    image.open = false;
+    let mut run = Run { image: std::mem::take(image), left: u64::MAX, last: None };
+    let Ok(()) = go(&mut run) else { unreachable!("no cut and no fault") };
+    *image = run.image;
+}
+
+/// The step entry of such a one, which is refused by the number that `what` gives.
+fn settle_step<T>(
+    image: &[u8],
+    n: u64,
+    out: &mut Out,
+    step: &mut Out,
+    what: impl FnOnce(&Image) -> Refused<T>,
+    go: impl FnOnce(&mut Run, T) -> Result<(), Stop>,
+) -> u32 {
+    let begun = decode(image, step_room(out, step)).and_then(|image| Ok((what(&image)?, image)));
+    match begun {
+        Err(number) => number,
+        Ok((what, image)) => step_answer(Image { open: false, ..image }, n, out, step, |run| go(run, what)),
     }
 }
 
@@ -151,6 +214,8 @@ impl Store for Plain {
     fn begin(&self, image: &[u8], out: &mut Out) -> u32 {
         answer(out, image, |image| {
             refuse_unless(!image.open, 3)?;
+            // 02, item 6: "17, begin while a Held log stands, tested after 3"
+            refuse_unless(!log::is_held(image.log.as_deref()), 17)?;
             image.log = Some(log::header(Status::Recording));
             image.open = true;
             Ok(())
@@ -214,24 +279,11 @@ impl Store for Plain {
     }
 
     fn commit(&self, image: &[u8], out: &mut Out) -> u32 {
-        let begun = decode(image, out.bytes.len() >= IMAGE_ROOM).and_then(|image| Ok((transaction(&image)?, image)));
-        match begun {
-            Err(number) => number,
-            Ok((operations, image)) => {
-                let mut run = Run { image, left: u64::MAX, last: None };
-                let Ok(number) = run.commit(&operations) else { unreachable!("no cut") };
-                out.put(&run.image.encode());
-                number
-            }
-        }
+        commit(image, out, false)
     }
 
     fn commit_step(&self, image: &[u8], n: u64, out: &mut Out, step: &mut Out) -> u32 {
-        let begun = decode(image, step_room(out, step)).and_then(|image| Ok((transaction(&image)?, image)));
-        match begun {
-            Err(number) => number,
-            Ok((operations, image)) => step_answer(image, n, out, step, |run| run.commit(&operations).map(|_| ())),
-        }
+        commit_step(image, n, out, step, false)
     }
 
     fn rollback(&self, image: &[u8], out: &mut Out) -> u32 {
@@ -253,24 +305,14 @@ impl Store for Plain {
     fn recover(&self, image: &[u8], out: &mut Out, cause: &mut u32) -> u32 {
         answer(out, image, |image| {
             let what = recovery(image)?;
-            *cause = discarded(image);
-            let mut run = Run { image: std::mem::take(image), left: u64::MAX, last: None };
-            run.image.open = false;
-            let Ok(()) = run.recover(what) else { unreachable!("no cut and no fault") };
-            *image = run.image;
+            *cause = discarded(image, Status::Committing);
+            settle(image, |run| run.recover(what));
             Ok(())
         })
     }
 
     fn recover_step(&self, image: &[u8], n: u64, out: &mut Out, step: &mut Out) -> u32 {
-        let begun = decode(image, step_room(out, step)).and_then(|image| Ok((recovery(&image)?, image)));
-        match begun {
-            Err(number) => number,
-            Ok((what, mut image)) => {
-                image.open = false;
-                step_answer(image, n, out, step, |run| run.recover(what))
-            }
-        }
+        settle_step(image, n, out, step, recovery, Run::recover)
     }
 
     fn list_keys(&self, image: &[u8], collection: &[u8], out: &mut Out) -> u32 {
@@ -336,5 +378,38 @@ impl Store for Plain {
         }
         out.put(text.as_bytes());
         0
+    }
+
+    fn hold(&self, image: &[u8], out: &mut Out) -> u32 {
+        commit(image, out, true)
+    }
+
+    fn hold_step(&self, image: &[u8], n: u64, out: &mut Out, step: &mut Out) -> u32 {
+        commit_step(image, n, out, step, true)
+    }
+
+    fn keep(&self, image: &[u8], out: &mut Out) -> u32 {
+        answer(out, image, |image| {
+            held(image)?;
+            settle(image, Run::keep);
+            Ok(())
+        })
+    }
+
+    fn keep_step(&self, image: &[u8], n: u64, out: &mut Out, step: &mut Out) -> u32 {
+        settle_step(image, n, out, step, |image| held(image).map(|_| ()), |run, ()| run.keep())
+    }
+
+    fn revert(&self, image: &[u8], out: &mut Out, cause: &mut u32) -> u32 {
+        answer(out, image, |image| {
+            let what = reverting(image)?;
+            *cause = discarded(image, Status::Held);
+            settle(image, |run| run.recover(what));
+            Ok(())
+        })
+    }
+
+    fn revert_step(&self, image: &[u8], n: u64, out: &mut Out, step: &mut Out) -> u32 {
+        settle_step(image, n, out, step, reverting, Run::recover)
     }
 }

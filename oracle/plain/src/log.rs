@@ -1,4 +1,4 @@
-//! The log and its operations: document 01, wal.rs and 'How a store is handed over'; document 02, items 1 and 4.
+//! The log and its operations: document 01, wal.rs and 'How a store is handed over'; document 02, items 1, 4 and 6.
 use crate::image::{put_field, take_field};
 use crate::name::{self, Name};
 
@@ -123,6 +123,8 @@ impl Operation {
 pub enum Status {
     Recording,
     Committing,
+    /// 02, item 6: "status 0x02, Held (01's status rule now starts above 0x02)"
+    Held,
 }
 
 /// 02, item 1: "1 entry header too short, 2 payload missing (length 0 or past the end), 3 checksum wrong"
@@ -172,13 +174,25 @@ pub fn append(log: &mut Vec<u8>, payload: &[u8]) {
     log.extend(payload);
 }
 
+/// A log of these operations.
+pub fn written(status: Status, operations: &[Operation]) -> Vec<u8> {
+    let mut log = header(status);
+    operations.iter().for_each(|operation| append(&mut log, &operation.encode()));
+    log
+}
+
 /// The status of a log with a valid header; any other log is as if absent.
 pub fn status(log: &[u8]) -> Option<Status> {
     let (head, _) = log.split_at_checked(HEADER)?;
-    [Status::Recording, Status::Committing].into_iter().find(|s| {
+    [Status::Recording, Status::Committing, Status::Held].into_iter().find(|s| {
         let good = header(*s);
         head[..2] == good[..2] && head[4..] == good[4..]
     })
+}
+
+/// "A Held log stands": a matter of its header alone.
+pub fn is_held(log: Option<&[u8]>) -> bool {
+    log.and_then(status) == Some(Status::Held)
 }
 
 /// The operations behind the header, up to where the walk ends, and how it ends.

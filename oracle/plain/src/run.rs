@@ -1,6 +1,7 @@
-//! Commit and recovery, step by step and up to a cut. Document 01, local_storage.rs and recovery.rs; document 02, item 4.
+//! Commit, held or not, recovery, keep and revert, step by step and up to a cut. Document 01, local_storage.rs and recovery.rs; document 02, items 4
+//! and 6.
 use crate::image::Image;
-use crate::log::Operation;
+use crate::log::{Operation, Status};
 use crate::name::{Name, backup, is_backup, is_tmp, original};
 use crate::step::Step::{self, *};
 
@@ -146,9 +147,9 @@ impl Run {
         staged.into_iter().try_for_each(|file| self.step(RemoveStaging(file)))
     }
 
-    /// The answer's number: 0, 14 or 15.
-    pub fn commit(&mut self, operations: &[Operation]) -> Result<u32, Stop> {
-        self.step(RewriteHeader)?;
+    /// The answer's number: 0, 14 or 15. 02, item 6: "A held commit that fails rolls back as before."
+    pub fn commit(&mut self, operations: &[Operation], hold: bool) -> Result<u32, Stop> {
+        self.step(RewriteHeader(Status::Committing))?;
         self.step(SyncStaging)?;
         self.step(SyncLog)?;
         let number = match operations.iter().try_for_each(|o| self.apply(o)) {
@@ -168,14 +169,29 @@ impl Run {
         } else {
             self.undo(operations)?;
         }
-        self.step(RemoveLog)?;
-        self.step(SyncJournal)?;
-        if number == 0 {
-            self.remove_backups()?;
+        if number == 0 && hold {
+            // "in place of removing the log and syncing the journal it rewrites the header with status 0x02, Held [..], syncs the log, and keeps
+            // log and backups; it then clears staging, and the open mark goes with its last step"
+            self.step(RewriteHeader(Status::Held))?;
+            self.step(SyncLog)?;
+        } else {
+            self.step(RemoveLog)?;
+            self.step(SyncJournal)?;
+            if number == 0 {
+                self.remove_backups()?;
+            }
         }
         self.remove_staging()?;
         self.image.open = false;
         Ok(number)
+    }
+
+    /// 02, item 6: "Keep [..] removes the log and syncs the journal, then removes every backup as recovery without a log does; it reads no
+    /// entry."
+    pub fn keep(&mut self) -> Result<(), Stop> {
+        self.step(RemoveLog)?;
+        self.step(SyncJournal)?;
+        self.remove_backups()
     }
 
     /// Recovery that isn't refused. `undone` are the operations of a whole Committing log.
@@ -184,6 +200,8 @@ impl Run {
             Recovery::Undo(operations) => self.undo(&operations)?,
             Recovery::Discard => {}
             Recovery::NoLog => self.remove_backups()?,
+            // "drops the open mark and clears staging, no more"
+            Recovery::Held => return self.remove_staging(),
         }
         if self.image.log.is_some() {
             self.step(RemoveLog)?;
@@ -197,4 +215,5 @@ pub enum Recovery {
     Undo(Vec<Operation>),
     Discard,
     NoLog,
+    Held,
 }

@@ -6,7 +6,8 @@ use std::collections::BTreeMap;
 
 #[derive(Clone, PartialEq, Eq, Debug)]
 pub enum Step {
-    RewriteHeader,
+    /// With this status.
+    RewriteHeader(Status),
     SyncStaging,
     SyncLog,
     RemoveLog,
@@ -27,7 +28,7 @@ use Step::*;
 impl Step {
     pub fn field(&self) -> Vec<u8> {
         let (tag, names): (u8, Vec<&[u8]>) = match self {
-            RewriteHeader => (0x20, vec![]),
+            RewriteHeader(_) => (0x20, vec![]),
             SyncStaging => (0x21, vec![]),
             SyncLog => (0x22, vec![]),
             MakeDirectory(dir) => (0x23, vec![dir]),
@@ -65,7 +66,7 @@ impl Step {
     pub fn apply(&self, image: &mut Image) {
         let dirs = &mut image.dirs;
         match self {
-            RewriteHeader => image.log.as_mut().expect("the log stands")[..8].copy_from_slice(&header(Status::Committing)),
+            RewriteHeader(status) => image.log.as_mut().expect("the log stands")[..8].copy_from_slice(&header(*status)),
             SyncStaging | SyncLog | SyncJournal | SyncCollections | SyncDirectory(_) => {}
             RemoveLog => image.log = None,
             MakeDirectory(dir) => {

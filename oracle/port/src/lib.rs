@@ -1,4 +1,4 @@
-//! The port behind the sixteen entries: the functions that the static library exports (host/sys).
+//! The port behind the entries: the functions that the static library exports (host/sys).
 #[cfg(linked)]
 mod linked;
 

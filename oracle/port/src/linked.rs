@@ -60,8 +60,25 @@ impl Store for Port {
     fn log_cause(&self, log: &[u8], cause: &mut u32) -> u32 {
         sys::log_cause(log, cause)
     }
-
     fn inventory(&self, image: &[u8], out: &mut Out) -> u32 {
         sys::inventory(image, lent(out))
+    }
+    fn hold(&self, image: &[u8], out: &mut Out) -> u32 {
+        sys::hold(image, lent(out))
+    }
+    fn hold_step(&self, image: &[u8], n: u64, out: &mut Out, step: &mut Out) -> u32 {
+        sys::hold_step(image, n, lent(out), lent(step))
+    }
+    fn keep(&self, image: &[u8], out: &mut Out) -> u32 {
+        sys::keep(image, lent(out))
+    }
+    fn keep_step(&self, image: &[u8], n: u64, out: &mut Out, step: &mut Out) -> u32 {
+        sys::keep_step(image, n, lent(out), lent(step))
+    }
+    fn revert(&self, image: &[u8], out: &mut Out, cause: &mut u32) -> u32 {
+        sys::revert(image, lent(out), cause)
+    }
+    fn revert_step(&self, image: &[u8], n: u64, out: &mut Out, step: &mut Out) -> u32 {
+        sys::revert_step(image, n, lent(out), lent(step))
     }
 }

@@ -22,26 +22,60 @@ pub enum Call {
     FindBackup,
     LogCause,
     Inventory,
+    Hold,
+    HoldStep(u64),
+    Keep,
+    KeepStep(u64),
+    Revert,
+    RevertStep(u64),
 }
 
-/// The two entries that carry out file steps.
+impl Call {
+    /// Whether what is lent is a log alone.
+    pub fn takes_log(&self) -> bool {
+        matches!(self, Call::LogCause)
+    }
+
+    /// Whether an image is handed back with which a caller goes on.
+    pub fn hands_image_on(&self) -> bool {
+        !matches!(self, Call::ListKeys { .. } | Call::FindBackup | Call::Inventory)
+    }
+}
+
+/// The entries that carry out file steps.
 #[derive(Clone, Copy, PartialEq, Eq, Debug)]
 pub enum Plan {
     Commit,
     Recover,
+    Hold,
+    Keep,
+    Revert,
 }
 
 impl Plan {
+    pub const ALL: [Plan; 5] = [Plan::Commit, Plan::Recover, Plan::Hold, Plan::Keep, Plan::Revert];
+
+    /// The plan that a call asks for whole.
+    pub fn of(call: &Call) -> Option<Plan> {
+        Plan::ALL.into_iter().find(|plan| plan.whole() == *call)
+    }
+
     pub fn whole(self) -> Call {
         match self {
             Plan::Commit => Call::Commit,
             Plan::Recover => Call::Recover,
+            Plan::Hold => Call::Hold,
+            Plan::Keep => Call::Keep,
+            Plan::Revert => Call::Revert,
         }
     }
     pub fn step(self, n: u64) -> Call {
         match self {
             Plan::Commit => Call::CommitStep(n),
             Plan::Recover => Call::RecoverStep(n),
+            Plan::Hold => Call::HoldStep(n),
+            Plan::Keep => Call::KeepStep(n),
+            Plan::Revert => Call::RevertStep(n),
         }
     }
 }
@@ -129,6 +163,12 @@ pub fn pass<S: Store + ?Sized>(
         Call::FindBackup => store.find_backup(image, out),
         Call::LogCause => store.log_cause(image, cause),
         Call::Inventory => store.inventory(image, out),
+        Call::Hold => store.hold(image, out),
+        Call::HoldStep(n) => store.hold_step(image, *n, out, step),
+        Call::Keep => store.keep(image, out),
+        Call::KeepStep(n) => store.keep_step(image, *n, out, step),
+        Call::Revert => store.revert(image, out, cause),
+        Call::RevertStep(n) => store.revert_step(image, *n, out, step),
     }
 }
 

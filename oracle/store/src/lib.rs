@@ -1,4 +1,4 @@
-//! The sixteen exported entries as a trait, so that the port, the original and the plain reading take the same calls, and
+//! The exported entries as a trait, so that the port, the original and the plain reading take the same calls, and
 //! the one way in which all of them are asked.
 mod call;
 
@@ -51,6 +51,12 @@ pub trait Store {
     fn find_backup(&self, image: &[u8], out: &mut Out) -> u32;
     fn log_cause(&self, log: &[u8], cause: &mut u32) -> u32;
     fn inventory(&self, image: &[u8], out: &mut Out) -> u32;
+    fn hold(&self, image: &[u8], out: &mut Out) -> u32;
+    fn hold_step(&self, image: &[u8], n: u64, out: &mut Out, step: &mut Out) -> u32;
+    fn keep(&self, image: &[u8], out: &mut Out) -> u32;
+    fn keep_step(&self, image: &[u8], n: u64, out: &mut Out, step: &mut Out) -> u32;
+    fn revert(&self, image: &[u8], out: &mut Out, cause: &mut u32) -> u32;
+    fn revert_step(&self, image: &[u8], n: u64, out: &mut Out, step: &mut Out) -> u32;
 
     /// The whole answer, and the answers of the step entry for n = 0, 1, .. up to the first refusal, which is 16 past the end.
     fn plan(&self, plan: Plan, image: &[u8]) -> (Answer, Vec<Answer>) {

@@ -23,12 +23,12 @@ fn median(mut times: Vec<f64>) -> f64 {
 
 /// The time that a store takes over the calls.
 fn stopwatch<'a>(store: &dyn Store, image: &[u8], calls: impl Iterator<Item = &'a Call>) -> f64 {
-    let (mut bytes, mut step_bytes, mut pending) = ([0; IMAGE_ROOM], [0; STEP_ROOM], 0);
+    let (mut bytes, mut step_bytes, mut pending, mut cause) = ([0; IMAGE_ROOM], [0; STEP_ROOM], 0, 0);
     let mut out = Out { bytes: &mut bytes, written: 0 };
     let mut step = Out { bytes: &mut step_bytes, written: 0 };
     let start = Instant::now();
     for call in calls {
-        let number = pass(store, call, image, &mut out, &mut step, &mut pending);
+        let number = pass(store, call, image, &mut out, &mut step, &mut pending, &mut cause);
         assert_eq!(number, 0, "{call:?}");
     }
     start.elapsed().as_nanos() as f64

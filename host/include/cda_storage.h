@@ -18,7 +18,7 @@ extern "C" {
 #define CDA_STORAGE_INVENTORY_ROOM 20178
 #define CDA_STORAGE_LOG_LIMIT 6952
 
-/* What the functions return: 0, or a refusal, which leaves outputs, counters and causes as they were (but for 14 and 15 of a commit). */
+/* What the functions return: 0, or a refusal, which leaves outputs, counters and causes as they were (but for 14 and 15 of a commit or a hold). */
 enum cda_storage_number {
     CDA_STORAGE_DONE = 0,
     /* the image breaks its layout or a limit */
@@ -53,6 +53,10 @@ enum cda_storage_number {
     CDA_STORAGE_STORE_FULL = 15,
     /* the step number is past the plan's end */
     CDA_STORAGE_PAST_THE_END = 16,
+    /* an update is held: keep it or revert it before the next one is begun */
+    CDA_STORAGE_HELD_UPDATE = 17,
+    /* no update is held, so there is nothing to keep or to revert */
+    CDA_STORAGE_NOTHING_HELD = 18,
     /* the log has no valid header, or is truncated where a whole one is asked for */
     CDA_STORAGE_NO_WHOLE_LOG = 21
 };
@@ -170,6 +174,43 @@ uint32_t cda_storage_log_cause(
 uint32_t cda_storage_inventory(
     const uint8_t *image, size_t image_len,
     uint8_t *out, size_t out_len, size_t *out_written);
+
+/* Commits the transaction and holds it: as commit, but the log stays, marked Held, and so do the backups. 14 and 15 also hand back the rolled-back image. */
+uint32_t cda_storage_hold(
+    const uint8_t *image, size_t image_len,
+    uint8_t *out, size_t out_len, size_t *out_written);
+
+/* The image after n steps of the held commit, and field n (none for n = 0). 0x20 comes twice: the header's bytes are those of the image after the step. */
+uint32_t cda_storage_hold_step(
+    const uint8_t *image, size_t image_len,
+    uint64_t n,
+    uint8_t *out, size_t out_len, size_t *out_written,
+    uint8_t *step, size_t step_len, size_t *step_written);
+
+/* Accepts the held update, whole: the log goes, then every backup. */
+uint32_t cda_storage_keep(
+    const uint8_t *image, size_t image_len,
+    uint8_t *out, size_t out_len, size_t *out_written);
+
+/* The image after n steps of the keep, and field n (none for n = 0). At n = 0 its number says whether an update is held: 0, or 18. */
+uint32_t cda_storage_keep_step(
+    const uint8_t *image, size_t image_len,
+    uint64_t n,
+    uint8_t *out, size_t out_len, size_t *out_written,
+    uint8_t *step, size_t step_len, size_t *step_written);
+
+/* Takes the held update back, whole, as recovery undoes a commit. The cause says how the log broke, if it was truncated and nothing but it was discarded; else it is 0. */
+uint32_t cda_storage_revert(
+    const uint8_t *image, size_t image_len,
+    uint8_t *out, size_t out_len, size_t *out_written,
+    uint32_t *cause);
+
+/* The image after n steps of the revert, and field n (none for n = 0). A revert that was begun must be finished: keep after a part of its steps loses keys. */
+uint32_t cda_storage_revert_step(
+    const uint8_t *image, size_t image_len,
+    uint64_t n,
+    uint8_t *out, size_t out_len, size_t *out_written,
+    uint8_t *step, size_t step_len, size_t *step_written);
 
 #ifdef __cplusplus
 }

@@ -21,12 +21,12 @@ impl fmt::Display for CommitError {
 
 impl Error for CommitError {}
 
-/// What a recovery leaves.
+/// What a recovery or a revert leaves.
 #[derive(Clone, PartialEq, Eq, Debug)]
 pub struct Recovered {
     /// The image.
     pub image: Image,
-    /// How the log broke, if a truncated Committing one was discarded.
+    /// How the log broke, if a truncated one was discarded.
     pub cause: Option<Cause>,
 }
 
@@ -55,13 +55,19 @@ impl fmt::Display for Backup {
     }
 }
 
-/// The two plans of file steps.
+/// The plans of file steps.
 #[derive(Clone, Copy, PartialEq, Eq, Hash, Debug)]
 pub enum Plan {
     /// What a commit does, or a failing commit and its rollback.
     Commit,
     /// What a recovery does.
     Recover,
+    /// What a held commit does, or a failing one and its rollback.
+    Hold,
+    /// What a keep does.
+    Keep,
+    /// What a revert does.
+    Revert,
 }
 
 /// A step that was asked for: its number, what it does, and the image behind it.
@@ -141,14 +147,32 @@ impl Image {
 
     /// Commits the transaction, whole.
     pub fn commit(&self) -> Result<Image, CommitError> {
-        let (number, bytes) = lend(IMAGE_ROOM, |out| sys::commit(self.bytes(), out));
-        match refused(number) {
-            Ok(()) => Ok(Image::written(bytes)),
-            Err(refusal) => {
-                let rolled_back = matches!(refusal, Refusal::StepFailed | Refusal::StoreFull);
-                Err(CommitError { refusal, image: rolled_back.then(|| Image::written(bytes)) })
-            }
+        committed(|out| sys::commit(self.bytes(), out))
+    }
+
+    /// Commits the transaction, whole, and holds it: its log stays, marked Held, and so do the backups, until it is kept or reverted.
+    pub fn hold(&self) -> Result<Image, CommitError> {
+        committed(|out| sys::hold(self.bytes(), out))
+    }
+
+    /// Whether an update is held.
+    pub fn is_held(&self) -> Result<bool, Refusal> {
+        match self.step(Plan::Keep, 0) {
+            Err(Refusal::NothingHeld) => Ok(false),
+            at_the_start => at_the_start.map(|_| true),
         }
+    }
+
+    /// Accepts the held update, whole. After a part of a revert's steps this loses keys.
+    pub fn keep(&self) -> Result<Image, Refusal> {
+        answer(|out| sys::keep(self.bytes(), out))
+    }
+
+    /// Takes the held update back, whole. Who carries out its steps must finish what was begun: see [`Image::keep`].
+    pub fn revert(&self) -> Result<Recovered, Refusal> {
+        let mut cause = 0;
+        let image = answer(|out| sys::revert(self.bytes(), out, &mut cause))?;
+        Ok(Recovered { image, cause: Cause::from_number(cause) })
     }
 
     /// Discards the transaction.
@@ -217,25 +241,32 @@ impl Image {
         self.steps(Plan::Recover)
     }
 
-    /// The steps of either plan.
+    /// The steps of a plan.
     pub fn steps(&self, plan: Plan) -> Steps<'_> {
         Steps { image: self, plan, number: 0, over: false }
     }
 
-    /// The image after n steps of either plan, and step n (none for n = 0).
+    /// The image after n steps of a plan, and step n (none for n = 0).
     pub fn step(&self, plan: Plan, n: u64) -> Result<(Image, Option<Step>), Refusal> {
         let mut written = Vec::new();
         let (number, field) = lend(STEP_ROOM, |step| {
             let (number, image) = lend(IMAGE_ROOM, |out| match plan {
                 Plan::Commit => sys::commit_step(self.bytes(), n, out, step),
                 Plan::Recover => sys::recover_step(self.bytes(), n, out, step),
+                Plan::Hold => sys::hold_step(self.bytes(), n, out, step),
+                Plan::Keep => sys::keep_step(self.bytes(), n, out, step),
+                Plan::Revert => sys::revert_step(self.bytes(), n, out, step),
             });
             written = image;
             number
         });
         refused(number)?;
-        let step = (n > 0).then(|| Step::from_field(&field).expect("the port writes step fields"));
-        Ok((Image::written(written), step))
+        let image = Image::written(written);
+        let step = match (n > 0).then(|| Step::from_field(&field).expect("the port writes step fields")) {
+            Some(Step::RewriteHeader) if image.is_held()? => Some(Step::MarkHeld),
+            step => step,
+        };
+        Ok((image, step))
     }
 }
 
@@ -251,6 +282,15 @@ fn lend(room: usize, call: impl FnOnce(Output) -> u32) -> (u32, Vec<u8>) {
 fn answer(call: impl FnOnce(Output) -> u32) -> Result<Image, Refusal> {
     let (number, bytes) = lend(IMAGE_ROOM, call);
     refused(number).map(|()| Image::written(bytes))
+}
+
+/// An entry that commits, held or not.
+fn committed(call: impl FnOnce(Output) -> u32) -> Result<Image, CommitError> {
+    let (number, bytes) = lend(IMAGE_ROOM, call);
+    refused(number).map(|()| Image::written(bytes.clone())).map_err(|refusal| {
+        let rolled_back = matches!(refusal, Refusal::StepFailed | Refusal::StoreFull);
+        CommitError { refusal, image: rolled_back.then(|| Image::written(bytes)) }
+    })
 }
 
 /// A number as a result.

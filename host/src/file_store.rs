@@ -43,8 +43,8 @@ use std::{
 /// A process that ends anywhere leaves a store that the next open recovers. Document 01's cut rule says what comes of it
 /// where each step is done whole or not at all. On disk each step is one call that the file system does whole, except:
 ///
-/// - a copy is made as `copy.tmp` in the staging directory and moved into its place. A cut inside leaves that file, which is no part
-///   of the store's image, and the next open removes it: the copy was not done;
+/// - a copy, and a log that is marked Held, is made as `copy.tmp` in the staging directory and moved into its place. A cut inside leaves that
+///   file, which is no part of the store's image, and the next open removes it: the step was not done;
 /// - the removal of a directory removes its files one by one. Where a cut leaves a part of them, the next open removes the
 ///   rest.
 ///
@@ -56,14 +56,22 @@ use std::{
 /// marked Committing and before the key's rename to its backup. Outside the rule's conditions files can be lost, as with the
 /// original. docs/FINDINGS.md has the cases.
 ///
+/// # Held updates
+///
+/// [`Transaction::hold`] commits an update and keeps its log and the backups. Opening the store leaves them; [`FileStore::begin`] is refused
+/// meanwhile. [`FileStore::keep`] ends as an ordinary commit does, [`FileStore::revert`] gives back what stood before. A cut of a hold leaves the
+/// earlier files or the held update; of a keep, the held update or the later files; a revert that is cut is ended by the next open.
+///
 /// # What a loss of power leaves
 ///
 /// What is not synced can be lost with the power. The steps have the original's syncs. The store adds these, which are no steps:
 ///
 /// - [`FileStore::begin`]: every collection and the directory of the collections, the root, and, behind the new log, the journal;
 /// - a copy: its content, before it is moved into its place;
-/// - recovery where a log stands: every collection and the directory of the collections before the log is removed, and the journal
-///   behind it;
+/// - a log that is marked Held: its bytes, before it is moved into its place, and the journal behind it;
+/// - a revert: the journal, behind the mark that it was begun and before its first step;
+/// - recovery where a log stands, and a revert: every collection and the directory of the collections before the log is removed, and the
+///   journal behind it;
 /// - recovery where no log stands: the journal, before anything else.
 ///
 /// With them the cut rule's promise holds for a loss of power too, in tests (`tests/power_loss.rs`, `tests/mounted.rs`); it is not
@@ -92,7 +100,7 @@ enum State {
     Stopped,
 }
 
-/// A step of a commit or recovery that is about to be carried out, or was.
+/// A step that is about to be carried out, or was.
 #[derive(Clone, Copy, PartialEq, Eq, Debug)]
 pub struct Event<'a> {
     /// Whether the step was carried out.
@@ -121,7 +129,7 @@ impl FileStore {
         FileStore::open_observed(root, |_| {})
     }
 
-    /// Opens the store with an observer, which is told of every step of recovery and commits before and after it is carried
+    /// Opens the store with an observer, which is told of every step of every plan before and after it is carried
     /// out. If it panics, the store is stopped as by a failed file call ([`StoreError::Stopped`]).
     pub fn open_observed(root: impl Into<PathBuf>, observer: impl FnMut(&Event) + Send + 'static) -> Result<FileStore, StoreError> {
         FileStore::open_with(System, root, observer)
@@ -139,8 +147,14 @@ impl FileStore {
         if contents.has_damaged_log()? {
             return Err(StoreError::Damaged { path: store.layout.log() });
         }
-        store.recover(&contents.image()?)?;
-        store.clear_aside()?;
+        let image = contents.image()?;
+        if scan::is_reverting(&store.layout)? && image.is_held()? {
+            let cause = store.revert_image(&image)?;
+            store.discarded.set(cause);
+        } else {
+            store.recover(&image)?;
+        }
+        store.clear_up()?;
         Ok(store)
     }
 
@@ -148,9 +162,12 @@ impl FileStore {
     /// [`Refusal::LogTooLong`], [`Refusal::Corruption`]): every backup is put back in the place of its original, then the log and
     /// the staging files go. So a key or collection that stood before the update is as before, as far as its backup stands; one
     /// that the update made stays. The steps are those of a recovery from a log without operations: a file whose name ends in .tmp
-    /// goes too. Elsewhere it is [`StoreError::Sound`].
+    /// goes too. The same of a held update whose revert is refused for its log. Elsewhere it is [`StoreError::Sound`].
     pub fn restore(root: impl Into<PathBuf>, observer: impl FnMut(&Event) + Send + 'static) -> Result<FileStore, StoreError> {
         let (store, contents) = FileStore::refused(root, observer)?;
+        if contents.image()?.is_held()? {
+            store.stop_at_error(store.mark_reverting())?;
+        }
         let [_, committing] = log::empty()?;
         let mut image = Contents { log: committing, ..contents }.image()?;
         // A collection that is put back can hold backups itself: then the log stays for another turn.
@@ -158,7 +175,7 @@ impl FileStore {
             image = store.run_to_the_log(&image)?;
         }
         store.recover(&image)?;
-        store.clear_aside()?;
+        store.clear_up()?;
         Ok(store)
     }
 
@@ -169,15 +186,17 @@ impl FileStore {
         let [recording, _] = log::empty()?;
         store.recover(&Contents { log: recording, ..contents }.image()?)?;
         store.recover(&store.image()?)?;
-        store.clear_aside()?;
+        store.clear_up()?;
         Ok(store)
     }
 
-    /// Locks a store whose recovery is refused for its log: the store, and what stands.
+    /// Locks a store whose recovery, or revert, is refused for its log: the store, and what stands.
     fn refused(root: impl Into<PathBuf>, observer: impl FnMut(&Event) + Send + 'static) -> Result<(FileStore, Contents), StoreError> {
         let store = FileStore::locked(System, root, observer)?;
         let contents = scan::scan(&store.layout)?;
-        if !contents.has_damaged_log()? && contents.image()?.recover().is_ok() {
+        let image = contents.image()?;
+        let ended = if image.is_held()? { image.revert() } else { image.recover() };
+        if !contents.has_damaged_log()? && ended.is_ok() {
             return Err(StoreError::Sound { path: store.layout.root().to_path_buf() });
         }
         Ok((store, contents))
@@ -200,7 +219,8 @@ impl FileStore {
         self.discarded.get()
     }
 
-    /// Begins a transaction. [`Refusal::TransactionBusy`] if one is open. A failed file call stops the store.
+    /// Begins a transaction. [`Refusal::TransactionBusy`] if one is open, [`Refusal::HeldUpdate`] if one is held: keep or revert that first. A
+    /// failed file call stops the store.
     pub fn begin(&self) -> Result<Transaction<'_>, StoreError> {
         self.running()?;
         let open = self.state.get() == State::Recording;
@@ -208,6 +228,46 @@ impl FileStore {
         self.stop_at_error(self.prepare(&image.contents()))?;
         self.state.set(State::Recording);
         Ok(Transaction::new(self, image))
+    }
+
+    /// Whether an update is held ([`Transaction::hold`]).
+    pub fn is_held(&self) -> Result<bool, StoreError> {
+        Ok(self.image()?.is_held()?)
+    }
+
+    /// Accepts the held update: its log goes, then every backup. [`Refusal::NothingHeld`] if there is none. Where a file call failed behind the
+    /// step that removes the log, the update is kept, and the next open only clears up; before it, the update is still held.
+    pub fn keep(&self) -> Result<(), StoreError> {
+        let image = self.image()?;
+        image.keep()?;
+        self.run(Plan::Keep, &image)
+    }
+
+    /// Takes the held update back, as recovery undoes an interrupted one: what stood before stands again. [`Refusal::NothingHeld`] if there is
+    /// none; [`Refusal::UndecodablePayload`], [`Refusal::LogTooLong`] and [`Refusal::Corruption`], which change nothing, if its log is damaged
+    /// ([`FileStore::restore`] puts the backups back then). How the log broke, if a truncated one was discarded and no operation was done.
+    ///
+    /// A keep after a part of the revert's steps would lose keys. So a revert that was begun is ended by the next open, whatever stopped it; a
+    /// mark beside the log, which is no part of an image, says that it was begun.
+    pub fn revert(&self) -> Result<Option<Cause>, StoreError> {
+        let cause = self.revert_image(&self.image()?)?;
+        self.clear_up()?;
+        Ok(cause)
+    }
+
+    /// Carries out a revert, with the mark before its first step.
+    fn revert_image(&self, image: &Image) -> Result<Option<Cause>, StoreError> {
+        let Recovered { cause, .. } = image.revert()?;
+        self.stop_at_error(self.mark_reverting())?;
+        self.run(Plan::Revert, image)?;
+        Ok(cause)
+    }
+
+    /// The mark that a revert was begun, on the disk for good.
+    fn mark_reverting(&self) -> Result<(), StoreError> {
+        let mark = self.layout.reverting();
+        self.layout.calls.write(&mark, b"").map_err(StoreError::at(&mark))?;
+        self.layout.sync(&self.layout.journal())
     }
 
     /// The store as it stands on disk, with the files numbered from 1.
@@ -268,13 +328,14 @@ impl FileStore {
         self.run(Plan::Recover, image)
     }
 
-    /// Removes what a copy left that was stopped before it was in its place.
-    fn clear_aside(&self) -> Result<(), StoreError> {
-        let aside = self.layout.staged(ASIDE);
-        match scan::has_aside(&self.layout)? {
-            true => self.stop_at_error(self.layout.calls.remove_file(&aside).map_err(StoreError::at(&aside))),
-            false => Ok(()),
+    /// Removes what a copy left that was stopped before it was in its place, and the mark of a revert, whose log is gone.
+    fn clear_up(&self) -> Result<(), StoreError> {
+        let own =
+            [(scan::has_aside(&self.layout)?, self.layout.staged(ASIDE)), (scan::is_reverting(&self.layout)?, self.layout.reverting())];
+        for (_, path) in own.into_iter().filter(|(stands, _)| *stands) {
+            self.stop_at_error(self.layout.calls.remove_file(&path).map_err(StoreError::at(&path)))?;
         }
+        Ok(())
     }
 
     /// Carries out a plan, step by step. A refusal of the whole plan comes before its first step.
@@ -305,7 +366,7 @@ impl FileStore {
         };
         tell(false);
         let done = match (plan, step) {
-            (Plan::Recover, Step::RemoveLog) => carry_out::remove_log_for_good(&self.layout, image),
+            (Plan::Recover | Plan::Revert, Step::RemoveLog) => carry_out::remove_log_for_good(&self.layout, image),
             _ => carry_out::carry_out(&self.layout, step, image),
         };
         self.stop_at_error(done)?;

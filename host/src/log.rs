@@ -1,4 +1,4 @@
-//! A log: document 01, 'How a store is handed over'; document 02, items 1 and 4. The port says how it reads it, and how it broke.
+//! A log: document 01, 'How a store is handed over'; document 02, items 1, 4 and 6. The port says how it reads it, and how it broke.
 use crate::{Refusal, entries::refused, field, image::Image};
 use cda_storage_sys as sys;
 use std::fmt;
@@ -21,11 +21,25 @@ pub struct Write {
 #[derive(Clone, PartialEq, Eq, Hash, Debug)]
 pub enum Logged {
     Write(Write),
-    Delete { collection: String, key: String },
-    DeleteAll { collection: String },
-    CreateCollection { name: String },
-    DeleteCollection { name: String },
-    CopyCollection { source: String, destination: String, existed: bool },
+    Delete {
+        collection: String,
+        key: String,
+    },
+    DeleteAll {
+        collection: String,
+    },
+    CreateCollection {
+        name: String,
+    },
+    DeleteCollection {
+        name: String,
+    },
+    /// And whether the destination stood when this was recorded.
+    CopyCollection {
+        source: String,
+        destination: String,
+        existed: bool,
+    },
 }
 
 impl fmt::Display for Logged {
@@ -91,6 +105,8 @@ pub enum Status {
     Recording,
     /// Its commit has begun.
     Committing,
+    /// It was committed and is held, until it is kept or reverted.
+    Held,
 }
 
 /// A log with a valid header, as the port reads it.
@@ -117,7 +133,11 @@ impl Log {
             Err(refusal @ (Refusal::InvalidImage | Refusal::NoWholeLog)) => return Err(refusal),
             broke => broke,
         };
-        let status = if bytes[1] == 0 { Status::Recording } else { Status::Committing };
+        let status = match bytes[1] {
+            0 => Status::Recording,
+            1 => Status::Committing,
+            _ => Status::Held,
+        };
         let (mut operations, mut end) = (Vec::new(), 8);
         while let Some((operation, behind)) = entry(bytes, end) {
             operations.push(operation);

@@ -2,12 +2,14 @@
 use crate::field;
 use std::fmt;
 
-/// One file step of a commit or a recovery, with the names of its field in their order.
+/// One file step of a plan, with the names of its field in their order.
 #[allow(missing_docs)]
 #[derive(Clone, PartialEq, Eq, Hash, Debug)]
 pub enum Step {
     /// 0x20. The log's header is rewritten: it says Committing.
     RewriteHeader,
+    /// 0x20 too, in a held commit, where the image after the step has a Held log: the header is rewritten and says so.
+    MarkHeld,
     /// 0x21. Every staging file is synced.
     SyncStaging,
     /// 0x22. The log is synced.
@@ -39,7 +41,7 @@ pub enum Step {
 }
 
 impl Step {
-    /// Reads a step field as the port writes it.
+    /// Reads a step field as the port writes it. Of 0x20 it does not say which header is meant: [`Step::RewriteHeader`].
     pub fn from_field(mut bytes: &[u8]) -> Option<Step> {
         let (tag, value) = field::take(&mut bytes)?;
         let parts = value.split(|byte| *byte == 0).filter(|part| !part.is_empty());
@@ -72,6 +74,7 @@ impl fmt::Display for Step {
     fn fmt(&self, f: &mut fmt::Formatter) -> fmt::Result {
         match self {
             Step::RewriteHeader => write!(f, "mark the log Committing"),
+            Step::MarkHeld => write!(f, "mark the log Held"),
             Step::SyncStaging => write!(f, "sync the staging files"),
             Step::SyncLog => write!(f, "sync the log"),
             Step::MakeDirectory { directory } => write!(f, "make directory {directory}"),

@@ -91,7 +91,7 @@ extern \"C\" {
 ";
 
 const NUMBERS: &str = "
-/* What the functions return: 0, or a refusal, which leaves outputs, counters and causes as they were (but for 14 and 15 of a commit). */
+/* What the functions return: 0, or a refusal, which leaves outputs, counters and causes as they were (but for 14 and 15 of a commit or a hold). */
 enum cda_storage_number {
     CDA_STORAGE_DONE = 0";
 

@@ -13,7 +13,8 @@ use std::{
     time::Duration,
 };
 
-const COMMANDS: [&str; 12] = ["list", "log", "inventory", "recover", "put", "delete", "copy", "create", "drop", "clear", "apply", "cuts"];
+const COMMANDS: [&str; 15] =
+    ["list", "log", "inventory", "recover", "put", "delete", "copy", "create", "drop", "clear", "apply", "hold", "keep", "revert", "cuts"];
 
 /// Document 01's ten-step case.
 const TEN_STEPS: &str = "\
@@ -136,6 +137,12 @@ fn failures_are_told_apart() {
         "put store a new",
         "copy store db",
         "apply store",
+        "hold store",
+        "hold store frob",
+        "keep",
+        "keep store more",
+        "revert store more",
+        "cuts store keep more",
     ] {
         place.fails(64, line, "see cda-store --help");
     }
@@ -326,6 +333,83 @@ fn an_update_recovers_first() {
     place.said("put store db/a new --stop-after 8");
     assert_eq!(place.done("put store db/b old"), "Recovered an interrupted update first, in 1 step.\nCommitted in 8 steps.\n");
     assert_eq!(place.done("list store"), "db/\ndb/a 5\ndb/b 3\n");
+}
+
+const HELD: &str = "An update is held here; cda-store keep accepts it, cda-store revert takes it back.\n";
+
+#[test]
+fn an_update_is_held_then_kept_or_reverted() {
+    let place = Place::with_a();
+    place.fails(1, "keep store", "refusal 18 (NothingHeld)");
+    place.fails(1, "revert store", "refusal 18 (NothingHeld)");
+    place.fails(1, "cuts store revert", "refusal 18 (NothingHeld)");
+    let held = "Held in 9 steps; cda-store keep accepts it, cda-store revert takes it back.\n";
+    assert_eq!(place.done("hold store put db/a new"), held);
+    assert_eq!(place.done("list store"), format!("db/\ndb/a 5\ndb/a.bak 3\n{HELD}The first backup is db/a.bak.\n"));
+    assert_eq!(place.done("recover store"), format!("Nothing to recover.\n{HELD}"));
+    place.fails(1, "put store db/b new", "refusal 17 (HeldUpdate)");
+    place.fails(1, "cuts store put db/b new", "refusal 17 (HeldUpdate)");
+    place.fails(64, "keep store --stop-after 4", "the keep has no step 4");
+    let reverted = "   1  remove db/a\n   2  rename db/a.bak to db/a\n   3  remove the log\n";
+    assert_eq!(place.done("revert store"), format!("{reverted}Reverted in 3 steps.\n"));
+    assert_eq!(place.done("list store"), "db/\ndb/a 3\n");
+    place.done("hold store put db/a new");
+    assert_eq!(place.done("keep store"), "   1  remove the log\n   2  sync the journal\n   3  remove db/a.bak\nKept in 3 steps.\n");
+    assert_eq!(place.done("list store"), "db/\ndb/a 5\n");
+}
+
+#[test]
+fn a_revert_that_was_interrupted_is_ended() {
+    for (line, first) in
+        [("recover store", "Ended the revert, in 2 steps.\n"), ("put store db/b new", "Ended an interrupted revert first, in 2 steps.\n")]
+    {
+        let place = Place::with_a();
+        place.done("hold store put db/a new");
+        assert_eq!(place.said("revert store --stop-after 1"), (3, "Stopped after step 1; cda-store recover ends the revert.\n".into()));
+        let told = "The revert of a held update was interrupted here; cda-store recover ends it.\n";
+        assert_eq!(place.done("list store"), format!("db/\ndb/a.bak 3\n{told}The first backup is db/a.bak.\n"));
+        assert!(place.done(line).contains(first), "{line}");
+        assert!(place.done("list store").starts_with("db/\ndb/a 3\n"));
+    }
+    // A keep ends it too, and finds nothing to keep then.
+    let place = Place::with_a();
+    place.done("hold store put db/a new");
+    place.said("revert store --stop-after 1");
+    assert_eq!(place.said("keep store").0, 1);
+    assert_eq!(place.done("list store"), "db/\ndb/a 3\n");
+}
+
+/// What the tables of hold, keep and revert say of each cut is what `recover` leaves on disk.
+#[test]
+fn the_tables_of_a_held_update_hold_on_disk() {
+    let script = "put db/a new\nput db/b old\ncopy e z\ndelete e/k";
+    let place = || {
+        let place = Place::with_a();
+        place.done("put store e/k old");
+        fs::write(place.0.0.join("script"), script).unwrap();
+        place
+    };
+    let held = || {
+        let place = place();
+        place.done("hold store apply script");
+        place
+    };
+    let (kept, reverted) = (held(), held());
+    kept.done("keep store");
+    reverted.done("revert store");
+    let ends = [("earlier", reverted.done("list store")), ("held", held().done("list store")), ("later", kept.done("list store"))];
+    assert_eq!(ends[0].1, place().done("list store"));
+    for (plan, line) in [("hold apply script", "hold store apply script"), ("keep", "keep store"), ("revert", "revert store")] {
+        let start: &dyn Fn() -> Place = if plan.starts_with("hold") { &place } else { &held };
+        let table = start().done(&format!("cuts store {plan}"));
+        for (n, claim) in claims(&table).into_iter().enumerate() {
+            let place = start();
+            assert_eq!(place.said(&format!("{line} --stop-after {n}")).0, 3);
+            place.done("recover store");
+            let left = place.done("list store");
+            assert_eq!(ends.iter().find(|(_, end)| *end == left).map(|(word, _)| *word), Some(claim), "{line} cut behind {n}: {left}");
+        }
+    }
 }
 
 /// What recovery says of the log that an update left before anything was done, by what stands behind the log's entry.

@@ -2,7 +2,7 @@
 mod common;
 
 use cda_storage_sys::{self as sys, HIT_ROOM, IMAGE_ROOM, INVENTORY_ROOM, LOG_LIMIT, Output};
-use cda_store::{Backup, Cause, Contents, Files, Image, Log, Logged, Recovered, Refusal, Status, Step, Write};
+use cda_store::{Backup, Cause, Contents, Files, Image, Log, Logged, Plan, Recovered, Refusal, Status, Step, Write};
 use common::{COMMITTING, OLD_WRITE, RECORDING, crc32, ten_steps};
 use std::collections::BTreeMap;
 
@@ -175,12 +175,12 @@ fn every_step_in_words() {
 
 #[test]
 fn refusals_have_numbers_names_and_sentences() {
-    for (number, refusal) in (1..=16).chain([21]).zip(Refusal::all()) {
+    for (number, refusal) in (1..=18).chain([21]).zip(Refusal::all()) {
         assert_eq!((refusal.number(), refusal.name()), (number, format!("{refusal:?}").as_str()));
         assert_eq!(Refusal::from_number(number), Some(refusal));
     }
     assert_eq!(Refusal::all().last(), Some(Refusal::NoWholeLog));
-    assert_eq!((Refusal::from_number(0), Refusal::from_number(17), Refusal::from_number(22)), (None, None, None));
+    assert_eq!((Refusal::from_number(0), Refusal::from_number(19), Refusal::from_number(22)), (None, None, None));
     assert_eq!(Refusal::TransactionBusy.to_string(), "refusal 3 (TransactionBusy): a transaction is open already");
 }
 
@@ -238,6 +238,36 @@ fn a_failing_commit_hands_back_the_rolled_back_image() {
     let error = Image::default().commit().unwrap_err();
     assert_eq!((error.refusal, error.image), (Refusal::NoTransaction, None));
     assert_eq!(ten_steps().commit_step(11), Err(Refusal::PastTheEnd));
+}
+
+#[test]
+fn an_update_is_held_then_kept_or_reverted() {
+    let image = ten_steps();
+    let words = |image: &Image, plan| image.steps(plan).map(|stepped| stepped.unwrap().step.to_string()).collect::<Vec<_>>();
+    let told = words(&image, Plan::Hold);
+    assert_eq!(told[..7], words(&image, Plan::Commit)[..7]);
+    assert_eq!(told[7..], ["mark the log Held", "sync the log"]);
+    let held = image.hold().unwrap();
+    assert_eq!(held.contents().directories, store(&[("db", &[("a", 9), ("a.bak", 7)])]).directories);
+    assert!(held.is_held().unwrap() && held.has_pending_work().unwrap() && !image.is_held().unwrap());
+    assert_eq!(Log::read(&held.contents().log.unwrap()).unwrap().status, Status::Held);
+    assert_eq!(held.recover().unwrap().image, held);
+    assert_eq!(held.keep().unwrap(), image.commit().unwrap());
+    assert_eq!(held.revert().unwrap(), Recovered { image: store(&[("db", &[("a", 7)])]).image().unwrap(), cause: None });
+    assert_eq!(words(&held, Plan::Keep), ["remove the log", "sync the journal", "remove db/a.bak"]);
+    assert_eq!(words(&held, Plan::Revert), ["remove db/a", "rename db/a.bak to db/a", "remove the log"]);
+    // A keep after a part of a revert loses the key.
+    assert_eq!(held.step(Plan::Revert, 1).unwrap().0.keep().unwrap().contents(), store(&[("db", &[])]));
+    assert_eq!(held.begin(), Err(Refusal::HeldUpdate));
+    assert_eq!((image.keep(), image.revert()), (Err(Refusal::NothingHeld), Err(Refusal::NothingHeld)));
+    let torn = with_log(&held, |log| log.push(0));
+    assert_eq!((torn.revert(), torn.keep()), (Err(Refusal::Corruption), image.commit().map_err(|error| error.refusal)));
+    let discarded = with_log(&store(&[("e", &[])]).image().unwrap().begin().unwrap().hold().unwrap(), |log| log.push(0));
+    assert_eq!(discarded.revert().unwrap().cause, Some(Cause::HeaderShort));
+    let mut missing = ten_steps().contents();
+    missing.staging.clear();
+    let error = missing.image().unwrap().hold().unwrap_err();
+    assert_eq!((error.refusal, error.image.unwrap().contents()), (Refusal::StepFailed, store(&[("db", &[("a", 7)])])));
 }
 
 #[test]

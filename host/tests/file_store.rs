@@ -2,13 +2,15 @@
 mod common;
 
 use cda_storage_sys::LOG_LIMIT;
-use cda_store::{Cause, Event, FileStore, Reader, Refusal, Step, StoreError, Transaction, scan};
+use cda_store::{Cause, Event, FileStore, Plan, Reader, Refusal, Step, StoreError, Transaction, scan};
 use common::{COMMITTING, Folder, OLD_WRITE, RECORDING, crc32};
 use std::{
     fs,
     io::{self, Read},
     os::unix::fs::symlink,
+    panic::{AssertUnwindSafe, catch_unwind},
     path::{Path, PathBuf},
+    sync::{Arc, Mutex},
     thread,
     time::{Duration, SystemTime},
 };
@@ -561,4 +563,137 @@ fn what_recovery_ends_is_not_restored_or_accepted() {
         assert!(matches!(FileStore::accept(&folder.0, |_| {}), Err(StoreError::Sound { .. })));
         assert_eq!(folder.everything(), before);
     }
+}
+
+/// db/a=old, and an update of it to new that is held, with db/b beside it.
+fn held() -> Folder {
+    let folder = Folder::with(&["db/a=old"]);
+    let store = FileStore::open(&folder.0).unwrap();
+    let mut transaction = store.begin().unwrap();
+    transaction.write("db", "a", &b"new"[..]).unwrap();
+    transaction.write("db", "b", &b"2"[..]).unwrap();
+    transaction.hold().unwrap();
+    folder
+}
+
+const HELD: [&str; 4] = ["db/", "db/a=new", "db/a.bak=old", "db/b=2"];
+
+#[test]
+fn an_update_is_held_until_it_is_kept_or_reverted() {
+    for keep in [true, false] {
+        let folder = held();
+        assert_eq!(folder.files(), HELD);
+        // An open leaves it, and what is read is the new content.
+        let store = FileStore::open(&folder.0).unwrap();
+        assert!(store.is_held().unwrap());
+        assert_eq!((folder.files(), store.list("db").unwrap()), (HELD.map(String::from).to_vec(), vec!["a".to_string(), "b".to_string()]));
+        assert_eq!(refusal(store.begin().map(|_| ())), Refusal::HeldUpdate);
+        if keep {
+            store.keep().unwrap();
+            assert_eq!(folder.files(), ["db/", "db/a=new", "db/b=2"]);
+        } else {
+            assert_eq!(store.revert().unwrap(), None);
+            assert_eq!(folder.files(), ["db/", "db/a=old"]);
+        }
+        assert!(!store.is_held().unwrap() && !store.image().unwrap().has_pending_work().unwrap());
+        assert_eq!(refusal(store.keep()), Refusal::NothingHeld);
+        assert_eq!(refusal(store.revert().map(|_| ())), Refusal::NothingHeld);
+        let mut transaction = store.begin().unwrap();
+        assert_eq!(refusal(store.keep()), Refusal::NothingHeld, "a transaction is open");
+        transaction.delete("db", "a").unwrap();
+        transaction.commit().unwrap();
+        let names: Vec<PathBuf> = folder.everything().into_keys().filter(|path| path.starts_with(folder.0.join("journal"))).collect();
+        assert_eq!(names, [folder.0.join("journal"), folder.0.join("journal/staging")], "no mark is left");
+    }
+}
+
+#[test]
+fn a_refused_hold_touches_no_collection() {
+    let folder = Folder::with(&["db/a=old"]);
+    let store = FileStore::open(&folder.0).unwrap();
+    let mut transaction = store.begin().unwrap();
+    transaction.delete_collection("db").unwrap();
+    transaction.copy_collection("db", "e").unwrap();
+    assert_eq!(refusal(transaction.hold()), Refusal::StepFailed);
+    assert!(!store.is_held().unwrap());
+    assert_eq!(folder.files(), ["db/", "db/a=old"]);
+}
+
+/// Stops the revert before this step, by an observer that panics.
+fn revert_stopped(folder: &Folder, number: u64) {
+    let observer = move |event: &Event| assert!(event.done || event.number != number, "stopped");
+    let store = FileStore::open_observed(&folder.0, observer).unwrap();
+    assert!(catch_unwind(AssertUnwindSafe(|| store.revert())).is_err());
+    assert!(matches!(store.keep(), Err(StoreError::Stopped)), "a keep here would lose keys");
+    drop(store);
+}
+
+#[test]
+fn a_revert_that_was_begun_is_ended_by_the_next_open() {
+    for number in 1..=4 {
+        let folder = held();
+        revert_stopped(&folder, number);
+        let reader = Reader::open(&folder.0).unwrap();
+        assert!(reader.is_reverting().unwrap() && reader.image().unwrap().is_held().unwrap(), "step {number}");
+        drop(reader);
+        let told = Arc::new(Mutex::new(Vec::new()));
+        let seen = Arc::clone(&told);
+        let store = FileStore::open_observed(&folder.0, move |event| seen.lock().unwrap().push(event.plan)).unwrap();
+        assert!(told.lock().unwrap().iter().all(|plan| *plan == Plan::Revert) && !store.is_held().unwrap());
+        assert_eq!(folder.files(), ["db/", "db/a=old"], "step {number}");
+        assert!(!folder.0.join("journal/reverting").exists());
+    }
+}
+
+/// A mark whose revert came to the removal of its log is cleared away; it is no part of an image.
+#[test]
+fn a_mark_without_a_held_log_is_cleared_away() {
+    for log in [None, Some(RECORDING), Some(COMMITTING)] {
+        let folder = with_log(&["db/a=1"], log.unwrap_or_default());
+        let mark = folder.0.join("journal/reverting");
+        fs::write(&mark, "").unwrap();
+        if log.is_none() {
+            fs::remove_file(folder.0.join("journal/transaction.wal")).unwrap();
+        }
+        assert_eq!(scan(&folder.0).unwrap().contents().log.as_deref(), log);
+        FileStore::open(&folder.0).unwrap();
+        assert!(!mark.exists());
+        assert_eq!(folder.files(), ["db/", "db/a=1"]);
+    }
+    let folder = store_and(|root| fs::create_dir_all(root.join("journal/reverting")).unwrap());
+    foreign(&folder, "journal/reverting");
+}
+
+/// Adds bytes to the log of the held update.
+fn torn_held() -> Folder {
+    let folder = held();
+    let log = folder.0.join("journal/transaction.wal");
+    fs::write(&log, [fs::read(&log).unwrap(), b"?".to_vec()].concat()).unwrap();
+    folder
+}
+
+#[test]
+fn a_held_update_with_a_damaged_log_is_kept_or_restored() {
+    let folder = torn_held();
+    let store = FileStore::open(&folder.0).unwrap();
+    let before = folder.everything();
+    assert_eq!(refusal(store.revert().map(|_| ())), Refusal::Corruption);
+    assert_eq!(folder.everything(), before, "no mark either");
+    store.keep().unwrap();
+    assert_eq!(folder.files(), ["db/", "db/a=new", "db/b=2"]);
+    drop(store);
+    let folder = torn_held();
+    FileStore::accept(&folder.0, |_| {}).unwrap();
+    assert_eq!(folder.files(), ["db/", "db/a=new", "db/b=2"]);
+    // A restore that is stopped halfway leaves no update that could be kept: it is begun again.
+    let folder = torn_held();
+    let stop = |event: &Event| assert!(event.number < 2, "stopped");
+    assert!(catch_unwind(AssertUnwindSafe(|| FileStore::restore(&folder.0, stop).map(|_| ()))).is_err());
+    assert_eq!(folder.files(), ["db/", "db/a.bak=old", "db/b=2"]);
+    assert_eq!(refusal(FileStore::open(&folder.0).map(|_| ())), Refusal::Corruption);
+    FileStore::restore(&folder.0, |_| {}).unwrap();
+    assert_eq!(folder.files(), ["db/", "db/a=old", "db/b=2"], "what the update put anew stays");
+    assert!(!FileStore::open(&folder.0).unwrap().is_held().unwrap());
+    let folder = held();
+    assert!(matches!(FileStore::restore(&folder.0, |_| {}), Err(StoreError::Sound { .. })));
 }

@@ -15,7 +15,7 @@ pub fn carry_out(layout: &Layout, step: &Step, after: &Image) -> Result<(), Stor
     result.map_err(|source| StoreError::Io { path, step: Some(step.clone()), source })
 }
 
-/// The removal of the log at a recovery's end. What was undone is on the disk before, and the removal behind it.
+/// The removal of the log at a recovery's or a revert's end. What was undone is on the disk before, and the removal behind it.
 pub fn remove_log_for_good(layout: &Layout, after: &Image) -> Result<(), StoreError> {
     layout.sync_collections(&after.contents())?;
     carry_out(layout, &Step::RemoveLog, after)?;
@@ -31,6 +31,7 @@ fn call(layout: &Layout, step: &Step, after: &Image) -> (PathBuf, io::Result<()>
     };
     match step {
         Step::RewriteHeader => at(layout.log(), &|log| rewrite_header(layout, log, after)),
+        Step::MarkHeld => at(layout.log(), &|log| replace_log(layout, log, after)),
         Step::SyncStaging => at(layout.staging(), &|path| sync_files(layout, path)),
         Step::SyncLog => at(layout.log(), &|path| calls.sync(path)),
         Step::MakeDirectory { directory } => at(layout.directory(directory), &|path| calls.make_directory(path)),
@@ -56,6 +57,16 @@ fn call(layout: &Layout, step: &Step, after: &Image) -> (PathBuf, io::Result<()>
 fn rewrite_header(layout: &Layout, log: &Path, after: &Image) -> io::Result<()> {
     let header = after.contents().log.unwrap_or_default();
     layout.calls.overwrite(log, &header[..8])
+}
+
+/// Puts the image's log in the place of the one that stands, whole. In place a loss of power could tear the header while backups stand, and
+/// nobody could tell then how far the update came.
+fn replace_log(layout: &Layout, log: &Path, after: &Image) -> io::Result<()> {
+    let aside = layout.staged(ASIDE);
+    layout.calls.write(&aside, &after.contents().log.unwrap_or_default())?;
+    layout.calls.sync(&aside)?;
+    layout.calls.rename(&aside, log)?;
+    layout.calls.sync(&layout.journal())
 }
 
 fn sync_files(layout: &Layout, directory: &Path) -> io::Result<()> {

@@ -7,8 +7,11 @@ use std::{
     path::{Path, PathBuf},
 };
 
-/// The staging file that a copy is made in. Written content has a number as name.
+/// The staging file that a copy, and a Held log, is made in. Written content has a number as name.
 pub const ASIDE: &str = "copy.tmp";
+
+/// The file in the journal that says that a revert was begun.
+const REVERTING: &str = "reverting";
 
 pub struct Layout {
     root: PathBuf,
@@ -36,6 +39,9 @@ impl Layout {
     }
     pub fn log(&self) -> PathBuf {
         self.journal().join("transaction.wal")
+    }
+    pub fn reverting(&self) -> PathBuf {
+        self.journal().join(REVERTING)
     }
     pub fn staging(&self) -> PathBuf {
         self.journal().join("staging")

@@ -3,7 +3,7 @@ use super::{
     error::StoreError,
     layout::Layout,
     lock::lock,
-    scan::{journal, scan},
+    scan::{is_reverting, journal, scan},
 };
 use crate::{
     calls::{Lock, System},
@@ -30,6 +30,11 @@ impl Reader {
     /// The store as it stands on disk, with the files numbered from 1.
     pub fn image(&self) -> Result<Image, StoreError> {
         Ok(scan(&self.layout)?.image()?)
+    }
+
+    /// Whether a revert of a held update was begun and is not done. The next open of a [`FileStore`](crate::FileStore) ends it.
+    pub fn is_reverting(&self) -> Result<bool, StoreError> {
+        is_reverting(&self.layout)
     }
 
     /// The bytes of the log, if one stands. What stands among the collections is not looked at.

@@ -60,6 +60,11 @@ pub fn has_aside(layout: &Layout) -> Result<bool, StoreError> {
     Ok(entries(layout, &layout.staging())?.iter().any(|entry| entry.is_aside(layout)))
 }
 
+/// Whether a revert was begun and is not done: the host's own mark stands beside the log. It is no part of an image.
+pub fn is_reverting(layout: &Layout) -> Result<bool, StoreError> {
+    Ok(entries(layout, &layout.journal())?.iter().any(|entry| entry.is_mark(layout)))
+}
+
 /// The files of a directory, which are at most so many.
 fn files(entries: Vec<Entry>, room: usize, limit: &str, numbers: &mut Numbers) -> Result<Files, StoreError> {
     let mut files = Files::new();
@@ -71,7 +76,7 @@ fn files(entries: Vec<Entry>, room: usize, limit: &str, numbers: &mut Numbers) -
     Ok(files)
 }
 
-/// The log, where the journal holds nothing but it and the staging directory.
+/// The log, where the journal holds nothing but it, the staging directory and the mark of a revert.
 pub fn journal(layout: &Layout) -> Result<Option<Vec<u8>>, StoreError> {
     let mut log = None;
     for entry in entries(layout, &layout.journal())? {
@@ -79,7 +84,7 @@ pub fn journal(layout: &Layout) -> Result<Option<Vec<u8>>, StoreError> {
             entry.require(entry.kind == Kind::File, "the log is a regular file")?;
             let bytes = layout.calls.read(&entry.path, LOG_LIMIT as u64 + 1).map_err(StoreError::at(&entry.path))?;
             log = Some(within_limit(&entry, bytes)?);
-        } else {
+        } else if !entry.is_mark(layout) {
             entry.require(entry.path == layout.staging(), "the journal holds transaction.wal and staging alone")?;
             entry.require(entry.kind == Kind::Directory, "it is not a directory")?;
         }
@@ -110,6 +115,10 @@ impl Entry {
 
     fn is_aside(&self, layout: &Layout) -> bool {
         self.kind == Kind::File && self.path == layout.staged(ASIDE)
+    }
+
+    fn is_mark(&self, layout: &Layout) -> bool {
+        self.kind == Kind::File && self.path == layout.reverting()
     }
 
     fn name(&self) -> Result<String, StoreError> {

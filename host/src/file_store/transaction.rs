@@ -2,7 +2,7 @@
 use super::{FileStore, State, carry_out::carry_out, error::StoreError};
 use crate::{
     Refusal,
-    entries::Plan,
+    entries::{CommitError, Plan},
     image::{Contents, Image},
     step::Step,
 };
@@ -73,14 +73,28 @@ impl<'a> Transaction<'a> {
     /// Applies what was recorded. On [`Refusal::StepFailed`] and [`Refusal::StoreFull`], which are known before the first step,
     /// the transaction is discarded, and no collection is touched. Where a file call failed behind the step that removes the log,
     /// the commit stands, and the next open only clears up.
-    pub fn commit(mut self) -> Result<(), StoreError> {
+    pub fn commit(self) -> Result<(), StoreError> {
+        let committed = self.image.commit();
+        self.carry_out(Plan::Commit, committed)
+    }
+
+    /// Applies what was recorded and holds it: its log and the backups stay, and no other transaction can be begun, until
+    /// [`FileStore::keep`] accepts it or [`FileStore::revert`] takes it back. It is refused as [`Transaction::commit`] is. Where a file call
+    /// failed behind the step that marks the log Held, the update is held.
+    pub fn hold(self) -> Result<(), StoreError> {
+        let held = self.image.hold();
+        self.carry_out(Plan::Hold, held)
+    }
+
+    /// Carries out a commit, held or not, or discards one that is refused.
+    fn carry_out(mut self, plan: Plan, answer: Result<Image, CommitError>) -> Result<(), StoreError> {
         self.store.running()?;
-        if let Err(error) = self.image.commit() {
+        if let Err(error) = answer {
             self.discard()?;
             return Err(StoreError::Refused(error.refusal));
         }
         self.ended = true;
-        self.store.run(Plan::Commit, &self.image)?;
+        self.store.run(plan, &self.image)?;
         self.store.state.set(State::Idle);
         Ok(())
     }

@@ -1,4 +1,4 @@
-//! The sixteen functions that the static library `cda_storage` exports, on lent bytes, each returning 0 or a refusal's
+//! The functions that the static library `cda_storage` exports, on lent bytes, each returning 0 or a refusal's
 //! number. They are listed in `entries.txt`; the declarations, this crate's functions and `include/cda_storage.h` are made
 //! of that list. All unsafe code is here: a slice is handed on as its pointer and length.
 

@@ -1,5 +1,5 @@
 /* db/a=7, a Write of 9 to a, its commit cut after each of its ten steps, and recovery: prints a's number for each cut, from the one
-   before the first step. Built and run by header.rs. */
+   before the first step; then the same update held, kept and reverted. Built and run by header.rs. */
 #include "cda_storage.h"
 
 #include <stdio.h>
@@ -27,5 +27,11 @@ int main(void) {
     }
     if (cda_storage_log_cause(BYTES("\xCA\x01\0\0\xAD\x1D\xCB\x07?"), &cause) != CDA_STORAGE_DONE || cause != CDA_STORAGE_HEADER_SHORT) return 9;
     if (cda_storage_log_cause(BYTES("?"), &cause) != CDA_STORAGE_NO_WHOLE_LOG || cause != CDA_STORAGE_HEADER_SHORT) return 10;
+    if (cda_storage_hold(b, m, ROOM(cut), &left) != CDA_STORAGE_DONE) return 11;
+    if (cda_storage_begin(cut, left, ROOM(a), &n) != CDA_STORAGE_HELD_UPDATE) return 12;
+    if (cda_storage_keep_step(cut, left, 0, ROOM(a), &n, ROOM(step), &field) != CDA_STORAGE_DONE || field != 0) return 13;
+    if (cda_storage_keep(cut, left, ROOM(a), &n) != CDA_STORAGE_DONE || n != 13 || a[8] != 9) return 14;
+    if (cda_storage_revert(cut, left, ROOM(a), &n, &cause) != CDA_STORAGE_DONE || n != 13 || a[8] != 7 || cause != CDA_STORAGE_NOT_BROKEN) return 15;
+    if (cda_storage_revert_step(a, n, 1, ROOM(b), &m, ROOM(step), &field) != CDA_STORAGE_NOTHING_HELD) return 16;
     return 0;
 }

@@ -87,7 +87,7 @@ pub fn new_keys_killed(seen: &Seen, root: &Path, seed: u64) {
 }
 
 /// The twelve keys of a generation, in two collections.
-fn generation(seed: u64, number: u64) -> Tree {
+pub fn generation(seed: u64, number: u64) -> Tree {
     let random = &mut Random::new(seed, number);
     let mut keys = || (0..6).map(|i| (format!("k{i}"), content(random, 10_000))).collect();
     ["db", "fonts"].map(|collection| (collection.to_string(), keys())).into()

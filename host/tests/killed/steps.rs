@@ -36,24 +36,25 @@ impl fmt::Display for Seen {
     }
 }
 
-/// The child: says the transaction's image, commits it, and stands still behind step n. A commit that is refused has no step: there
-/// it stands still behind the answer.
-pub fn child(root: &str, case: &Case, n: u64) {
-    let store = FileStore::open_observed(root, stand_still_at(Plan::Commit, n)).unwrap();
+/// The child: says the transaction's image, commits or holds it, and stands still behind step n. A commit that is refused has no step:
+/// there it stands still behind the answer.
+pub fn child(root: &str, case: &Case, plan: Plan, n: u64) {
+    let store = FileStore::open_observed(root, stand_still_at(plan, n)).unwrap();
     let mut transaction = store.begin().unwrap();
     case.record(&mut transaction);
     say(&transaction.image().bytes().iter().map(|byte| format!("{byte:02x}")).collect::<String>());
-    match transaction.commit() {
+    match if plan == Plan::Hold { transaction.hold() } else { transaction.commit() } {
         Err(StoreError::Refused(_)) => here(),
         _ => panic!("there is no step {n}"),
     }
     stand_still()
 }
 
-/// Lays out the case, kills its commit behind step n, and hands back the transaction's image.
-pub fn commit_killed(root: &Path, case: &Case, seed: u64, number: u64, n: u64) -> Image {
+/// Lays out the case, kills its commit, held or not, behind step n, and hands back the transaction's image.
+pub fn commit_killed(root: &Path, case: &Case, plan: Plan, seed: u64, number: u64, n: u64) -> Image {
     Disk::at_rest(case.before.clone()).lay_out(root);
-    let words = ["commit".to_string(), root.display().to_string()].into_iter().chain([seed, number, n].map(|word| word.to_string()));
+    let child = if plan == Plan::Hold { "hold" } else { "commit" };
+    let words = [child.to_string(), root.display().to_string()].into_iter().chain([seed, number, n].map(|word| word.to_string()));
     let said = killed(&words.collect::<Vec<_>>(), Duration::ZERO);
     let [hex] = &said[..] else { panic!("seed {seed}, case {number}, step {n}: the child said {said:?}") };
     let bytes = (0..hex.len()).step_by(2).map(|at| u8::from_str_radix(&hex[at..at + 2], 16).unwrap());
@@ -74,7 +75,7 @@ impl Recorded {
     /// Lays out the case and records it.
     fn new(root: &Path, seed: u64, number: u64) -> Recorded {
         let case = Case::new(seed, number);
-        let image = commit_killed(root, &case, seed, number, 0);
+        let image = commit_killed(root, &case, Plan::Commit, seed, number, 0);
         let (fails, name) = (image.commit().is_err(), format!("seed {seed}, case {number}"));
         let mut recorded = Recorded { case, image, fails, by_number: ByNumber::new(), name };
         recorded.by_number = by_number(&recorded.cut(0).contents(), root);
@@ -119,7 +120,7 @@ pub fn every_step(seen: &Seen, root: &Path, seed: u64, number: u64) -> Recorded 
     seen.failing_puts.add(*fails && is_puts);
     for n in 0..=steps {
         if n > 0 {
-            assert_eq!(commit_killed(root, case, seed, number, n), *image);
+            assert_eq!(commit_killed(root, case, Plan::Commit, seed, number, n), *image);
         }
         let at = format!("{}, step {n}", recorded.name);
         let cut = recorded.cut(n);

@@ -1,16 +1,42 @@
 //! The command line.
 use crate::{failure::Failure, help, operation::Operation};
+use cda_store::Plan;
 use std::{ffi::OsString, path::PathBuf};
 
 #[derive(Debug)]
 pub enum Command {
     Tell(String),
-    List { store: PathBuf },
-    Inventory { store: PathBuf },
-    Log { of: PathBuf },
-    Recover { store: PathBuf, way: Way },
-    Update { store: PathBuf, operations: Vec<Operation>, stop_after: Option<u64> },
-    Cuts { store: PathBuf, operations: Vec<Operation>, picture: Option<PathBuf> },
+    List {
+        store: PathBuf,
+    },
+    Inventory {
+        store: PathBuf,
+    },
+    Log {
+        of: PathBuf,
+    },
+    Recover {
+        store: PathBuf,
+        way: Way,
+    },
+    Update {
+        store: PathBuf,
+        operations: Vec<Operation>,
+        hold: bool,
+        stop_after: Option<u64>,
+    },
+    /// Keeps or reverts the held update.
+    End {
+        store: PathBuf,
+        plan: Plan,
+        stop_after: Option<u64>,
+    },
+    Cuts {
+        store: PathBuf,
+        plan: Plan,
+        operations: Vec<Operation>,
+        picture: Option<PathBuf>,
+    },
 }
 
 /// How a store is recovered.
@@ -26,7 +52,7 @@ pub enum Way {
 impl Command {
     /// Whether the command's work is done in a store; that of the others is the text that they print.
     pub fn works_on_a_store(&self) -> bool {
-        matches!(self, Command::Recover { .. } | Command::Update { .. })
+        matches!(self, Command::Recover { .. } | Command::Update { .. } | Command::End { .. })
     }
 }
 
@@ -40,7 +66,7 @@ pub fn read(words: &[OsString]) -> Result<Command, Failure> {
     let name = words.first().or(behind.first()).ok_or_else(|| Failure::Usage("no command".into()))?;
     let name = name.to_string_lossy().into_owned();
     help::of(&name)?;
-    let stop_after = option(&mut words, "--stop-after", &name, help::is_update(&name))?;
+    let stop_after = option(&mut words, "--stop-after", &name, help::has_steps(&name))?.map(number).transpose()?;
     let picture = option(&mut words, "--svg", &name, name == "cuts")?.map(PathBuf::from);
     let way = match [flag(&mut words, "--restore", &name)?, flag(&mut words, "--accept", &name)?] {
         [false, false] => Way::Usual,
@@ -56,17 +82,38 @@ pub fn read(words: &[OsString]) -> Result<Command, Failure> {
     let store = words.next().map(PathBuf::from).ok_or_else(|| Failure::Usage(format!("{name} takes {what}")))?;
     let words: Vec<OsString> = words.collect();
     match name.as_str() {
-        "list" | "log" | "recover" if !words.is_empty() => Err(Failure::Usage(format!("{name} takes {what} alone"))),
+        "list" | "log" | "recover" | "keep" | "revert" if !words.is_empty() => Err(Failure::Usage(format!("{name} takes {what} alone"))),
         "inventory" if !words.is_empty() => Err(Failure::Usage("inventory takes a directory or an image alone".into())),
         "list" => Ok(Command::List { store }),
         "log" => Ok(Command::Log { of: store }),
         "inventory" => Ok(Command::Inventory { store }),
         "recover" => Ok(Command::Recover { store, way }),
+        "keep" => Ok(Command::End { store, plan: Plan::Keep, stop_after }),
+        "revert" => Ok(Command::End { store, plan: Plan::Revert, stop_after }),
+        "hold" if words.is_empty() => Err(Failure::Usage("hold takes an operation".into())),
+        "hold" => Ok(Command::Update { store, operations: operations(&words)?, hold: true, stop_after }),
         "cuts" => {
-            let read = |(name, words): (&OsString, &[OsString])| Operation::read(&name.to_string_lossy(), words);
-            Ok(Command::Cuts { store, operations: words.split_first().map_or(Ok(Vec::new()), read)?, picture })
+            let (plan, words) = planned(&words)?;
+            Ok(Command::Cuts { store, plan, operations: operations(words)?, picture })
         }
-        _ => Ok(Command::Update { store, operations: Operation::read(&name, &words)?, stop_after: stop_after.map(number).transpose()? }),
+        _ => Ok(Command::Update { store, operations: Operation::read(&name, &words)?, hold: false, stop_after }),
+    }
+}
+
+/// An operation and its words; none where there are no words.
+fn operations(words: &[OsString]) -> Result<Vec<Operation>, Failure> {
+    words.split_first().map_or(Ok(Vec::new()), |(name, words)| Operation::read(&name.to_string_lossy(), words))
+}
+
+/// Which plan `cuts` is asked for, and the words behind it.
+fn planned(words: &[OsString]) -> Result<(Plan, &[OsString]), Failure> {
+    let Some((first, rest)) = words.split_first() else { return Ok((Plan::Commit, words)) };
+    match first.to_str() {
+        Some("hold") => Ok((Plan::Hold, rest)),
+        Some("keep" | "revert") if !rest.is_empty() => Err(Failure::Usage(format!("cuts takes no word behind {}", first.display()))),
+        Some("keep") => Ok((Plan::Keep, rest)),
+        Some("revert") => Ok((Plan::Revert, rest)),
+        _ => Ok((Plan::Commit, words)),
     }
 }
 

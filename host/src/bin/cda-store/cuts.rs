@@ -1,4 +1,4 @@
-//! What recovery leaves of a transaction that is cut behind each of its steps.
+//! What the next open leaves of a commit, held or not, a keep or a revert that is cut behind each of its steps.
 use crate::{
     count::Count,
     failure::Failure,
@@ -7,11 +7,12 @@ use crate::{
     update,
     why::{Scene, Why},
 };
-use cda_store::{Contents, Files, Image, Refusal, Step, Stepped, StoreError};
+use cda_store::{Contents, Files, Image, Plan, Refusal, Step, Stepped, StoreError};
 use std::{collections::BTreeMap, path::Path};
 
-/// All cuts of a transaction, from the one before its first step.
+/// All cuts of a plan, from the one before its first step.
 pub struct Cuts {
+    pub plan: Plan,
     pub cuts: Vec<Cut>,
     /// Why the commit itself is refused. It is known before the first step, so nothing is done, and there is one cut.
     pub refusal: Option<Refusal>,
@@ -24,10 +25,11 @@ pub struct Cut {
     pub outcome: Outcome,
 }
 
-/// What recovery leaves.
+/// What the next open leaves.
 #[derive(Clone, PartialEq, Eq, Debug)]
 pub enum Outcome {
     Earlier,
+    Held,
     Later,
     Other(Vec<Remark>),
     Refused(Refusal),
@@ -64,6 +66,7 @@ impl Outcome {
     pub fn word(&self) -> &'static str {
         match self {
             Outcome::Earlier => "earlier",
+            Outcome::Held => "held",
             Outcome::Later => "later",
             Outcome::Refused(_) => "refused",
             Outcome::Other(remarks) => remarks.iter().map(|remark| remark.change).min().map_or("other", Change::word),
@@ -71,12 +74,13 @@ impl Outcome {
     }
 }
 
-/// The transaction that is asked for: the operations upon what recovery makes of the store; without operations, the one that
-/// stands open there.
-pub fn transaction(store: &Path, operations: &[Operation]) -> Result<Image, Failure> {
+/// What is cut: of a keep or revert the held update; else a transaction, of these operations upon what the next open makes of the store, or
+/// without operations the one that stands open there.
+pub fn subject(store: &Path, plan: Plan, operations: &[Operation]) -> Result<Image, Failure> {
     let is_image = store.is_file();
     let image = update::image(store)?;
-    if operations.is_empty() {
+    let ends_a_hold = matches!(plan, Plan::Keep | Plan::Revert);
+    if operations.is_empty() && !ends_a_hold {
         let contents = image.contents();
         let open = contents.open || !is_image;
         return Ok(Contents { open, ..contents }.image()?);
@@ -85,48 +89,89 @@ pub fn transaction(store: &Path, operations: &[Operation]) -> Result<Image, Fail
         let path = if is_image { store.to_path_buf() } else { store.join("journal/transaction.wal") };
         return Err(StoreError::Damaged { path }.into());
     }
-    let begun = image.recover()?.image.begin()?;
-    Ok(operations.iter().try_fold(begun, |image, operation| operation.imagine(&image))?)
+    let opened = update::opened(store, &image)?;
+    if ends_a_hold {
+        return Ok(opened);
+    }
+    Ok(operations.iter().try_fold(opened.begin()?, |image, operation| operation.imagine(&image))?)
 }
 
-/// Cuts the transaction behind each step, and before the first.
-pub fn cuts(transaction: &Image) -> Result<Cuts, Failure> {
-    let (after, refusal) = match transaction.commit() {
-        Ok(after) => (after, None),
-        Err(error) => (error.image.ok_or(error.refusal).and(transaction.rollback())?, Some(error.refusal)),
-    };
-    let (earlier, later) = (paths(transaction), paths(&after));
+/// What a plan can leave: the files from before, the held update, the files that a commit makes.
+struct Ends {
+    earlier: Option<Paths>,
+    held: Option<Paths>,
+    later: Option<Paths>,
+}
+
+impl Ends {
+    /// And why the commit itself is refused, if it is.
+    fn of(plan: Plan, start: &Image) -> Result<(Ends, Option<Refusal>), Failure> {
+        let answer = match plan {
+            Plan::Keep => Ok(start.keep()?),
+            Plan::Revert => Ok(start.revert()?.image),
+            Plan::Hold => start.hold(),
+            _ => start.commit(),
+        };
+        let (after, refusal) = match answer {
+            Ok(after) => (after, None),
+            Err(error) => (error.image.ok_or(error.refusal).and(start.rollback())?, Some(error.refusal)),
+        };
+        let (start, after) = (paths(start), paths(&after));
+        let ends = match plan {
+            Plan::Keep => Ends { earlier: None, held: Some(start), later: Some(after) },
+            Plan::Revert => Ends { earlier: Some(after), held: None, later: None },
+            Plan::Hold => Ends { earlier: Some(start), held: Some(after), later: None },
+            _ => Ends { earlier: Some(start), held: None, later: Some(after) },
+        };
+        Ok((ends, refusal))
+    }
+
+    fn outcome(&self, plan: Plan, scene: &Scene, cut: &Image) -> Result<Outcome, Failure> {
+        // A revert that was begun is ended by the next open.
+        let opened = if plan == Plan::Revert && cut.is_held()? { cut.revert() } else { cut.recover() };
+        let found = match opened {
+            Ok(opened) if opened.image.is_held()? => Found { held: true, paths: paths(&opened.image) },
+            Ok(opened) => Found { held: false, paths: paths(&opened.image) },
+            Err(refusal) => return Ok(Outcome::Refused(refusal)),
+        };
+        let is = |end: &Option<Paths>| end.as_ref() == Some(&found.paths);
+        let log_stood = scene.cut.log.is_some();
+        let wanted = if log_stood { self.earlier.as_ref().or(self.held.as_ref()) } else { self.later.as_ref().or(self.earlier.as_ref()) };
+        Ok(match found.held {
+            true if is(&self.held) => Outcome::Held,
+            false if is(&self.earlier) => Outcome::Earlier,
+            false if is(&self.later) => Outcome::Later,
+            _ => Outcome::Other(remarks(scene, wanted.expect("a plan has an end"), &found.paths)),
+        })
+    }
+}
+
+/// What the next open leaves.
+struct Found {
+    held: bool,
+    paths: Paths,
+}
+
+/// Cuts a plan behind each step, and before the first.
+pub fn cuts(plan: Plan, start: &Image) -> Result<Cuts, Failure> {
+    let (ends, refusal) = Ends::of(plan, start)?;
     let mut progress = Progress::new();
     let mut steps: Vec<Stepped> = Vec::new();
-    for stepped in transaction.commit_steps().take_while(|_| refusal.is_none()) {
+    for stepped in start.steps(plan).take_while(|_| refusal.is_none()) {
         progress.tell(|| format!("step {}", steps.len() + 1));
         steps.push(stepped?);
     }
-    let before = transaction.contents();
+    let before = start.contents();
     let mut cut = |n: usize| {
         progress.tell(|| format!("cut {n} of {}", steps.len()));
         let done = n.checked_sub(1).map(|i| &steps[i]);
-        let image = done.map_or(transaction, |stepped| &stepped.image);
+        let image = done.map_or(start, |stepped| &stepped.image);
         let scene = Scene { before: &before, cut: image.contents() };
-        Cut { step: done.map(|stepped| stepped.step.clone()), outcome: outcome(&scene, image, &earlier, &later) }
+        Ok(Cut { step: done.map(|stepped| stepped.step.clone()), outcome: ends.outcome(plan, &scene, image)? })
     };
-    let count = Count::of(&before).filter(|_| refusal.is_none());
-    Ok(Cuts { cuts: (0..=steps.len()).map(&mut cut).collect(), refusal, count })
-}
-
-fn outcome(scene: &Scene, cut: &Image, earlier: &Paths, later: &Paths) -> Outcome {
-    let found = match cut.recover() {
-        Ok(recovered) => paths(&recovered.image),
-        Err(refusal) => return Outcome::Refused(refusal),
-    };
-    if found == *earlier {
-        return Outcome::Earlier;
-    }
-    if found == *later {
-        return Outcome::Later;
-    }
-    let wanted = if scene.cut.log.is_some() { earlier } else { later };
-    Outcome::Other(remarks(scene, wanted, &found))
+    let cuts = (0..=steps.len()).map(&mut cut).collect::<Result<_, Failure>>()?;
+    let count = Count::of(&before).filter(|_| refusal.is_none() && plan == Plan::Commit);
+    Ok(Cuts { plan, cuts, refusal, count })
 }
 
 /// Every file with its number, and every collection with 0.

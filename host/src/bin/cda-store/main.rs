@@ -66,9 +66,10 @@ fn run(command: Command) -> Result<String, Failure> {
         Command::Inventory { store } => Ok(update::image(&store)?.inventory()? + "\n"),
         Command::Log { of } => log::log(&of),
         Command::Recover { store, way } => update::recover(&store, way),
-        Command::Update { store, operations, stop_after } => update::update(&store, &operations, stop_after),
-        Command::Cuts { store, operations, picture } => {
-            let cuts = cuts::cuts(&cuts::transaction(&store, &operations)?)?;
+        Command::Update { store, operations, hold, stop_after } => update::update(&store, &operations, hold, stop_after),
+        Command::End { store, plan, stop_after } => update::end(&store, plan, stop_after),
+        Command::Cuts { store, plan, operations, picture } => {
+            let cuts = cuts::cuts(plan, &cuts::subject(&store, plan, &operations)?)?;
             if let Some(picture) = picture {
                 std::fs::write(&picture, svg::picture(&cuts)).map_err(Failure::at(&picture))?;
             }

@@ -26,6 +26,7 @@ fn colour(word: &str) -> &'static str {
     match word {
         "earlier" => "#1f5fa8",
         "later" => "#1a7a4c",
+        "held" => "#5b3f9c",
         "kept" => "#8a5a00",
         _ => "#b3261e",
     }

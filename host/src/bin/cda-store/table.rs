@@ -5,7 +5,7 @@ use crate::{
     fold::folded,
     why::Why,
 };
-use cda_store::Refusal;
+use cda_store::{Plan, Refusal};
 use std::collections::{BTreeMap, BTreeSet};
 use std::fmt::Write;
 
@@ -24,8 +24,17 @@ pub fn text(cuts: &Cuts) -> String {
     let rows: Vec<Row> = [head].into_iter().chain(cuts.cuts.iter().enumerate().map(|(n, cut)| row(n, cut))).collect();
     let width = |column: usize| rows.iter().flat_map(|row| &row[column]).map(String::len).max().unwrap_or(0);
     let table: String = rows.iter().map(|row| aligned(row, width(0), width(1))).collect();
-    let top = format!("The commit has {} steps. Cut behind step n and recovered, the store has:\n\n", cuts.cuts.len() - 1);
+    let top = format!("{}, the store has:\n\n", top(cuts.plan, cuts.cuts.len() - 1));
     top + &table + "\n" + &summary(cuts) + "\n" + &notes(cuts).join("\n") + "\n"
+}
+
+fn top(plan: Plan, steps: usize) -> String {
+    match plan {
+        Plan::Hold => format!("The held commit has {steps} steps. Cut behind step n and recovered"),
+        Plan::Keep => format!("The keep has {steps} steps. Cut behind step n and recovered"),
+        Plan::Revert => format!("The revert has {steps} steps. Cut behind step n and opened again, which ends it"),
+        _ => format!("The commit has {steps} steps. Cut behind step n and recovered"),
+    }
 }
 
 fn row(n: usize, cut: &Cut) -> Row {
@@ -87,11 +96,18 @@ pub fn summary(cuts: &Cuts) -> String {
 /// The number of steps, where a rule says it, and a note for each word that needs one.
 pub fn notes(cuts: &Cuts) -> Vec<String> {
     let count = cuts.count.map(|count| format!("{} steps = {count}: {}.", cuts.cuts.len() - 1, Count::LEGEND));
-    let always = "earlier: exactly the files from before. later: exactly the files that the commit makes. A cut ends the process between two steps; \
-                  what was written stays.";
+    let ends = match cuts.plan {
+        Plan::Hold => {
+            "earlier: exactly the files from before. held: exactly the files that the update makes, beside backups of those from before."
+        }
+        Plan::Keep => "held: as before the keep. later: exactly the files that an ordinary commit makes.",
+        Plan::Revert => "earlier: exactly the files that a revert without a cut leaves.",
+        _ => "earlier: exactly the files from before. later: exactly the files that the commit makes.",
+    };
+    let always = format!("{ends} A cut ends the process between two steps; what was written stays.");
     let reasons = reasons(cuts).into_iter().map(|why| format!("{}: {}", why.words(), why.sentence()));
     let refused = cuts.refusal.map(refused);
-    count.into_iter().chain([always.to_string()]).chain(reasons).chain(refused).collect()
+    count.into_iter().chain([always]).chain(reasons).chain(refused).collect()
 }
 
 /// The reasons that the cuts show.

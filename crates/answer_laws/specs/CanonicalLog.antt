@@ -69,7 +69,7 @@ unfolding validHeader
 valid-status l e =
     and-both (atLeast 8 l && eqb (getD l 0 0) 0xCA && sameBytes (take 4 (drop 4 l)) (littleEndian 4 (crc32 (take 2 l)))) (leb (getD l 1 0) 2) e .1
 
-eight : (l : Bytes) → validHeader l ≡ true → 8 ≤ length l
+pub eight : (l : Bytes) → validHeader l ≡ true → 8 ≤ length l
 unfolding validHeader
 eight l e =
     let sum : Bool = sameBytes (take 4 (drop 4 l)) (littleEndian 4 (crc32 (take 2 l))) in
@@ -84,7 +84,7 @@ rewritten-entries : (n : ℕ) (l : Bytes) → entries (withStatus n l) ≡ entri
 unfolding entries header littleEndian
 rewritten-entries n l = refl
 
-rewritten-length : (n : ℕ) (l : Bytes) → 8 ≤ length l → length (withStatus n l) ≡ length l
+pub rewritten-length : (n : ℕ) (l : Bytes) → 8 ≤ length l → length (withStatus n l) ≡ length l
 unfolding header littleEndian
 rewritten-length n l h = omega (arith, length-drop 8 l)
 

@@ -17,7 +17,7 @@ use Rattle.model.specs.Store.{Store, stagingKey, validNumber}
 use Rattle.model.specs.Image.{encode, decode}
 use Rattle.model.specs.Step.{withTree}
 use Rattle.model.specs.Plan.{recoverFault, recovered, unheld, reverted, kept, discardedCause}
-use Rattle.answers.specs.Answers.{Answer, answer, refusal, recoverStore, recover, revertStore, revert, keepStore, keep, recoverCause}
+use Rattle.answers.specs.Answers.{Answer, answer, refusal, recoverStore, recover, revertStore, revert, keepStore, keep, recoverCause, revertCause, Broke}
 use Rattle.basic_laws.specs.MapLaws.{Sorted, key-dec, none≢some, some-inj, look-put-same, look-put-other, sorted-put, put-put, put-same, look-all}
 use Rattle.basic_laws.specs.Tests.{All, of-T, eqb-eq}
 use Rattle.basic_laws.specs.ValidNames.{Valid, Restored, validRestores}
@@ -426,9 +426,17 @@ keep-not-spread b c s u d e a out =
     (refl, λ z. handed s u g h a keep-quiet (at-most-one s u g h a keep-quiet))))
 
 -- 02, item 1: how the log broke that recovery discards, and revert; the same for both images.
-pub same-cause : (b c : Bytes) (s u : Store) → decode b ≡ some s → decode c ≡ some u → Altered s u → recoverCause b ≡ recoverCause c
+pub same-cause : (b c : Bytes) (s u : Store) → decode b ≡ some s → decode c ≡ some u → Altered s u → (out : ℕ) → recoverCause b out ≡ recoverCause c out
 unfolding recoverCause
-same-cause b c s u d e a = rw (d, e, same-log s u a)
+same-cause b c s u d e a out =
+    let p = recover-not-spread b c s u d e a out .0 in
+    let q : caseOption (decode b) 0 (λ s. discardedCause (journal (s .log))) ≡ caseOption (decode c) 0 (λ s. discardedCause (journal (s .log))) = rw (d, e, same-log s u a) in
+    λ i. record { number = p i; cause = q i }
 
-pub same-revert-cause : (s u : Store) → Altered s u → discardedCause (unheld (journal (s .log))) ≡ discardedCause (unheld (journal (u .log)))
-same-revert-cause s u a = rw (same-log s u a)
+pub same-revert-cause : (b c : Bytes) (s u : Store) → decode b ≡ some s → decode c ≡ some u → Altered s u → (out : ℕ) → revertCause b out ≡ revertCause c out
+unfolding revertCause
+same-revert-cause b c s u d e a out =
+    let p = revert-not-spread b c s u d e a out .0 in
+    let q : caseOption (decode b) 0 (λ s. discardedCause (unheld (journal (s .log)))) ≡ caseOption (decode c) 0 (λ s. discardedCause (unheld (journal (s .log))))
+    = rw (d, e, same-log s u a) in
+    λ i. record { number = p i; cause = q i }

@@ -3,14 +3,14 @@ use Prim.Native.Nat.{ℕ, zero, suc, _+_, _/_, _%_}
 use mathlib.Core.List.{List, [], _∷_, _++_}
 use mathlib.Core.Bool.{Bool, false, _&&_}
 use lib.ListN.{length, drop, getD}
-use lib.Dec.{leb}
+use lib.Dec.{leb, eqb}
 use Rattle.basics.specs.Limits.{imageRoom, keysRoom, stepRoom, hitRoom, logLimit}
 use Rattle.basics.specs.Order.{Name}
 use Rattle.basics.specs.Map.{Node}
 use Rattle.basics.specs.Base.{Bytes, caseOption, if_then_else_, ifEmpty, flatMap}
 use Rattle.basics.specs.Name.{validName}
 use Rattle.basics.specs.Field.{encodeFields}
-use Rattle.model.specs.Log.{journal, isHeld, Ending, whole, truncated, undecodable, tooMany, validHeader, entries, writeLog, endingCause}
+use Rattle.model.specs.Log.{Ending, whole, truncated, undecodable, tooMany, endingCause, validHeader, entries, journal, isHeld, writeLog}
 use Rattle.model.specs.Store.{Store, firstBackup, hasPendingWork}
 use Rattle.model.specs.Image.{hitFields, encode, decode}
 use Rattle.model.specs.Step.{Step, fieldAt, commitNumber}
@@ -200,14 +200,17 @@ listKeys c b out = onImage b (leb keysRoom out) λ s. if validName c then record
 unfoldable pub findBackup : Bytes → ℕ → Answer
 findBackup b out = onImage b (leb hitRoom out) λ s. record { number = 0; image = encodeFields (hitFields (firstBackup (s .tree))); step = [] }
 
--- A whole log's answer, by how its walk ended. 02, item 12: "Within the walk the first met of truncation (21), 11 and 12 decides, for each status."
-abbrev pub canonicalBy : ℕ → List Op → Ending → Answer
-canonicalBy status ops whole = record { number = 0; image = writeLog status ops; step = [] }
-canonicalBy status ops (truncated c) = refusal 21
-canonicalBy status ops undecodable = refusal 11
-canonicalBy status ops tooMany = refusal 12
+-- The number where a whole log is asked for. 02, item 12: "Within the walk the first met of truncation (21), 11 and 12 decides, for each status."
+abbrev pub wholeNumber : Ending → ℕ
+wholeNumber whole = 0
+wholeNumber (truncated c) = 21
+wholeNumber undecodable = 11
+wholeNumber tooMany = 12
 
--- `cda_storage_canonical_log`: 1, 2, 21, 11, 12. 02, item 12: "Here 1 means a log over 6,952 bytes and 2 an output shorter than the log. Turned away: 21, no
+abbrev pub canonicalBy : ℕ → List Op → Ending → Answer
+canonicalBy status ops e = if eqb (wholeNumber e) 0 then record { number = 0; image = writeLog status ops; step = [] } else refusal (wholeNumber e)
+
+-- 02, item 12, one way to write a log: 1, 2, 21, 11, 12. No entry hands it out yet. "Here 1 means a log over 6,952 bytes and 2 an output shorter than the log. Turned away: 21, no
 -- valid header, tested after 2, or truncated."
 unfoldable pub canonicalLog : Bytes → ℕ → Answer
 canonicalLog l out =

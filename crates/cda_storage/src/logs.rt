@@ -1,4 +1,4 @@
-// A log that is lent alone: its bytes as they stand in the file.
+// A log that is lent alone, its bytes as they stand in the file: how it broke.
 ghost use mathlib.Core.Path.{_≡_};
 ghost use Rattle.model.specs.Log.{validHeader};
 ghost use Rattle.wal.specs.Logs.{endingOf};

@@ -6,7 +6,7 @@
 //
 //     0x01  the call, one byte: 1 begin, 2 write, 3 delete, 4 delete_all, 5 create_collection, 6 delete_collection, 7 copy_collection,
 //           8 rollback, 9 commit, 10 commit_step, 11 has_pending_work, 12 recover, 13 recover_step, 14 list_keys, 15 find_backup,
-//           16 log_cause, 17 inventory
+//           16 log_cause, 17 inventory, 18 hold, 19 hold_step, 20 keep, 21 keep_step, 22 revert, 23 revert_step
 //     0x02  collection, source or name; 0x03 key; 0x04 staging name; 0x05 destination
 //     0x06  content number in four bytes, or step number in eight
 //     0x07  lengths of the lent outputs, four bytes each: image, keys, backup or text, step field; ample where absent
@@ -224,6 +224,9 @@ fn run(call: u8, q: &[u8], out: &mut [u8], written: &mut usize, cause: &mut u32)
         14 => cda_storage::cda_storage_list_keys(image, name, out, written),
         15 => cda_storage::cda_storage_find_backup(image, out, written),
         INVENTORY => cda_storage::cda_storage_inventory(image, out, written),
+        18 => cda_storage::cda_storage_hold(image, out, written),
+        20 => cda_storage::cda_storage_keep(image, out, written),
+        22 => cda_storage::cda_storage_revert(image, out, written, cause),
         _ => record(call, q, out, written),
     }
 }
@@ -246,6 +249,9 @@ fn enter(
         11 => cda_storage::cda_storage_has_pending_work(image, pending),
         13 => cda_storage::cda_storage_recover_step(image, n, out, written, step, step_written),
         16 => cda_storage::cda_storage_log_cause(image, cause),
+        19 => cda_storage::cda_storage_hold_step(image, n, out, written, step, step_written),
+        21 => cda_storage::cda_storage_keep_step(image, n, out, written, step, step_written),
+        23 => cda_storage::cda_storage_revert_step(image, n, out, written, step, step_written),
         _ => run(call, q, out, written, cause),
     }
 }

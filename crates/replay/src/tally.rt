@@ -74,6 +74,12 @@ fn put_entry(call: u8) {
         15 => put(b"find_backup"),
         16 => put(b"log_cause"),
         17 => put(b"inventory"),
+        18 => put(b"hold"),
+        19 => put(b"hold_step"),
+        20 => put(b"keep"),
+        21 => put(b"keep_step"),
+        22 => put(b"revert"),
+        23 => put(b"revert_step"),
         _ => put(b"no entry"),
     }
 }
@@ -99,7 +105,7 @@ fn put_row(cells: &[u32; 704], call: u8) {
 }
 
 fn put_rows(cells: &[u32; 704]) {
-    for call in 1..17u8 {
+    for call in 1..24u8 {
         put_row(cells, call);
     }
 }

@@ -2,14 +2,15 @@
 -- Spread.antt; a call is what its contract says (Calls.antt).
 use mathlib.Core.Path.{_≡_, sym, ap, _∙_}
 use mathlib.Core.Option.{some}
+use lib.Dec.{eqb}
 use Prim.Native.Nat.{ℕ}
 use lib.ListN.{length}
-use Rattle.basics.specs.Base.{Bytes}
+use Rattle.basics.specs.Base.{Bytes, if_then_else_}
 use Rattle.model.specs.Store.{Store}
 use Rattle.model.specs.Image.{encode, decode}
-use Rattle.answers.specs.Answers.{Answer, recover, revert, keep}
-use Rattle.answer_laws.specs.Spread.{Altered, AtMostOneFile, AtMostOne, NotSpread, recover-not-spread, revert-not-spread, keep-not-spread}
-use Rattle.handover.specs.Contract.{handsBack}
+use Rattle.answers.specs.Answers.{Answer, Broke, recover, recoverCause, revert, revertCause, keep}
+use Rattle.answer_laws.specs.Spread.{Altered, AtMostOneFile, AtMostOne, NotSpread, recover-not-spread, revert-not-spread, keep-not-spread, same-cause, same-revert-cause}
+use Rattle.handover.specs.Contract.{handsBack, CauseGives}
 use Rattle.cda_storage.specs.Calls.{Call, handedBack, handed}
 
 -- What two calls have handed back: the images of two stores that are so far apart.
@@ -59,3 +60,21 @@ revert-by-calls = by-calls revert-not-spread
 
 pub keep-by-calls : NotSpreadByCalls AtMostOne keep
 keep-by-calls = by-calls keep-not-spread
+
+-- "Recovery also hands that number back" (item 1): two such calls, lent equally long outputs and the same cause, tell the same one.
+abbrev pub SameCauseByCalls : (Bytes → ℕ → Broke) → Type 0
+SameCauseByCalls broke =
+    (b c : Bytes) (s u : Store) → decode b ≡ some s → decode c ≡ some u → Altered s u →
+    (out n m cause told other : ℕ) → CauseGives (broke b out) n cause told → CauseGives (broke c out) m cause other → (n ≡ m) × (told ≡ other)
+
+cause-by-calls : {x y : Broke} → x ≡ y → {n m cause told other : ℕ} → CauseGives x n cause told → CauseGives y m cause other → (n ≡ m) × (told ≡ other)
+cause-by-calls q {cause = k} g h = (
+  g .number ∙ ap (λ (r : Broke). r .number) q ∙ sym (h .number),
+  g .told ∙ ap (λ (r : Broke). if eqb (r .number) 0 then r .cause else k) q ∙ sym (h .told),
+)
+
+pub recover-cause-by-calls : SameCauseByCalls recoverCause
+recover-cause-by-calls b c s u d e a out n m k x y g h = cause-by-calls (same-cause b c s u d e a out) g h
+
+pub revert-cause-by-calls : SameCauseByCalls revertCause
+revert-cause-by-calls b c s u d e a out n m k x y g h = cause-by-calls (same-revert-cause b c s u d e a out) g h

@@ -12,6 +12,7 @@ import sys
 
 ROOT = os.path.dirname(os.path.dirname(os.path.realpath(__file__)))
 TOKEN = re.compile(r"[^\s(){}\[\];,.\"`]+")
+TOGETHER = re.compile(r"^\s+(?:pub )?([a-z]\w*(?: [a-z]\w*)+) : ")
 DECLARED = re.compile(r"^\s*(?:(?:pub|abbrev|unfoldable|record|data)\s+)*([^\s(){}\[\];,.\"]+)\s+:\s")
 FIELDS = {"open_mark"}
 SKIP = {"let", "λ", "--", "use", "ghost", "where", "in", "|", "infix", "infixl", "infixr"}
@@ -36,7 +37,7 @@ def is_own(p):
 
 
 def declared():
-    own, library = set(), set()
+    own, library, more = set(), set(), set()
     for p in files(".antt"):
         t = read(p)
         for line in t.split("\n"):
@@ -51,12 +52,15 @@ def declared():
                 m = DECLARED.match(line)
                 if m and m.group(1) not in SKIP:
                     own.add(m.group(1))
+                m = TOGETHER.match(line)
+                if m and m.group(1).split()[0] not in ("let", "pub", "abbrev", "unfoldable", "record", "data"):
+                    more.update(m.group(1).split())
     for p in files(".rt"):
         for m in re.finditer(r"ghost use ([^\s{]+)\.\{([^}]*)\}", read(p)):
             crate = m.group(1).split(".")
             if crate[0] != "Rattle" or crate[1] == "std":
                 library.update(i.split(" as ")[0].strip() for i in m.group(2).split(","))
-    return own, library
+    return own, library, more
 
 
 def snake(name):
@@ -135,8 +139,11 @@ def in_page(text, new):
 
 
 def main():
-    own, library = declared()
+    own, library, more = declared()
     new, late = spelling(own, library)
+    new.update({n: snake(n) for n in more - library if n not in new and snake(n) != n})
+    if "--cased" in sys.argv:
+        new, late = {a: b for a, b in new.items() if "-" not in a and snake(a) != a}, {}
     if "--dry" in sys.argv:
         for a, b in sorted(new.items()):
             print(a, b)

@@ -1,18 +1,17 @@
 -- How long the answers are: no image is longer than 19,390 bytes, no key list longer than 8,576, no step field longer than 197 and what names a
 -- backup no longer than 138, whatever is lent.
-use Rattle.std.specs.Prelude.{◌≡◌, ℕ, zero, suc, ◌+◌, ◌*◌, ◌-◌, ◌≤◌, List, [], ◌∷◌, ◌++◌, Bool, true, false, ◌||◌, length}
+use Rattle.std.specs.Prelude.{◌≡◌, ℕ, zero, suc, ◌+◌, ◌*◌, ◌-◌, ◌≤◌, List, [], ◌∷◌, ◌++◌, Bool, true, false, ◌||◌, length, if◌then◌else◌}
 use native.Mathlib.Omega.{arith}
 use Rattle.std.proofs.Math.ListN.{get_elem?, length-map}
 use Rattle.std.proofs.Common.{length-append}
 use Rattle.basics.specs.Limits.{image_room, keys_room, step_room, hit_room}
 use Rattle.basics.specs.Order.{Name, Cmp, lt, eq, gt, cmp_name, case_cmp}
 use Rattle.basics.specs.Map.{Map}
-use Rattle.basics.specs.Base.{Bytes, case_option, if◌then◌else◌, if_empty, flat_map}
+use Rattle.basics.specs.Base.{Bytes, case_option, if_empty, flat_map}
 use Rattle.basics.specs.Name.{lower_byte, lower, is_backup, is_tmp}
 use Rattle.basics.specs.Field.{little_endian, encode_field}
 use Rattle.model.specs.Store.{Store, files, file_count}
 use Rattle.model.specs.Step.{Step, zero_separated, tag_and_names, step_field, commit_number, field_at}
-use Rattle.model.specs.Step
 use Rattle.model.specs.Plan.{commit_fault, commit_plan, recover_plan, recovered, without_mark, hold_plan, revert_plan, reverted, keep_plan, kept}
 use Rattle.model.specs.Record.{Outcome, begin_transaction, discard, record_write, record_delete, record_delete_keys, record_delete_all, record_create, record_delete_collection, record_copy, key_list}
 use Rattle.answers.specs.Answers.{Answer, refusal, answer, image_entry, begin, write, delete, delete_keys, delete_all, create_collection, delete_collection, copy_collection, rollback, commit, recover, commit_step, recover_step, list_keys, find_backup, hold, keep, revert, hold_step, keep_step, revert_step}
@@ -46,13 +45,13 @@ separated_length (n ∷ m ∷ r) h =
 
 few-names : (x : Step) → length (tag_and_names x).1 ≤ 3
 unfolding tag_and_names
-few-names Step.rewriteHeader = omega arith
-few-names Step.holdHeader = omega arith
-few-names Step.syncStaging = omega arith
-few-names Step.syncLog = omega arith
-few-names Step.removeLog = omega arith
-few-names Step.syncJournal = omega arith
-few-names Step.syncCollections = omega arith
+few-names Step.rewrite_header = omega arith
+few-names Step.hold_header = omega arith
+few-names Step.sync_staging = omega arith
+few-names Step.sync_log = omega arith
+few-names Step.remove_log = omega arith
+few-names Step.sync_journal = omega arith
+few-names Step.sync_collections = omega arith
 few-names (Step.make_directory d) = omega arith
 few-names (Step.rename_file d a b) = omega arith
 few-names (Step.move_staged f d k) = omega arith

@@ -1,11 +1,11 @@
 -- 02, item 12, one way to write a log: what `canonical_log` writes of a log is that log's status and operations, written again it is the same, and two logs
 -- have equal status and operations exactly if what is written for them is byte for byte equal. All statuses and kinds are covered: nothing here goes by them.
-use Rattle.std.specs.Prelude.{◌≡◌, refl, [], ◌∷◌, List, Bool, true, false, ◌&&◌, ℕ, ◌≤◌, length, take, drop, get_or, leb, eqb}
+use Rattle.std.specs.Prelude.{◌≡◌, refl, [], ◌∷◌, List, Bool, true, false, ◌&&◌, ℕ, ◌≤◌, length, take, drop, get_or, leb, eqb, if◌then◌else◌}
 use Rattle.std.proofs.Common.{sym, ap, ◌∙◌, ap₂, arith, length-drop}
 use Rattle.basics.specs.Limits.{log_limit}
-use Rattle.basics.specs.Base.{Bytes, if◌then◌else◌, at_least, same_bytes}
+use Rattle.basics.specs.Base.{Bytes, at_least, same_bytes}
 use Rattle.basics.specs.Field.{little_endian}
-use Rattle.model.specs.Log.{Ending, whole, truncated, undecodable, tooMany, header, valid_header, entries, with_status, write_log, Entries}
+use Rattle.model.specs.Log.{Ending, whole, truncated, undecodable, too_many, header, valid_header, entries, with_status, write_log, Entries}
 use Rattle.answers.specs.Answers.{Answer, refusal, canonical_by, canonical_log}
 use Rattle.basic_laws.specs.Tests.{All, leb_le, le-leb, and_both, same_refl}
 use Rattle.basic_laws.specs.FieldLaws.{Byte}
@@ -26,7 +26,7 @@ on_canonical P l out r h = go (leb (length l) log_limit) (leb (length l) out) (v
     go true true true whole = h (entries l).ops
     go true true true (truncated c) = r.1.1.0
     go true true true undecodable = r.1.1.1.0
-    go true true true tooMany = r.1.1.1.1.0
+    go true true true too_many = r.1.1.1.1.0
     go true true false d = r.1.1.0
     go true false c d = r.1.0
     go false b c d = r.0
@@ -48,7 +48,7 @@ canonical_of l out e = go (leb (length l) log_limit) refl (leb (length l) out) r
     go true p true q true v whole r e = record { short = leb_le _ _ p; room = leb_le _ _ q; valid = v; read = r }
     go true p true q true v (truncated c) r e = absurd (omega (arith, e))
     go true p true q true v undecodable r e = absurd (omega (arith, e))
-    go true p true q true v tooMany r e = absurd (omega (arith, e))
+    go true p true q true v too_many r e = absurd (omega (arith, e))
     go true p true q false v d r e = absurd (omega (arith, e))
     go true p false q c v d r e = absurd (omega (arith, e))
     go false p b q c v d r e = absurd (omega (arith, e))

@@ -1,6 +1,6 @@
 -- 02, item 1: "What recovery decides is the same for all three." Two stores with the same directories, files and staging files and with a
 -- truncated Committing log of the same operations, each broken in its own way: recovery gives both the same answer but for the cause.
-use Rattle.std.specs.Prelude.{◌≡◌, refl, ℕ, suc, false, take}
+use Rattle.std.specs.Prelude.{◌≡◌, ℕ, suc, false, take}
 use Rattle.std.proofs.Common.{sym, ap₂, ◌∙◌}
 use mathlib.Core.List.{List, ◌∷◌, append-nil}
 use Rattle.std.proofs.Math.Option.{none, some}
@@ -10,7 +10,7 @@ use Rattle.model.specs.Operation.{Op}
 use Rattle.model.specs.Log.{Cause, truncated, committing, journal, cause_number}
 use Rattle.model.specs.Store.{Store}
 use Rattle.model.specs.Image.{decode}
-use Rattle.model.specs.Step.{Step, removeLog, apply, apply_all}
+use Rattle.model.specs.Step.{Step, remove_log, apply, apply_all}
 use Rattle.model.specs.Plan.{recover_fault, recover_plan, recovered_at, recovered, remove_staging_files, without_mark}
 use Rattle.answers.specs.Answers.{recover_store, recover, recover_step, recover_cause}
 
@@ -28,7 +28,7 @@ abbrev unlogged : Map → Map → Store
 unlogged t g = record { tree = t; staging = g; log = none; open_mark = false }
 
 abbrev discarding : Map → Map → List Step
-discarding t g = removeLog ∷ remove_staging_files (unlogged t g)
+discarding t g = remove_log ∷ remove_staging_files (unlogged t g)
 
 module _ (s : Store) (ops : List Op) (c : Cause) (e : journal s.log ≡ committing ops (truncated c)) where
   discards : recover_plan (without_mark s) ≡ discarding s.tree s.staging

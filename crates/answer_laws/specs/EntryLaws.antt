@@ -1,5 +1,5 @@
 -- What holds of an entry's answer, by the ways in which it can answer: a refusal, with one of its numbers, or what it hands back.
-use Rattle.std.specs.Prelude.{◌≡◌, refl, ℕ, Bool, false, ◌&&◌, ◌||◌, length}
+use Rattle.std.specs.Prelude.{◌≡◌, refl, ℕ, Bool, false, ◌&&◌, ◌||◌, length, if◌then◌else◌}
 use Rattle.std.proofs.Common.{sym, arith, inl, inr}
 use mathlib.Core.List.{List, [], ◌∷◌}
 use Rattle.std.proofs.Math.Option.{Option, none, some}
@@ -8,10 +8,10 @@ use Rattle.std.proofs.Math.Dec.{leb}
 use Rattle.basics.specs.Limits.{image_room, keys_room, step_room, hit_room}
 use Rattle.basics.specs.Order.{Name}
 use Rattle.basics.specs.Map.{Map}
-use Rattle.basics.specs.Base.{Bytes, case_option, if◌then◌else◌, any_of, In}
+use Rattle.basics.specs.Base.{Bytes, case_option, any_of, In}
 use Rattle.basics.specs.Name.{valid_name}
 use Rattle.basics.specs.Field.{encode_fields}
-use Rattle.model.specs.Log.{Journal, absent, recording, committing, journal, whole, truncated, undecodable, tooMany, held, is_held}
+use Rattle.model.specs.Log.{Journal, absent, recording, committing, journal, whole, truncated, undecodable, too_many, held, is_held}
 use Rattle.model.specs.Store.{Store, has_backup_files, first_backup}
 use Rattle.model.specs.Image.{hit_fields, encode, decode}
 use Rattle.model.specs.Step.{Step, Fault, fails, full, commit_number, field_at}
@@ -65,7 +65,7 @@ recover-numbers l (committing o (truncated c)) t n e = go (has_backup_files t ||
     go true e = inr (inr (inl (sym (some_inj e))))
     go false e = none≢some e
 recover-numbers l (committing o undecodable) t n e = inl (sym (some_inj e))
-recover-numbers l (committing o tooMany) t n e = inr (inl (sym (some_inj e)))
+recover-numbers l (committing o too_many) t n e = inr (inl (sym (some_inj e)))
 recover-numbers l (held o x) t n e = none≢some e
 
 abbrev pub keep_refusals : List ℕ

@@ -1,6 +1,6 @@
 -- A reader can trust the inventory's text: a small reader of this JSON gives the directories with their files and numbers back. So no name breaks
 -- out of its quotes.
-use Rattle.std.specs.Prelude.{◌≡◌, Bool, true, false, not, ◌&&◌, leb, eqb}
+use Rattle.std.specs.Prelude.{◌≡◌, Bool, true, false, not, ◌&&◌, leb, eqb, if◌then◌else◌}
 use Rattle.std.proofs.Math.Path.{refl, ap}
 use Rattle.std.proofs.Common.{sym, ◌∙◌, arith, le-leb, leb-true, leb-false}
 use mathlib.Core.List.{List, [], ◌∷◌, ◌++◌, map, append-nil, append_assoc}
@@ -10,7 +10,7 @@ use Rattle.std.proofs.Math.ListN.{length, length-append}
 use Rattle.std.proofs.Math.Seq.{append_snoc}
 use Rattle.basics.specs.Order.{Cmp, lt, eq, gt, Name, cmp_name, case_cmp}
 use Rattle.basics.specs.Map.{Map}
-use Rattle.basics.specs.Base.{Bytes, case_option, if◌then◌else◌, if_empty, all_of, flat_map}
+use Rattle.basics.specs.Base.{Bytes, case_option, if_empty, all_of, flat_map}
 use Rattle.basics.specs.Name.{is_name_byte}
 use Rattle.model.specs.Store.{Store, dirs, valid_number}
 use Rattle.model.specs.Image.{decode}

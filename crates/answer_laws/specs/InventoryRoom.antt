@@ -1,7 +1,7 @@
 -- No inventory is longer than 20,178 bytes: 2 braces, 133 bytes for each of 16 directories and 141 for each of 128 files. A name of 64 double
 -- quotes takes 130 bytes and every other one at most 129; since no name stands twice in a directory, or twice as a directory's, the first takes
 -- the byte that a comma would.
-use Rattle.std.specs.Prelude.{◌≡◌, Bool, ℕ, suc, ◌+◌, ◌*◌, ◌≤◌, eqb}
+use Rattle.std.specs.Prelude.{◌≡◌, Bool, ℕ, suc, ◌+◌, ◌*◌, ◌≤◌, eqb, if◌then◌else◌}
 use Rattle.std.proofs.Math.Path.{refl}
 use Rattle.std.proofs.Common.{sym, ap, ap₂, subst, ◌∙◌, inl, inr}
 use Rattle.std.proofs.Math.Bool.{true, false}
@@ -14,7 +14,7 @@ use Rattle.std.proofs.Math.Dec.{leb}
 use borrow.Author.Tests.{leb-true, leb-false}
 use Rattle.basics.specs.Order.{Name}
 use Rattle.basics.specs.Map.{Map}
-use Rattle.basics.specs.Base.{Bytes, if◌then◌else◌, flat_map, In}
+use Rattle.basics.specs.Base.{Bytes, flat_map, In}
 use Rattle.model.specs.Store.{Store, dirs, files, valid_nodes}
 use Rattle.model.specs.Image.{decode}
 use Rattle.answers.specs.Answers.{decimal}

@@ -1,20 +1,17 @@
 -- 02, item 8 over the answers: a set answers as its keys in turn.
-use Rattle.std.specs.Prelude.{◌≡◌, refl, ℕ, ◌≤◌, List, [], ◌∷◌, Bool, true, false, ◌&&◌, ◌⊎◌, length, leb, eqb}
-use Rattle.std.proofs.Common.{sym, ◌∙◌, ap, subst, arith, inl, inr, ne_eqb}
+use Rattle.std.specs.Prelude.{◌≡◌, refl, ℕ, ◌≤◌, List, [], ◌∷◌, Bool, true, false, ◌⊎◌, length, leb, eqb, if◌then◌else◌}
+use Rattle.std.proofs.Common.{sym, ◌∙◌, ap, arith, inl, inr, ne_eqb}
 use Rattle.std.proofs.Math.Option.{Option, none, some}
 use Rattle.basics.specs.Limits.{image_room}
 use Rattle.basics.specs.Order.{Name}
-use Rattle.basics.specs.Base.{Bytes, case_option, if◌then◌else◌, all_of}
-use Rattle.basics.specs.Name.{valid_name}
-use Rattle.model.specs.Operation.{Op}
+use Rattle.basics.specs.Base.{Bytes, case_option}
 use Rattle.model.specs.Store.{Store}
 use Rattle.model.specs.Image.{encode, decode}
-use Rattle.model.specs.Record.{Outcome, refuse, give, transaction, require, record_delete, key_fields, key_set, and_then, record_deletes, record_delete_keys}
-use Rattle.answers.specs.Answers.{Answer, refusal, answer, outcome, on_image, image_entry, delete, delete_keys}
-use Rattle.basic_laws.specs.MapLaws.{none≢some, some_inj}
+use Rattle.model.specs.Record.{Outcome, refuse, give, record_delete, key_fields, key_set, and_then, record_deletes, record_delete_keys}
+use Rattle.answers.specs.Answers.{Answer, refusal, outcome, image_entry, delete, delete_keys}
+use Rattle.basic_laws.specs.MapLaws.{some_inj}
 use Rattle.laws.specs.ImageLaws.{decode-only, decode-encode}
-use Rattle.basic_laws.specs.ValidNames.{Valid}
-use Rattle.laws.specs.StoreLaws.{Good, good, well-formed}
+use Rattle.laws.specs.StoreLaws.{well-formed}
 use Rattle.laws.specs.RecordLaws.{Gives, delete-keeps}
 use Rattle.answer_laws.specs.EntryLaws.{lent-good}
 use Rattle.laws.specs.KeySetLaws.{deletes-keep, deletes-fit, set-lowered, set-some, set-records, set_cases}

@@ -1,6 +1,6 @@
 -- 02, item 14: "One altered file must not spread." Two images that differ in the content number of one file or staging file, and their recovery, revert
 -- and keep. A commit can spread a number, since it copies (SpreadExamples).
-use Rattle.std.specs.Prelude.{◌≡◌, refl, ℕ, suc, [], ◌∷◌, Bool, true, false, ◌⊎◌, ◌↔◌, leb, eqb}
+use Rattle.std.specs.Prelude.{◌≡◌, refl, ℕ, suc, [], ◌∷◌, Bool, true, false, ◌⊎◌, ◌↔◌, leb, eqb, if◌then◌else◌}
 use Rattle.std.proofs.Common.{sym, ◌∙◌, ap, arith, inl, inr}
 use Rattle.std.proofs.Math.Option.{Option, none, some}
 use Rattle.std.proofs.lemmas.Bool.{false≢true}
@@ -8,13 +8,13 @@ use Rattle.std.proofs.Math.Dec.{eqb_refl}
 use Rattle.basics.specs.Limits.{image_room, number_limit}
 use Rattle.basics.specs.Order.{Name, Key}
 use Rattle.basics.specs.Map.{Map, look, put, Has}
-use Rattle.basics.specs.Base.{Bytes, case_option, if◌then◌else◌, In}
+use Rattle.basics.specs.Base.{Bytes, case_option, In}
 use Rattle.model.specs.Log.{Journal, journal, is_held}
 use Rattle.model.specs.Store.{Store, staging_key, valid_number}
 use Rattle.model.specs.Image.{encode, decode}
 use Rattle.model.specs.Step.{with_tree}
 use Rattle.model.specs.Plan.{recover_fault, recovered, unheld, reverted, kept, discarded_cause}
-use Rattle.answers.specs.Answers.{Answer, answer, refusal, recover_store, recover, revert_store, revert, keep_store, keep, recover_cause, revert_cause, Broke}
+use Rattle.answers.specs.Answers.{Answer, answer, refusal, recover_store, recover, revert_store, revert, keep_store, keep, recover_cause, revert_cause}
 use Rattle.basic_laws.specs.MapLaws.{Sorted, key_dec, none≢some, some_inj, look-put-same, look-put-other, sorted-put, put-put, put_same, look-all}
 use Rattle.basic_laws.specs.Tests.{All, of_T, eqb-eq}
 use Rattle.basic_laws.specs.ValidNames.{Valid, Restored, valid_restores}

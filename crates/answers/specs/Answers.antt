@@ -1,12 +1,12 @@
 -- What each exported entry answers, from the lent bytes and the lengths of the lent outputs. The contracts of the entries cite these.
-use Rattle.std.specs.Prelude.{ℕ, zero, suc, ◌+◌, ◌/◌, ◌%◌, List, [], ◌∷◌, ◌++◌, Bool, false, ◌&&◌, length, drop, get_or, leb, eqb}
+use Rattle.std.specs.Prelude.{ℕ, zero, suc, ◌+◌, ◌/◌, ◌%◌, List, [], ◌∷◌, ◌++◌, Bool, false, ◌&&◌, length, drop, get_or, leb, eqb, if◌then◌else◌}
 use Rattle.basics.specs.Limits.{image_room, keys_room, step_room, hit_room, log_limit}
 use Rattle.basics.specs.Order.{Name}
 use Rattle.basics.specs.Map.{Node}
-use Rattle.basics.specs.Base.{Bytes, case_option, if◌then◌else◌, if_empty, flat_map}
+use Rattle.basics.specs.Base.{Bytes, case_option, if_empty, flat_map}
 use Rattle.basics.specs.Name.{valid_name}
 use Rattle.basics.specs.Field.{encode_fields}
-use Rattle.model.specs.Log.{Ending, whole, truncated, undecodable, tooMany, ending_cause, valid_header, entries, journal, is_held, write_log}
+use Rattle.model.specs.Log.{Ending, whole, truncated, undecodable, too_many, ending_cause, valid_header, entries, journal, is_held, write_log}
 use Rattle.model.specs.Store.{Store, first_backup, has_pending_work}
 use Rattle.model.specs.Image.{hit_fields, encode, decode}
 use Rattle.model.specs.Step.{Step, field_at, commit_number}
@@ -141,7 +141,7 @@ abbrev pub reading_number : Ending → ℕ
 reading_number whole = 0
 reading_number (truncated c) = 0
 reading_number undecodable = 11
-reading_number tooMany = 12
+reading_number too_many = 12
 
 -- `cda_storage_log_cause`: 1 for a log over the limit, 21 for one without a valid header, 11, 12. 02, item 1: "The log reading shall say which it met".
 unfoldable pub log_cause : Bytes → Broke
@@ -205,7 +205,7 @@ abbrev pub whole_number : Ending → ℕ
 whole_number whole = 0
 whole_number (truncated c) = 21
 whole_number undecodable = 11
-whole_number tooMany = 12
+whole_number too_many = 12
 
 abbrev pub canonical_by : ℕ → List Op → Ending → Answer
 canonical_by status ops e = if eqb (whole_number e) 0 then record { number = 0; image = write_log status ops; step = [] } else refusal (whole_number e)

@@ -1,7 +1,6 @@
 -- Worked cases of the exported entries, computed: what only they have. The corners of document 01 stand in crate model, Cases.
-use Rattle.std.specs.Prelude.{◌≡◌, refl, ℕ, List, [], ◌∷◌, ◌++◌, map, Bool, true, false, ◌&&◌, length, drop, take}
-use Prim.Native.String.{String}
-use Rattle.basics.specs.Limits.{image_room, keys_room, step_room, hit_room}
+use Rattle.std.specs.Prelude.{◌≡◌, refl, ℕ, List, [], ◌∷◌, ◌++◌, map, true, false, drop, take}
+use Rattle.basics.specs.Limits.{image_room, step_room, hit_room}
 use Rattle.basics.specs.Order.{cmp_key}
 use Rattle.basics.specs.Map.{look, put, del}
 use Rattle.basics.specs.Base.{Bytes, flat_map}
@@ -13,7 +12,7 @@ use Rattle.model.specs.Operation.{field_table, field_tags, kind, values, tagged,
 use Rattle.model.specs.Log.{header, entry, valid_header, first_payload, first_cause, walk, entries, read_journal, mark_committing, append_operation, mark_held, write_log}
 use Rattle.model.specs.Operation as operation
 use Rattle.model.specs.Store.{dirs, files, valid_node, valid_nodes, valid_staged, ascending, well_formed, has_backup_files, first_backup, has_pending_work}
-use Rattle.model.specs.Image.{hit_fields, image_fields, encode, tree_of, staging_of, log_of, store_of, decode}
+use Rattle.model.specs.Image.{image_fields, encode, tree_of, staging_of, log_of, store_of, decode}
 use Rattle.model.specs.Step.{remove_dir, rename_dir, apply, zero_separated, tag_and_names, step_field, step_fault}
 use Rattle.model.specs.Plan.{op_steps, undo_steps, restore_file, restore_directory, remove_backup_file, remove_backups_in, first_namings, sync_existing, commit_fault, plan_ending, ending_at, is_new_artifact, recover_plan, recovered_at, recovered, revert_plan, reverted_at, reverted, keep_plan, kept_at, kept}
 use Rattle.model.specs.Record.{transaction, begin_transaction, discard, record_write, record_delete_collection, record_copy, key_list}

@@ -1,9 +1,9 @@
 -- The inventory: 02, item 9. "Write the collections of an image as one object without spaces or line ends: each directory name with an object of
 -- its file names and content numbers in decimal, both in image order." The text is JSON (RFC 8259).
-use Rattle.std.specs.Prelude.{ℕ, List, [], ◌∷◌, ◌++◌, map, length, leb, eqb}
+use Rattle.std.specs.Prelude.{ℕ, List, [], ◌∷◌, ◌++◌, map, length, leb, eqb, if◌then◌else◌}
 use Rattle.basics.specs.Order.{Name, cmp_name, case_cmp}
 use Rattle.basics.specs.Map.{Map}
-use Rattle.basics.specs.Base.{Bytes, case_option, if◌then◌else◌, if_empty, flat_map}
+use Rattle.basics.specs.Base.{Bytes, case_option, if_empty, flat_map}
 use Rattle.model.specs.Store.{dirs}
 use Rattle.model.specs.Image.{decode}
 use Rattle.answers.specs.Answers.{Answer, refusal, decimal}

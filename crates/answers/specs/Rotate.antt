@@ -1,8 +1,8 @@
 -- `cda_storage_rotate`, the update rotation: 02, item 7.
-use Rattle.std.specs.Prelude.{ℕ, [], ◌∷◌, Bool, true, false, ◌&&◌, leb, eqb}
+use Rattle.std.specs.Prelude.{ℕ, [], ◌∷◌, Bool, true, false, ◌&&◌, leb, eqb, if◌then◌else◌}
 use Rattle.basics.specs.Limits.{image_room}
 use Rattle.basics.specs.Order.{Name}
-use Rattle.basics.specs.Base.{Bytes, if◌then◌else◌, if_empty}
+use Rattle.basics.specs.Base.{Bytes, if_empty}
 use Rattle.model.specs.Store.{Store, files}
 use Rattle.model.specs.Record.{has_dir}
 use Rattle.answers.specs.Answers.{Answer, refusal, on_image, begin, copy_collection, delete_collection, commit}

@@ -150,7 +150,7 @@ ext (n ∷ r) (m ∷ q) s t h = go (λ f. ext r q s.1 t.1 f) (key_dec n.0 m.0)
 
     go : (((k : Key) → look k r ≡ look k q) → r ≡ q) → Dec (n.0 ≡ m.0) → n ∷ r ≡ m ∷ q
     go ih (yes e) =
-        let v : n.1 ≡ m.1 = some_inj (sym (look-head n r) ∙ h n.0 ∙ rw e (look-head m q)) in
+        let v : n.1 ≡ m.1 = some_inj (sym (look-head n r) ∙ h n.0 ∙ ap (λ (k : Key). look k (m ∷ q)) e ∙ look-head m q) in
         ap₂ ◌∷◌ (λ i. (e i, v i)) (ih (λ k. tails e k (key_dec k n.0)))
     go ih (no e) =
         let a : cmp_key m.0 n.0 ≡ lt = t.0 n.0 n.1 (sym (look-tail n.0 m q e) ∙ sym (h n.0) ∙ look-head n r) in

@@ -1,12 +1,12 @@
 -- Extensions, backup names and their originals.
-use Rattle.std.specs.Prelude.{◌≡◌, refl, ℕ, ◌+◌, ◌-◌, ◌<◌, Bool, true, false, ◌&&◌, length, take, drop, ltb, eqb}
+use Rattle.std.specs.Prelude.{◌≡◌, refl, ℕ, ◌+◌, ◌-◌, ◌<◌, Bool, true, false, ◌&&◌, length, take, drop, ltb, eqb, if◌then◌else◌}
 use Rattle.std.proofs.Common.{sym, ◌∙◌, ap, arith, length-append, take-append-drop, length-take-le, ltb-true, lt-ltb}
 use mathlib.Core.List.{[], ◌∷◌, ◌++◌, cons≢nil}
 use Rattle.std.proofs.Math.Option.{Option, none, some}
 use Rattle.std.proofs.lemmas.Bool.{false≢true}
 use Rattle.std.proofs.Math.Seq.{drop-append_seam}
 use Rattle.basics.specs.Order.{Name, Key}
-use Rattle.basics.specs.Base.{case_option, if◌then◌else◌, is_some, same_bytes}
+use Rattle.basics.specs.Base.{case_option, is_some, same_bytes}
 use Rattle.basics.specs.Name.{last_dot, extension, strip_extension, backup_extension, backup_name, original_name, is_backup, staging_extension, strip_tmp, is_tmp}
 use Rattle.basic_laws.specs.MapLaws.{none≢some, some_inj}
 use Rattle.basic_laws.specs.Tests.{eqb-eq, same-eq, same_refl, nil≢cons, and_both, and_made}

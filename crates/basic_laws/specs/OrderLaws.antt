@@ -1,8 +1,8 @@
 -- The comparisons of numbers, names and keys are strict total orders.
-use Rattle.std.specs.Prelude.{◌≡◌, refl, ℕ, zero, suc, ◌≤◌, ◌<◌, List, [], ◌∷◌, length, take, drop}
-use Rattle.std.proofs.Common.{sym, ◌∙◌, ap, ap₂, subst, arith}
+use Rattle.std.specs.Prelude.{◌≡◌, refl, ℕ, zero, suc, ◌≤◌, ◌<◌, [], ◌∷◌, length, take, drop}
+use Rattle.std.proofs.Common.{sym, ◌∙◌, ap, ap₂, arith}
 use Prim.Native.Nat.compare
-use Rattle.basics.specs.Order.{Cmp, lt, eq, gt, then_cmp, cmp_nat, Name, cmp_name, Key, cmp_key}
+use Rattle.basics.specs.Order.{Cmp, lt, eq, gt, then_cmp, cmp_nat, Name, cmp_name, cmp_key}
 
 -- The comparison of the two the other way round.
 abbrev pub flip : Cmp → Cmp

@@ -1,8 +1,8 @@
 -- A search through a list: the first element that passes a test, and whether any does.
-use Rattle.std.specs.Prelude.{◌≡◌, refl, List, [], ◌∷◌, Bool, true, false, ◌||◌}
+use Rattle.std.specs.Prelude.{◌≡◌, refl, List, [], ◌∷◌, Bool, true, false, ◌||◌, if◌then◌else◌}
 use Rattle.std.proofs.Common.{subst}
-use Rattle.std.proofs.Math.Option.{none, some}
-use Rattle.basics.specs.Base.{is_some, any_of, first_of, if◌then◌else◌}
+use Rattle.std.proofs.Math.Option.{some}
+use Rattle.basics.specs.Base.{is_some, any_of, first_of}
 use Rattle.basic_laws.specs.MapLaws.{none≢some, some_inj}
 use Rattle.basic_laws.specs.Tests.{All}
 

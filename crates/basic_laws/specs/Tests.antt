@@ -62,6 +62,7 @@ in_of n (a ∷ l) e = go (same_bytes n a) refl e (λ z. in_of n l z)
     go false p e ih = inr (ih e)
 
 pub of_in : (n : Bytes) (l : List Bytes) → In n l → is_in n l ≡ true
+of_in n [] i = elim i [ ]
 of_in n (a ∷ l) (inl p) = rw (p, same_refl a)
 of_in n (a ∷ l) (inr i) = go (same_bytes n a) (of_in n l i)
   where
@@ -79,6 +80,7 @@ all_append P [] r p q = q
 all_append P (a ∷ l) r p q = (p.0, all_append P l r p.1 q)
 
 pub all_in : {A : Type 0} (P : A → Type 0) (l : List A) → All P l → (a : A) → In a l → P a
+all_in P [] h a i = elim i [ ]
 all_in P (b ∷ l) h a (inl e) = subst P (sym e) h.0
 all_in P (b ∷ l) h a (inr i) = all_in P l h.1 a i
 

@@ -1,15 +1,10 @@
 -- Going by cases, and words for lists. No part of document 01.
-use Rattle.std.specs.Prelude.{◌≡◌, ℕ, zero, suc, List, [], ◌∷◌, ◌++◌, Bool, true, false, ◌&&◌, ◌||◌, ◌⊎◌}
+use Rattle.std.specs.Prelude.{if◌then◌else◌, ◌≡◌, ℕ, zero, suc, List, [], ◌∷◌, ◌++◌, Bool, true, false, ◌&&◌, ◌||◌, ◌⊎◌}
 use Rattle.std.proofs.Math.Option.{Option, none, some}
 use Rattle.basics.specs.Order.{cmp_name, case_cmp}
 
 abbrev pub Bytes : Type 0
 Bytes = List ℕ
-
-infix 0 if◌then◌else◌
-abbrev pub if◌then◌else◌ : {A : Type 0} → Bool → A → A → A
-if◌then◌else◌ true a b = a
-if◌then◌else◌ false a b = b
 
 -- By cases on an option: the answer for none, and the one for some a.
 abbrev pub case_option : {A B : Type 0} → Option A → B → (A → B) → B

@@ -1,8 +1,8 @@
 -- CRC-32: the definition of IEEE 802.3, and the shift register of 01, which gives the same (crate basic_laws, Crc32Laws).
-use Rattle.std.specs.Prelude.{ℕ, zero, suc, ◌+◌, ◌-◌, ◌*◌, ◌/◌, ◌%◌, List, [], ◌∷◌, ◌++◌, map, Bool, true, false, not, length, eqb}
+use Rattle.std.specs.Prelude.{ℕ, zero, suc, ◌+◌, ◌-◌, ◌*◌, ◌/◌, ◌%◌, List, [], ◌∷◌, ◌++◌, map, Bool, true, false, not, length, eqb, if◌then◌else◌}
 use Rattle.std.specs.Bool.{xor}
 use Rattle.std.specs.Int.Bits.{bit_xor}
-use Rattle.basics.specs.Base.{Bytes, if◌then◌else◌, any_of, flat_map}
+use Rattle.basics.specs.Base.{Bytes, any_of, flat_map}
 
 -- A polynomial over bits is the list of its coefficients, that of the highest power first; false is 0 and true is 1.
 abbrev pub Polynomial : Type 0

@@ -1,11 +1,11 @@
 -- Worked cases as one table: how rows are written, and that all of them hold once a test says so. No part of document 01.
-use Rattle.std.specs.Prelude.{◌≡◌, refl, ℕ, zero, suc, ◌+◌, ◌*◌, ◌-◌, List, [], ◌∷◌, ◌++◌, map, Bool, true, false, ◌&&◌, T, leb, eqb}
+use Rattle.std.specs.Prelude.{◌≡◌, refl, ℕ, zero, suc, ◌+◌, ◌*◌, ◌-◌, List, [], ◌∷◌, ◌++◌, map, Bool, true, false, ◌&&◌, T, leb, eqb, if◌then◌else◌}
 use Rattle.std.proofs.Common.{sym, ap₂, subst, eqb→eq}
 use Prim.Native.Char.{code}
 use Prim.Native.String as string
 use Prim.Native.String.{String}
 use Rattle.std.proofs.lemmas.Bool.{false≢true}
-use Rattle.basics.specs.Base.{Bytes, if◌then◌else◌, all_of}
+use Rattle.basics.specs.Base.{Bytes, all_of}
 
 -- Bytes written as text.
 unfoldable pub text : String → Bytes

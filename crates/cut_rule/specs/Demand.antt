@@ -1,11 +1,11 @@
 -- The cut rule over images: 01, 'The words of demand 3', and 02, items 4, 5, 6 and 13. Quotes are from 01, or from 02 where an item is named. Theorem.antt,
 -- Again.antt, HoldRules.antt and Count.antt prove what is stated here.
-use Rattle.std.specs.Prelude.{◌≡◌, ℕ, ◌+◌, ◌*◌, ◌≤◌, List, [], ◌∷◌, ◌++◌, map, Bool, false, not, ◌⊎◌, ◌↔◌, length, leb}
+use Rattle.std.specs.Prelude.{◌≡◌, ℕ, ◌+◌, ◌*◌, ◌≤◌, List, [], ◌∷◌, ◌++◌, map, Bool, false, not, ◌⊎◌, ◌↔◌, length, leb, if◌then◌else◌}
 use Rattle.std.proofs.Math.Option.{none, some}
 use Rattle.basics.specs.Limits.{image_room, step_room}
 use Rattle.basics.specs.Order.{Name}
 use Rattle.basics.specs.Map.{Map, look, put, Has}
-use Rattle.basics.specs.Base.{Bytes, case_option, if◌then◌else◌, is_some, is_in, Any, In}
+use Rattle.basics.specs.Base.{Bytes, case_option, is_some, is_in, Any, In}
 use Rattle.basics.specs.Name.{backup_extension, staging_extension, backup_name}
 use Rattle.basics.specs.Field.{has_tag}
 use Rattle.model.specs.Operation.{Write, write, target}

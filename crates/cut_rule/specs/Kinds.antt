@@ -1,11 +1,11 @@
 -- The cut rule for operations of every kind, over images: beyond document 02, whose rule speaks of Writes alone. KindsRule.antt proves it, Again.antt where
 -- recovery is cut too, HoldRules.antt where the commit is held.
-use Rattle.std.specs.Prelude.{◌≡◌, ℕ, List, [], ◌∷◌, ◌⊎◌}
+use Rattle.std.specs.Prelude.{◌≡◌, ℕ, List, [], ◌∷◌, ◌⊎◌, if◌then◌else◌}
 use Rattle.std.proofs.Math.Option.{some, none}
 use Rattle.basics.specs.Limits.{image_room, step_room}
 use Rattle.basics.specs.Order.{Name, Key}
 use Rattle.basics.specs.Map.{Map, look, Has}
-use Rattle.basics.specs.Base.{Bytes, In, is_some, if◌then◌else◌}
+use Rattle.basics.specs.Base.{Bytes, In, is_some}
 use Rattle.basics.specs.Field.{has_tag}
 use Rattle.model.specs.Operation.{Op, Write, write, delete, delete_all, create_collection, delete_collection, copy_collection}
 use Rattle.model.specs.Log.{journal, ops_of}

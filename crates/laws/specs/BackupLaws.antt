@@ -1,6 +1,6 @@
 -- The search for a backup (02, item 2): in whichever order it looks, its yes or no is the same; the directory that it names is the first of the
 -- listing with a backup's name; what names its hit has at most 138 bytes.
-use Rattle.std.specs.Prelude.{◌≡◌, ℕ, ◌≤◌, Bool, true, false, ◌||◌, length}
+use Rattle.std.specs.Prelude.{◌≡◌, ℕ, ◌≤◌, Bool, true, false, ◌||◌, length, if◌then◌else◌}
 use Rattle.std.proofs.Math.Path.{refl}
 use Rattle.std.proofs.Common.{sym, ap, ◌∙◌}
 use native.Mathlib.Omega.{arith}
@@ -9,7 +9,7 @@ use Rattle.std.proofs.Math.Option.{Option, none, some}
 use Rattle.basics.specs.Limits.{hit_room}
 use Rattle.basics.specs.Order.{Name}
 use Rattle.basics.specs.Map.{Map, Node}
-use Rattle.basics.specs.Base.{is_some, any_of, first_of, case_option, if◌then◌else◌}
+use Rattle.basics.specs.Base.{is_some, first_of, case_option}
 use Rattle.basics.specs.Name.{extension, strip_extension, original_name, is_backup}
 use Rattle.basics.specs.Field.{little_endian, encode_fields}
 use Rattle.basic_laws.specs.MapLaws.{look-all}
@@ -19,7 +19,7 @@ use Rattle.basic_laws.specs.ValidNames.{Valid, valid-length}
 use Rattle.model.specs.Store.{Store, BackupHit, backup_file, backup_directory, no_backup, is_hit, is_backup_file, in_backup_directory, first_backup, has_backup_files, dirs, valid_node, valid_nodes}
 use Rattle.model.specs.Image.{hit_fields}
 use Rattle.laws.specs.ImageLaws.{node-parts, file-parts}
-use Rattle.laws.specs.LengthLaws.{bulk, join-length}
+use Rattle.laws.specs.LengthLaws.{join-length}
 use Rattle.laws.specs.TreeLaws.{NodeGood}
 use Rattle.laws.specs.StoreLaws.{Good}
 

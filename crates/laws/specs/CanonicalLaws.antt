@@ -1,14 +1,14 @@
 -- A log that is read whole is its header and the entries of its operations: nothing else is read as them. 02, item 12.
-use Rattle.std.specs.Prelude.{◌≡◌, refl, List, [], ◌∷◌, ◌++◌, true, ◌&&◌, ℕ, zero, suc, ◌+◌, ◌≤◌, length, take, drop, leb}
+use Rattle.std.specs.Prelude.{◌≡◌, refl, List, [], ◌∷◌, ◌++◌, true, ◌&&◌, ℕ, zero, suc, ◌+◌, ◌≤◌, length, take, drop, leb, if◌then◌else◌}
 use Rattle.std.proofs.Common.{sym, ap, subst, arith, take-append-drop, length-take-le, drop-drop}
 use Rattle.std.proofs.Math.Option.{Option, none, some}
 use Rattle.std.proofs.lemmas.Bool.{false≢true}
 use Rattle.basics.specs.Limits.{op_limit}
-use Rattle.basics.specs.Base.{Bytes, case_option, if◌then◌else◌, flat_map, same_bytes, at_least}
+use Rattle.basics.specs.Base.{Bytes, case_option, flat_map, same_bytes, at_least}
 use Rattle.basics.specs.Crc32.{crc32}
 use Rattle.basics.specs.Field.{little_endian, from_little_endian}
 use Rattle.model.specs.Operation.{Op, encode_payload, decode_payload}
-use Rattle.model.specs.Log.{whole, truncated, undecodable, tooMany, headerShort, header, entry, first_payload, first_cause, stop, after, walk, entries, with_status, write_log}
+use Rattle.model.specs.Log.{whole, truncated, undecodable, too_many, header_short, header, entry, first_payload, first_cause, stop, after, walk, entries, with_status, write_log}
 use Rattle.basic_laws.specs.Tests.{All, all_take, all_drop, and_both, same-eq}
 use Rattle.basic_laws.specs.FieldLaws.{Byte, bytes-again}
 use Rattle.laws.specs.OperationLaws.{payload-only}
@@ -57,11 +57,11 @@ payload-bytes e p h q =
 -- So is what a walk reads whole: behind the first m bytes stand the entries of the operations that were read.
 walk-only : (k m : ℕ) (l : Bytes) → All Byte l → (walk k m l).end ≡ whole → drop m l ≡ entries_of (walk k m l).ops
 unfolding walk
-walk-only k (suc m) [] h e = not-whole (truncated headerShort) e refl
+walk-only k (suc m) [] h e = not-whole (truncated header_short) e refl
 walk-only k (suc m) (x ∷ l) h e = walk-only k m l h.1 e
 walk-only zero zero [] h e = refl
 walk-only (suc k) zero [] h e = refl
-walk-only zero zero (x ∷ l) h e = not-whole tooMany e refl
+walk-only zero zero (x ∷ l) h e = not-whole too_many e refl
 walk-only (suc k) zero (x ∷ l) h e = go (λ m e. walk-only k m l h.1 e) (first_payload (x ∷ l)) refl e
   where
     decoded : (p : Bytes) → first_payload (x ∷ l) ≡ some p → ((m : ℕ) → (walk k m l).end ≡ whole → drop m l ≡ entries_of (walk k m l).ops) →

@@ -12,7 +12,7 @@ use Rattle.model.specs.Operation.{Op, write, delete, delete_all, create_collecti
 use Rattle.model.specs.Log.{journal, ops_of, recording, held, whole}
 use Rattle.model.specs.Store.{Store, staging_key, staging_names, dirs, files}
 use Rattle.model.specs.Step.{Step, make_directory, rename_file, move_staged, rename_directory, copy_file, remove_file, remove_directory, remove_dir, remove_staging}
-use Rattle.model.specs.Step.{sync_directory, rewriteHeader, holdHeader, syncStaging, syncLog, removeLog, syncJournal, marked, marked_held, with_tree, apply}
+use Rattle.model.specs.Step.{sync_directory, rewrite_header, hold_header, sync_staging, sync_log, remove_log, sync_journal, marked, marked_held, with_tree, apply}
 use Rattle.model.specs.Step.{apply_all, Fault}
 use Rattle.model.specs.Plan.{in_turn, run, op_steps, remove_backup_file, remove_backups_in, remove_backups, remove_staging_files, operation_steps, sync_existing}
 use Rattle.model.specs.Plan.{first_namings, collection_of, commit_fault, commit_parts, commit_end, hold_end, plan_ending, ending_at, commit_plan, committed_at, hold_plan}
@@ -99,7 +99,7 @@ pub failing-plan : (ends others : List (Store → List Step)) (s : Store) (e : F
 unfolding plan_ending
 failing-plan ends others s e f =
     let plan : List (Store → List Step) → Option Fault → List Step =
-    λ ends q. rewriteHeader ∷ in_turn run (commit_parts ends (ops_of (journal s.log)) q) (apply rewriteHeader s) in
+    λ ends q. rewrite_header ∷ in_turn run (commit_parts ends (ops_of (journal s.log)) q) (apply rewrite_header s) in
     ap (plan ends) f ∙ sym (ap (plan others) f)
 
 pub failing-at : (ends others : List (Store → List Step)) (s : Store) (e : Fault) → commit_fault s ≡ some e → (n : ℕ) → ending_at ends n s ≡ ending_at others n s
@@ -110,16 +110,16 @@ failing-at ends others s e f n = ap (λ (plan : List Step). without_mark_at_end 
 unfoldable pub up_to_end : Store → Store
 up_to_end s =
     let ops : List Op = ops_of (journal s.log) in
-    run_over run ((λ s. syncStaging ∷ syncLog ∷ []) ∷ operation_steps ops ∷ in_turn sync_existing (first_namings [] (map collection_of ops)) ∷ [])
-    (apply rewriteHeader s)
+    run_over run ((λ s. sync_staging ∷ sync_log ∷ []) ∷ operation_steps ops ∷ in_turn sync_existing (first_namings [] (map collection_of ops)) ∷ [])
+    (apply rewrite_header s)
 
 pub whole-plan : (ends : List (Store → List Step)) (s : Store) → commit_fault s ≡ none →
     ending_at ends (length (plan_ending ends s)) s ≡ without_mark (run_over run ends (up_to_end s))
 unfolding plan_ending up_to_end
 whole-plan ends s f =
     whole-ending ends s ∙ ap without_mark
-    (ap (λ (q : Option Fault). apply_all (in_turn run (commit_parts ends (ops_of (journal s.log)) q) (apply rewriteHeader s)) (apply rewriteHeader s)) f
-    ∙ apply_all-in_turn run (commit_parts ends (ops_of (journal s.log)) none) (apply rewriteHeader s))
+    (ap (λ (q : Option Fault). apply_all (in_turn run (commit_parts ends (ops_of (journal s.log)) q) (apply rewrite_header s)) (apply rewrite_header s)) f
+    ∙ apply_all-in_turn run (commit_parts ends (ops_of (journal s.log)) none) (apply rewrite_header s))
 
 -- What the two ends make of a store, and keep of what the second makes: removing the backups and clearing staging do not touch each other.
 abbrev pub committed_store : Store → Store
@@ -131,16 +131,16 @@ held_store v = record { tree = v.tree; staging = unstaged v.staging; log = marke
 commit-ends : (v : Store) → without_mark (run_over run commit_end v) ≡ committed_store v
 unfolding apply
 commit-ends v =
-    let u : Store = apply removeLog v in
+    let u : Store = apply remove_log v in
     ap without_mark (unstages (apply_all (remove_backups u) u) ∙ ap (λ (x : Store). with_staging (unstaged x.staging) x) (sweeps u))
 
 hold-ends : (v : Store) → without_mark (run_over run hold_end v) ≡ held_store v
 unfolding apply
-hold-ends v = ap without_mark (unstages (apply holdHeader v))
+hold-ends v = ap without_mark (unstages (apply hold_header v))
 
 keep-ends : (v : Store) → kept (held_store v) ≡ committed_store v
 unfolding kept keep_plan apply
-keep-ends v = apply_all-in_turn run ((λ u. removeLog ∷ syncJournal ∷ []) ∷ remove_backups ∷ []) (held_store v) ∙ sweeps (apply removeLog (held_store v))
+keep-ends v = apply_all-in_turn run ((λ u. remove_log ∷ sync_journal ∷ []) ∷ remove_backups ∷ []) (held_store v) ∙ sweeps (apply remove_log (held_store v))
 
 pub commit-leaves : (s : Store) → commit_fault s ≡ none → committed_at (length (commit_plan s)) s ≡ committed_store (up_to_end s)
 commit-leaves s f = whole-plan commit_end s f ∙ commit-ends (up_to_end s)
@@ -222,7 +222,7 @@ held-log s ops f e =
     o = ops_of (journal s.log)
 
     u : Store
-    u = apply rewriteHeader s
+    u = apply rewrite_header s
 
     v : Store
     v = apply_all (operation_steps o u) u

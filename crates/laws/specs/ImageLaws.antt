@@ -1,5 +1,5 @@
 -- An image is read back: decode (encode s) is s for every well-formed s, and decode b is s only where encode s is b.
-use Rattle.std.specs.Prelude.{◌≡◌, ℕ, ◌≤◌, List, [], ◌∷◌, ◌++◌, map, Bool, true, false, ◌&&◌, length, leb, eqb}
+use Rattle.std.specs.Prelude.{◌≡◌, ℕ, ◌≤◌, List, [], ◌∷◌, ◌++◌, map, Bool, true, false, ◌&&◌, length, leb, eqb, if◌then◌else◌}
 use Rattle.std.proofs.Math.Path.{refl}
 use Rattle.std.proofs.Common.{sym, ◌∙◌, ap, ap₂, arith, append_assoc}
 use Rattle.std.proofs.Math.Option.{Option, none, some}
@@ -7,7 +7,7 @@ use Rattle.std.proofs.lemmas.Bool.{false≢true}
 use Rattle.basics.specs.Limits.{log_limit, number_limit}
 use Rattle.basics.specs.Order.{Name}
 use Rattle.basics.specs.Map.{Map, Node}
-use Rattle.basics.specs.Base.{Bytes, case_option, if◌then◌else◌, if_empty, is_some, same_bytes, all_of, any_of}
+use Rattle.basics.specs.Base.{Bytes, case_option, if_empty, is_some, same_bytes, all_of, any_of}
 use Rattle.basics.specs.Name.{valid_name}
 use Rattle.basics.specs.Field.{little_endian, Field, encode_fields, decode_fields, has_tag}
 use Rattle.model.specs.Store.{Store, dirs, file_count, valid_number, valid_node, valid_nodes, valid_staged, ascending, well_formed}

@@ -1,12 +1,12 @@
 -- The deletion of a set of keys: what is recorded, by the case renames and the entries of its keys; a store in order stays in order.
-use Rattle.std.specs.Prelude.{◌≡◌, refl, ℕ, zero, suc, ◌+◌, ◌≤◌, ◌<◌, List, [], ◌∷◌, ◌++◌, map, Bool, true, false, ◌&&◌, ◌||◌, length, leb}
+use Rattle.std.specs.Prelude.{◌≡◌, refl, ℕ, suc, ◌+◌, ◌≤◌, ◌<◌, List, [], ◌∷◌, ◌++◌, map, Bool, true, false, ◌&&◌, ◌||◌, length, leb, if◌then◌else◌}
 use Rattle.std.proofs.Common.{sym, ◌∙◌, ap, subst, arith, append-nil, append_assoc, length-append, nltb→le}
 use Rattle.std.proofs.Math.Option.{Option, none, some}
 use Rattle.std.proofs.lemmas.Bool.{false≢true}
 use Rattle.std.proofs.lemmas.List.{length-map}
 use Rattle.basics.specs.Order.{Name}
 use Rattle.basics.specs.Map.{look}
-use Rattle.basics.specs.Base.{Bytes, case_option, if◌then◌else◌, is_some, is_in, all_of, same_bytes, flat_map}
+use Rattle.basics.specs.Base.{Bytes, case_option, is_some, is_in, all_of, same_bytes, flat_map}
 use Rattle.basics.specs.Name.{valid_name, lower_byte, lower}
 use Rattle.model.specs.Operation.{Op, write, delete, delete_all, create_collection, delete_collection, copy_collection, encode_payload}
 use Rattle.model.specs.Log.{entry, journal, read_journal, recording, whole, append_operation}
@@ -15,7 +15,7 @@ use Rattle.model.specs.Step.{rename_file, apply}
 use Rattle.model.specs.Plan.{first_namings}
 use Rattle.model.specs.Record.{Outcome, refuse, give, recorded_ops, transaction, require, appended, other_case, case_renamed, record_delete, key_fields, key_set, and_then, record_deletes, record_delete_keys}
 use Rattle.basic_laws.specs.MapLaws.{none≢some, some_inj}
-use Rattle.basic_laws.specs.Tests.{All, all_append, all_map, all-of, of-all, and_both, le-leb, leb_le}
+use Rattle.basic_laws.specs.Tests.{All, all-of, of-all, and_both, le-leb, leb_le}
 use Rattle.basic_laws.specs.ValidNames.{Valid}
 use Rattle.laws.specs.StoreLaws.{Good}
 use Rattle.laws.specs.OperationLaws.{ValidOp}

@@ -12,7 +12,7 @@ use Rattle.basic_laws.specs.MapLaws.{none≢some, some_inj, look-all}
 use Rattle.basics.specs.Base.{Bytes, case_option, if_empty, flat_map}
 use Rattle.basics.specs.Field.{little_endian, from_little_endian, Field, encode_field, encode_fields, fields_from, decode_fields}
 use Rattle.model.specs.Operation.{Op, field_tags, kind, values, tagged, encode_payload, op_of_fields, decode_payload}
-use Rattle.model.specs.Log.{Ending, whole, truncated, undecodable, tooMany, headerShort, entry, walk, entries, first_payload, first_cause, stop, after, recording, read_journal, append_operation}
+use Rattle.model.specs.Log.{Ending, whole, truncated, undecodable, too_many, header_short, entry, walk, entries, first_payload, first_cause, stop, after, recording, read_journal, append_operation}
 use Rattle.model.specs.Store.{Store}
 use Rattle.model.specs.Image.{node_field, staged_field, log_field, mark_field, image_fields, encode}
 use Rattle.basic_laws.specs.Tests.{All, nil≢cons}
@@ -108,10 +108,10 @@ decoded-length p o e = go (fields_from 0 p) refl (unfold decode_payload decode_f
 -- A log that is whole is no longer than its operations allow.
 walk-length : (k m : ℕ) (l : Bytes) → (walk k m l).end ≡ whole → length l ≤ m + 217 * length (walk k m l).ops
 unfolding walk
-walk-length k (suc m) [] e = not-whole (truncated headerShort) e refl
+walk-length k (suc m) [] e = not-whole (truncated header_short) e refl
 walk-length k (suc m) (x ∷ r) e = let h = walk-length k m r e in omega arith
 walk-length k zero [] e = omega arith
-walk-length zero zero (x ∷ r) e = not-whole tooMany e refl
+walk-length zero zero (x ∷ r) e = not-whole too_many e refl
 walk-length (suc k) zero (x ∷ r) e = go (λ m z. walk-length k m r z) (first_payload (x ∷ r)) e
   where
     at : ((m : ℕ) → (walk k m r).end ≡ whole → length r ≤ m + 217 * length (walk k m r).ops) → (p : Bytes) (q : Option Op) → decode_payload p ≡ q → (case_option q (stop undecodable) (λ o. after o (walk k (7 + length p) r))).end ≡ whole →

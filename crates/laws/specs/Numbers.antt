@@ -1,5 +1,5 @@
 -- 02, item 14: no plan of recovery, revert or keep depends on a content number, and none of their steps brings a number to two places.
-use Rattle.std.specs.Prelude.{◌≡◌, ℕ, Bool, ◌&&◌, ◌||◌}
+use Rattle.std.specs.Prelude.{◌≡◌, ℕ, Bool, ◌&&◌, ◌||◌, if◌then◌else◌}
 use Rattle.std.proofs.Math.Path.{refl, sym, ap}
 use Rattle.std.proofs.Common.{◌∙◌}
 use mathlib.Core.List.{List, [], ◌∷◌, ◌++◌, map, reverse}
@@ -7,12 +7,12 @@ use Rattle.std.proofs.Math.Option.{Option, none, some}
 use Rattle.std.proofs.Math.Bool.{not}
 use Rattle.basics.specs.Order.{Cmp, lt, eq, gt, Name, Key, cmp_name, cmp_key, case_cmp}
 use Rattle.basics.specs.Map.{Map, look, put, del}
-use Rattle.basics.specs.Base.{case_option, if◌then◌else◌, if_empty, is_some, if_present, if_missing, any_of}
+use Rattle.basics.specs.Base.{case_option, if_empty, is_some, if_present, if_missing, any_of}
 use Rattle.basics.specs.Name.{backup_name, original_name, strip_tmp, is_backup}
 use Rattle.model.specs.Operation.{Op, write, delete, delete_all, create_collection, delete_collection, copy_collection, target, backup, stood}
-use Rattle.model.specs.Log.{Journal, absent, recording, committing, held, journal, whole, truncated, undecodable, tooMany}
+use Rattle.model.specs.Log.{Journal, absent, recording, committing, held, journal, whole, truncated, undecodable, too_many}
 use Rattle.model.specs.Store.{Store, staging_key, dirs, files, staging_names, has_backup_files}
-use Rattle.model.specs.Step.{Step, rewriteHeader, holdHeader, syncStaging, syncLog, removeLog, syncJournal, syncCollections, make_directory, rename_file, move_staged}
+use Rattle.model.specs.Step.{Step, rewrite_header, hold_header, sync_staging, sync_log, remove_log, sync_journal, sync_collections, make_directory, rename_file, move_staged}
 use Rattle.model.specs.Step.{rename_directory, copy_file, remove_file, remove_directory, remove_staging, sync_directory, remove_dir, rename_dir, with_tree, apply, apply_all}
 use Rattle.model.specs.Plan.{in_turn, run, in_sequence, undo_steps, restore_file, restore_directory, restore_backups, remove_backup_file, remove_backups_in, remove_backups, remove_staging_files}
 use Rattle.model.specs.Plan.{is_new_artifact, recover_fault, recover_parts, unheld, recover_plan, revert_plan, keep_plan, shut, recovered, reverted, kept, without_mark}
@@ -86,13 +86,13 @@ module _ (φ : ℕ → ℕ) (keeps-zero : φ 0 ≡ 0) where
 
   commutes : (x : Step) (s : Store) → Commutes x s
   unfolding apply
-  commutes rewriteHeader s = refl
-  commutes holdHeader s = refl
-  commutes syncStaging s = refl
-  commutes syncLog s = refl
-  commutes removeLog s = refl
-  commutes syncJournal s = refl
-  commutes syncCollections s = refl
+  commutes rewrite_header s = refl
+  commutes hold_header s = refl
+  commutes sync_staging s = refl
+  commutes sync_log s = refl
+  commutes remove_log s = refl
+  commutes sync_journal s = refl
+  commutes sync_collections s = refl
   commutes (make_directory d) s = tree-commutes s (ap (λ (x : ℕ). put (d, []) x (renumbered φ s.tree)) (sym keeps-zero) ∙ sym (put-renumbered (d, []) 0 s.tree))
   commutes (rename_file d a b) s = tree-commutes s (found (d, a) s.tree s.tree _ (λ x. put (d, b) x (del (d, a) (renumbered φ s.tree)))
       (λ x. ap (put (d, b) (φ x)) (sym (del-renumbered (d, a) s.tree)) ∙ sym (put-renumbered (d, b) x (del (d, a) s.tree))))
@@ -169,7 +169,7 @@ module _ (φ : ℕ → ℕ) (keeps-zero : φ 0 ≡ 0) where
   fault-same (committing o whole) t = refl
   fault-same (committing o (truncated c)) t = let a = backups-same t in let b = artifacts_same o t in λ i. if a i || b i then some 13 else none
   fault-same (committing o undecodable) t = refl
-  fault-same (committing o tooMany) t = refl
+  fault-same (committing o too_many) t = refl
   fault-same (held o e) t = refl
 
   -- So are the steps of every part of their plans.
@@ -241,7 +241,7 @@ module _ (φ : ℕ → ℕ) (keeps-zero : φ 0 ≡ 0) where
       parts (committing o whole) = (blind_turns undo_steps (reverse o) (all_every blind_undo (reverse o)), (blind_restore, ((λ s. refl), (blind_unstage, tt))))
       parts (committing o (truncated c)) = ((λ s. refl), (blind_unstage, tt))
       parts (committing o undecodable) = ((λ s. refl), (blind_unstage, tt))
-      parts (committing o tooMany) = ((λ s. refl), (blind_unstage, tt))
+      parts (committing o too_many) = ((λ s. refl), (blind_unstage, tt))
       parts (held o e) = (blind_unstage, tt)
 
   -- The law: numbers that are changed before recovery, revert or keep might as well be changed behind it.
@@ -258,4 +258,4 @@ module _ (φ : ℕ → ℕ) (keeps-zero : φ 0 ≡ 0) where
 
   pub kept-renumbered : (s : Store) → kept (renumber φ s) ≡ renumber φ (kept s)
   unfolding kept keep_plan
-  kept-renumbered s = shut-renumbered keep_plan (blind_turns run ((λ u. removeLog ∷ syncJournal ∷ []) ∷ remove_backups ∷ []) ((λ u. refl), (blind_remove, tt))) s
+  kept-renumbered s = shut-renumbered keep_plan (blind_turns run ((λ u. remove_log ∷ sync_journal ∷ []) ∷ remove_backups ∷ []) ((λ u. refl), (blind_remove, tt))) s

@@ -1,17 +1,17 @@
 -- 02, item 14: each step of recovery, revert and keep moves a number to at most one place. None of them copies.
-use Rattle.std.specs.Prelude.{◌≡◌, ℕ, Bool, true, false}
+use Rattle.std.specs.Prelude.{◌≡◌, ℕ, Bool, true, false, if◌then◌else◌}
 use Rattle.std.proofs.Math.Path.{refl}
 use Rattle.std.proofs.Common.{sym, ◌∙◌, ap, inl, inr}
 use mathlib.Core.List.{List, [], ◌∷◌, ◌++◌, map, reverse}
 use Rattle.std.proofs.Math.Option.{Option, none, some}
 use Rattle.basics.specs.Order.{Name, Key}
 use Rattle.basics.specs.Map.{Map, look, put, del}
-use Rattle.basics.specs.Base.{case_option, if◌then◌else◌, if_empty, if_present, if_missing}
+use Rattle.basics.specs.Base.{case_option, if_empty, if_present, if_missing}
 use Rattle.basics.specs.Name.{backup_name, original_name, strip_tmp}
 use Rattle.model.specs.Operation.{Op, write, delete, delete_all, create_collection, delete_collection, copy_collection, target, backup, stood}
-use Rattle.model.specs.Log.{Journal, absent, recording, committing, held, journal, whole, truncated, undecodable, tooMany}
+use Rattle.model.specs.Log.{Journal, absent, recording, committing, held, journal, whole, truncated, undecodable, too_many}
 use Rattle.model.specs.Store.{Store, staging_key, dirs, files, staging_names}
-use Rattle.model.specs.Step.{Step, rewriteHeader, holdHeader, syncStaging, syncLog, removeLog, syncJournal, syncCollections, make_directory, rename_file, move_staged}
+use Rattle.model.specs.Step.{Step, rewrite_header, hold_header, sync_staging, sync_log, remove_log, sync_journal, sync_collections, make_directory, rename_file, move_staged}
 use Rattle.model.specs.Step.{rename_directory, copy_file, remove_file, remove_directory, remove_staging, sync_directory, remove_dir, rename_dir, with_tree, apply, apply_all}
 use Rattle.model.specs.Plan.{in_turn, run, in_sequence, undo_steps, restore_file, restore_directory, restore_backups, remove_backup_file, remove_backups_in, remove_backups}
 use Rattle.model.specs.Plan.{remove_staging_files, remove_standing_log, recover_parts, unheld, recover_plan, revert_plan, keep_plan, recovered, reverted, kept, without_mark}
@@ -124,13 +124,13 @@ moves-move a b apart = record {
 
 -- The steps of recovery, revert and keep.
 abbrev Undoing : Step → Type 0
-Undoing rewriteHeader = ⊥
-Undoing holdHeader = ⊥
-Undoing syncStaging = Unit {0}
-Undoing syncLog = Unit {0}
-Undoing removeLog = Unit {0}
-Undoing syncJournal = Unit {0}
-Undoing syncCollections = Unit {0}
+Undoing rewrite_header = ⊥
+Undoing hold_header = ⊥
+Undoing sync_staging = Unit {0}
+Undoing sync_log = Unit {0}
+Undoing remove_log = Unit {0}
+Undoing sync_journal = Unit {0}
+Undoing sync_collections = Unit {0}
 Undoing (make_directory d) = ⊥
 Undoing (rename_file d a b) = b ≡ [] → ⊥
 Undoing (move_staged f d k) = ⊥
@@ -187,13 +187,13 @@ module _ (z : ℕ) where
 
   follow : (x : Step) (s : Store) → Undoing x → Followed s → Followed (apply x s)
   unfolding apply
-  follow rewriteHeader s a h = absurd a
-  follow holdHeader s a h = absurd a
-  follow syncStaging s a h = h
-  follow syncLog s a h = h
-  follow removeLog s a h = follow-same s _ refl refl h
-  follow syncJournal s a h = h
-  follow syncCollections s a h = h
+  follow rewrite_header s a h = absurd a
+  follow hold_header s a h = absurd a
+  follow sync_staging s a h = h
+  follow sync_log s a h = h
+  follow remove_log s a h = follow-same s _ refl refl h
+  follow sync_journal s a h = h
+  follow sync_collections s a h = h
   follow (make_directory d) s a h = absurd a
   follow (rename_file d b c) s a h = follow-tree (moves-rename d b c a) s h
   follow (move_staged f d k) s a h = absurd a
@@ -284,7 +284,7 @@ undoes_unstage s = go (staging_names s.staging)
     go [] = tt
     go (f ∷ l) = (tt, go l)
 
-undoes_unlog : Undoes (λ s. removeLog ∷ [])
+undoes_unlog : Undoes (λ s. remove_log ∷ [])
 undoes_unlog s = (tt, tt)
 
 -- Recovery, whatever the log: such parts, and behind them every staging file goes.
@@ -294,16 +294,16 @@ record Front (j : Journal) : Type 0 where
   behind : recover_parts j ≡ parts ++ remove_staging_files ∷ []
 
 front : (j : Journal) → Front j
-front absent = record { parts = remove_backups ∷ remove_standing_log ∷ []; undo = (undoes_remove, ((λ s. if_present_lem (removeLog ∷ []) s.log (tt, tt)), tt)); behind = refl }
-front (recording o e) = record { parts = (λ s. removeLog ∷ []) ∷ []; undo = (undoes_unlog, tt); behind = refl }
+front absent = record { parts = remove_backups ∷ remove_standing_log ∷ []; undo = (undoes_remove, ((λ s. if_present_lem (remove_log ∷ []) s.log (tt, tt)), tt)); behind = refl }
+front (recording o e) = record { parts = (λ s. remove_log ∷ []) ∷ []; undo = (undoes_unlog, tt); behind = refl }
 front (committing o whole) = record {
-  parts = in_turn undo_steps (reverse o) ∷ restore_backups ∷ (λ s. removeLog ∷ []) ∷ [];
+  parts = in_turn undo_steps (reverse o) ∷ restore_backups ∷ (λ s. remove_log ∷ []) ∷ [];
   undo = (undoes_turns undo_steps (reverse o) (all_every undoes-undo (reverse o)), (undoes-walk restore_directory (λ s. dirs s.tree) undoes-restore_directory, (undoes_unlog, tt)));
   behind = refl;
 }
-front (committing o (truncated c)) = record { parts = (λ s. removeLog ∷ []) ∷ []; undo = (undoes_unlog, tt); behind = refl }
-front (committing o undecodable) = record { parts = (λ s. removeLog ∷ []) ∷ []; undo = (undoes_unlog, tt); behind = refl }
-front (committing o tooMany) = record { parts = (λ s. removeLog ∷ []) ∷ []; undo = (undoes_unlog, tt); behind = refl }
+front (committing o (truncated c)) = record { parts = (λ s. remove_log ∷ []) ∷ []; undo = (undoes_unlog, tt); behind = refl }
+front (committing o undecodable) = record { parts = (λ s. remove_log ∷ []) ∷ []; undo = (undoes_unlog, tt); behind = refl }
+front (committing o too_many) = record { parts = (λ s. remove_log ∷ []) ∷ []; undo = (undoes_unlog, tt); behind = refl }
 front (held o e) = record { parts = []; undo = tt; behind = refl }
 
 module _ (z : ℕ) where
@@ -338,5 +338,5 @@ module _ (z : ℕ) where
   pub kept-follows : (s : Store) → Followed z s → Followed z (kept s)
   unfolding kept keep_plan
   kept-follows s h =
-      let parts : List (Store → List Step) = (λ u. removeLog ∷ syncJournal ∷ []) ∷ remove_backups ∷ [] in
+      let parts : List (Store → List Step) = (λ u. remove_log ∷ sync_journal ∷ []) ∷ remove_backups ∷ [] in
       follow-all z (keep_plan (without_mark s)) (without_mark s) (undoes_turns run parts ((λ u. (tt, (tt, tt))), (undoes_remove, tt)) (without_mark s)) (unmarked s h)

@@ -1,5 +1,5 @@
 -- Begin, discard and every recorded operation hand back a well-formed store.
-use Rattle.std.specs.Prelude.{◌≡◌, refl, ℕ, ◌<◌, List, [], ◌∷◌, Bool, true, false, not, ◌&&◌, length, leb}
+use Rattle.std.specs.Prelude.{◌≡◌, refl, ℕ, ◌<◌, List, [], ◌∷◌, Bool, true, false, not, ◌&&◌, length, leb, if◌then◌else◌}
 use Rattle.std.proofs.Common.{sym, ◌∙◌, subst, inl, inr, nltb→le}
 use native.Mathlib.Omega.{arith}
 use Rattle.std.proofs.Math.Option.{Option, none, some}
@@ -7,7 +7,7 @@ use Rattle.std.proofs.lemmas.Bool.{false≢true}
 use Rattle.basics.specs.Order.{Name, Key}
 use Rattle.basics.specs.Map.{Map, look, put}
 use Rattle.basic_laws.specs.MapLaws.{key_dec, none≢some, some_inj, look-put-same, look-put-other, sorted-put}
-use Rattle.basics.specs.Base.{Bytes, case_option, is_some, same_bytes, In, if◌then◌else◌}
+use Rattle.basics.specs.Base.{Bytes, case_option, is_some, same_bytes, In}
 use Rattle.basics.specs.Name.{valid_name, lower, original_name, strip_tmp}
 use Rattle.basics.specs.Field.{little_endian}
 use Rattle.model.specs.Operation.{Op, write, delete, delete_all, create_collection, delete_collection, copy_collection}

@@ -1,6 +1,6 @@
 -- The worked cases of document 01, computed: each row's name, what the definitions compute, and what 01 says. [P] as in 01. Rows that begin with
 -- 02 are of document 02's requests. What only the exported entries have stands in crate answers, Cases.
-use Rattle.std.specs.Prelude.{◌≡◌, refl, ℕ, List, [], ◌∷◌, ◌++◌, map, Bool, true, false, ◌&&◌, length, take}
+use Rattle.std.specs.Prelude.{◌≡◌, refl, ℕ, List, [], ◌∷◌, ◌++◌, map, Bool, true, false, length, take}
 use Prim.Native.String.{String}
 use Rattle.std.proofs.Math.Option.{Option, none, some}
 use Rattle.std.proofs.Math.Bool.{xor}
@@ -13,7 +13,7 @@ use Rattle.basics.specs.Field.{little_endian, from_little_endian, encode_field, 
 use Rattle.basics.specs.Worked.{text, digit, pairs, hex, bit, times, Row, row, equal, agree}
 use Rattle.model.specs.Operation as operation
 use Rattle.model.specs.Operation.{Op, field_table, field_tags, kind, values, tagged, encode_payload, makers, valid_value, op_of_fields, decode_payload}
-use Rattle.model.specs.Log.{header, entry, valid_header, first_payload, walk, entries, read_journal, mark_committing, mark_held, append_operation, write_log, Journal, absent, recording, committing, held, journal, Ending, whole, truncated, undecodable, tooMany, Cause, cause_number, first_cause}
+use Rattle.model.specs.Log.{header, entry, valid_header, first_payload, walk, entries, read_journal, mark_committing, mark_held, append_operation, write_log, Journal, absent, recording, committing, held, journal, Ending, whole, truncated, undecodable, too_many, cause_number, first_cause}
 use Rattle.model.specs.Store.{Store, dirs, files, valid_node, valid_nodes, valid_staged, ascending, well_formed, has_backup_files, first_backup}
 use Rattle.model.specs.Image.{hit_fields, image_fields, encode, tree_of, staging_of, log_of, store_of, decode}
 use Rattle.model.specs.Step.{remove_dir, rename_dir, apply, zero_separated, tag_and_names, step_field, field_at, step_fault, commit_number}
@@ -25,7 +25,7 @@ ending : Ending → ℕ
 ending whole = 0
 ending (truncated c) = cause_number c
 ending undecodable = 11
-ending tooMany = 12
+ending too_many = 12
 
 read_as : Journal → Bytes
 unfolding ending

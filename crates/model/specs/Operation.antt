@@ -1,9 +1,9 @@
 -- The operations, of seven kinds, and their payload: transaction.rs.
-use Rattle.std.specs.Prelude.{ℕ, zero, suc, ◌-◌, List, [], ◌∷◌, ◌++◌, map, Bool, true, false, ◌&&◌, ◌||◌, length, get_or, eqb}
+use Rattle.std.specs.Prelude.{ℕ, ◌-◌, List, [], ◌∷◌, map, Bool, false, ◌&&◌, ◌||◌, length, get_or, eqb, if◌then◌else◌}
 use Rattle.std.proofs.Math.Option.{Option, none, some}
 use Rattle.std.proofs.Math.ListN.{get_elem?}
 use Rattle.basics.specs.Order.{Name, Key}
-use Rattle.basics.specs.Base.{Bytes, case_option, if◌then◌else◌, same_bytes, all_of}
+use Rattle.basics.specs.Base.{Bytes, case_option, same_bytes, all_of}
 use Rattle.basics.specs.Name.{valid_name, backup_name}
 use Rattle.basics.specs.Field.{Field, encode_fields, decode_fields}
 

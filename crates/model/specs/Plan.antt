@@ -1,14 +1,14 @@
 -- The steps of commit (local_storage.rs, `apply_inner`) and of recovery (recovery.rs).
-use Rattle.std.specs.Prelude.{ℕ, zero, suc, ◌-◌, List, [], ◌∷◌, ◌++◌, map, reverse, Bool, true, false, not, ◌&&◌, ◌||◌, length, take}
+use Rattle.std.specs.Prelude.{ℕ, zero, suc, ◌-◌, List, [], ◌∷◌, ◌++◌, map, reverse, Bool, false, not, ◌&&◌, ◌||◌, length, take, if◌then◌else◌}
 use Rattle.std.proofs.Math.Option.{Option, none, some}
-use Rattle.basics.specs.Order.{Name, Key}
+use Rattle.basics.specs.Order.{Name}
 use Rattle.basics.specs.Map.{Map, look}
-use Rattle.basics.specs.Base.{case_option, if◌then◌else◌, if_empty, is_some, if_present, if_missing, is_in, any_of}
+use Rattle.basics.specs.Base.{case_option, if_empty, is_some, if_present, if_missing, is_in, any_of}
 use Rattle.basics.specs.Name.{backup_name, original_name, strip_tmp}
-use Rattle.model.specs.Operation.{Op, Write, write, delete, delete_all, create_collection, delete_collection, copy_collection, target, backup, stood}
-use Rattle.model.specs.Log.{Journal, absent, recording, committing, held, journal, ops_of, Ending, whole, truncated, undecodable, tooMany, ending_cause}
+use Rattle.model.specs.Operation.{Op, write, delete, delete_all, create_collection, delete_collection, copy_collection, target, backup, stood}
+use Rattle.model.specs.Log.{Journal, absent, recording, committing, held, journal, ops_of, Ending, whole, truncated, undecodable, too_many, ending_cause}
 use Rattle.model.specs.Store.{Store, dirs, files, staging_names, has_backup_files}
-use Rattle.model.specs.Step.{Step, rewriteHeader, holdHeader, syncStaging, syncLog, removeLog, syncJournal, syncCollections, make_directory, rename_file, move_staged, rename_directory, copy_file, remove_file, remove_directory, remove_staging, sync_directory, apply, apply_all, Fault, step_fault}
+use Rattle.model.specs.Step.{Step, rewrite_header, hold_header, sync_staging, sync_log, remove_log, sync_journal, sync_collections, make_directory, rename_file, move_staged, rename_directory, copy_file, remove_file, remove_directory, remove_staging, sync_directory, apply, apply_all, Fault, step_fault}
 
 -- The steps for each element in turn, each element's from the store that stands when its turn comes.
 abbrev pub in_turn : {A : Type 0} → (A → Store → List Step) → List A → Store → List Step
@@ -116,38 +116,38 @@ operation_steps ops s = in_turn op_steps ops s
 
 -- The commit's first failing step, if any.
 unfoldable pub commit_fault : Store → Option Fault
-commit_fault s = first_fault (operation_steps (ops_of (journal s.log)) (apply rewriteHeader s)) (apply rewriteHeader s)
+commit_fault s = first_fault (operation_steps (ops_of (journal s.log)) (apply rewrite_header s)) (apply rewrite_header s)
 
 -- 01, Listings and file steps: "Commit follows `apply_inner`: mark, syncs, operations, directory syncs in order of first naming, log removal,
 -- journal sync, backups, staging." How a commit ends whose operations are all applied.
 abbrev pub commit_end : List (Store → List Step)
-commit_end = (λ s. syncCollections ∷ removeLog ∷ syncJournal ∷ []) ∷ remove_backups ∷ remove_staging_files ∷ []
+commit_end = (λ s. sync_collections ∷ remove_log ∷ sync_journal ∷ []) ∷ remove_backups ∷ remove_staging_files ∷ []
 
 -- 02, item 6: "A held commit runs as usual, but in place of removing the log and syncing the journal it rewrites the header with status 0x02, Held
 -- (..), syncs the log, and keeps log and backups; it then clears staging".
 abbrev pub hold_end : List (Store → List Step)
-hold_end = (λ s. syncCollections ∷ holdHeader ∷ syncLog ∷ []) ∷ remove_staging_files ∷ []
+hold_end = (λ s. sync_collections ∷ hold_header ∷ sync_log ∷ []) ∷ remove_staging_files ∷ []
 
 -- The parts of a commit with this end. After a failing step "the rollback's steps follow, then log removal, journal sync and staging": the new
 -- artifacts of all logged operations removed in reverse, the backups restored. 02, item 6: "A held commit that fails rolls back as before."
 abbrev pub commit_parts : List (Store → List Step) → List Op → Option Fault → List (Store → List Step)
 commit_parts ends ops none =
-    (λ s. syncStaging ∷ syncLog ∷ [])
+    (λ s. sync_staging ∷ sync_log ∷ [])
     ∷ operation_steps ops
     ∷ in_turn sync_existing (first_namings [] (map collection_of ops))
     ∷ ends
 commit_parts ends ops (some e) =
-    (λ s. syncStaging ∷ syncLog ∷ [])
+    (λ s. sync_staging ∷ sync_log ∷ [])
     ∷ (λ s. steps_before_fault (operation_steps ops s) s)
     ∷ in_turn undo_steps (reverse ops)
     ∷ restore_backups
-    ∷ (λ s. removeLog ∷ syncJournal ∷ [])
+    ∷ (λ s. remove_log ∷ sync_journal ∷ [])
     ∷ remove_staging_files
     ∷ []
 
 -- The plan of a commit with this end: of the ordinary one, and of the held one.
 unfoldable pub plan_ending : List (Store → List Step) → Store → List Step
-plan_ending ends s = rewriteHeader ∷ in_sequence (commit_parts ends (ops_of (journal s.log)) (commit_fault s)) (apply rewriteHeader s)
+plan_ending ends s = rewrite_header ∷ in_sequence (commit_parts ends (ops_of (journal s.log)) (commit_fault s)) (apply rewrite_header s)
 
 abbrev pub commit_plan : Store → List Step
 commit_plan s = plan_ending commit_end s
@@ -191,7 +191,7 @@ recover_fault (recording o e) t = none
 recover_fault (committing o whole) t = none
 recover_fault (committing o (truncated c)) t = if has_backup_files t || any_of (is_new_artifact t) o then some 13 else none
 recover_fault (committing o undecodable) t = some 11
-recover_fault (committing o tooMany) t = some 12
+recover_fault (committing o too_many) t = some 12
 recover_fault (held o e) t = none
 
 -- 02, item 1: "Recovery also hands that number back when it discards a truncated Committing log, and 0 whenever else it is done; a Recording log
@@ -204,7 +204,7 @@ discarded_cause (held o e) = 0
 
 -- A log that counts as absent goes where it stands.
 abbrev pub remove_standing_log : Store → List Step
-remove_standing_log s = if_present s.log (removeLog ∷ [])
+remove_standing_log s = if_present s.log (remove_log ∷ [])
 
 -- 01, Modules in port order: "Tempting and wrong: restoring backups before removing new artifacts; treating an undecodable payload as
 -- truncated". Only a whole log is undone; a truncated one that is not refused "is discarded".
@@ -212,14 +212,14 @@ abbrev pub undo_parts : List Op → Ending → List (Store → List Step)
 undo_parts ops whole = in_turn undo_steps (reverse ops) ∷ restore_backups ∷ []
 undo_parts ops (truncated c) = []
 undo_parts ops undecodable = []
-undo_parts ops tooMany = []
+undo_parts ops too_many = []
 
 -- Recovery by what the log is (`recover`); staging files go in any case, and the log in any but one. 02, item 6: "Recovery that meets Held drops the
 -- open mark and clears staging, no more".
 abbrev pub recover_parts : Journal → List (Store → List Step)
 recover_parts absent = remove_backups ∷ remove_standing_log ∷ remove_staging_files ∷ []
-recover_parts (recording ops e) = (λ s. removeLog ∷ []) ∷ remove_staging_files ∷ []
-recover_parts (committing ops e) = undo_parts ops e ++ (λ s. removeLog ∷ []) ∷ remove_staging_files ∷ []
+recover_parts (recording ops e) = (λ s. remove_log ∷ []) ∷ remove_staging_files ∷ []
+recover_parts (committing ops e) = undo_parts ops e ++ (λ s. remove_log ∷ []) ∷ remove_staging_files ∷ []
 recover_parts (held ops e) = remove_staging_files ∷ []
 
 -- 02, item 6: "Revert does what recovery does for a Committing log": what it takes a Held log for.
@@ -238,7 +238,7 @@ revert_plan s = in_sequence (recover_parts (unheld (journal s.log))) s
 -- 02, item 6: "Keep drops an open mark, removes the log and syncs the journal, then removes every backup as recovery without a log does; it reads no
 -- entry."
 unfoldable pub keep_plan : Store → List Step
-keep_plan s = in_sequence ((λ u. removeLog ∷ syncJournal ∷ []) ∷ remove_backups ∷ []) s
+keep_plan s = in_sequence ((λ u. remove_log ∷ sync_journal ∷ []) ∷ remove_backups ∷ []) s
 
 -- The store after the first n steps of such a plan, and at its end. 01, Listings and file steps: "recovery drops [the open mark] before its first
 -- step, so at n = 0 too"; keep and revert do as well.

@@ -1,9 +1,9 @@
 -- The store: directories with their files, staging files, the log's bytes, the open mark.
-use Rattle.std.specs.Prelude.{ℕ, zero, suc, List, [], ◌∷◌, map, Bool, true, false, ◌&&◌, ◌||◌, length, leb, eqb}
-use Rattle.std.proofs.Math.Option.{Option, none, some}
+use Rattle.std.specs.Prelude.{ℕ, suc, List, [], ◌∷◌, map, Bool, true, false, ◌&&◌, ◌||◌, length, leb, eqb}
+use Rattle.std.proofs.Math.Option.{Option}
 use Rattle.basics.specs.Limits.{dir_limit, file_limit, staging_limit, log_limit, number_limit}
 use Rattle.basics.specs.Order.{Name, Key, cmp_name, cmp_key, case_cmp}
-use Rattle.basics.specs.Map.{Map, Node, look}
+use Rattle.basics.specs.Map.{Map, Node}
 use Rattle.basics.specs.Base.{Bytes, case_option, if_empty, is_some, same_bytes, all_of, any_of, first_of}
 use Rattle.basics.specs.Name.{valid_name, is_backup}
 

@@ -1,9 +1,3 @@
 pub mod Machine
-pub mod MachineLaws
 pub mod Runs
-pub mod RunLaws
-pub mod Tries
-pub mod Endings
-pub mod Budget
 pub mod ModelPlans
-pub mod ModelAnswers

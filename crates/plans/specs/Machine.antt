@@ -1,7 +1,6 @@
 -- Plans and machines, for any stores S and steps X. A plan is the list of steps that is read off a store; a machine takes steps: each changes
 -- its state, and some states are over.
-use Rattle.std.specs.Prelude.{◌≡◌, List, [], ◌∷◌, ◌++◌, Bool, true, false}
-use Rattle.basics.specs.Base.{if◌then◌else◌}
+use Rattle.std.specs.Prelude.{◌≡◌, List, [], ◌∷◌, ◌++◌, Bool, true, false, if◌then◌else◌}
 
 abbrev pub nothing : {S X : Type 0} → S → List X
 nothing s = []

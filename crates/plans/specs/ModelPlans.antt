@@ -1,12 +1,14 @@
 -- The model's plans as plans of these machines: model Step and Plan.
-use Rattle.std.specs.Prelude.{◌≡◌, refl, List, [], ◌∷◌, ◌++◌, map, ℕ, eqb}
+use Rattle.std.specs.Prelude.{◌≡◌, refl, List, [], ◌∷◌, ◌++◌, map, ℕ, eqb, drop, if◌then◌else◌}
 use Rattle.std.proofs.Common.{ap, ◌∙◌, arith}
 use Rattle.std.proofs.Math.Option.{Option, none, some}
-use Rattle.basics.specs.Base.{if◌then◌else◌, case_option}
+use Rattle.basics.specs.Base.{case_option}
+use Rattle.model.specs.Operation.{Op}
 use Rattle.model.specs.Store.{Store}
 use Rattle.model.specs.Step as model
-use Rattle.model.specs.Step.{Step, apply, Fault, fails, full, step_fault, commit_number}
-use Rattle.model.specs.Plan.{in_turn, in_sequence, first_fault, steps_before_fault}
+use Rattle.model.specs.Step.{Step, rewrite_header, sync_staging, sync_log, apply, Fault, fails, full, step_fault, commit_number}
+use Rattle.model.specs.Plan as plan
+use Rattle.model.specs.Plan.{commit_parts, in_turn, in_sequence, first_fault, steps_before_fault}
 use Rattle.plans.specs.Machine.{Machine, apply_all, single, seq, seq_over}
 use Rattle.plans.specs.Runs as runs
 use Rattle.plans.specs.Runs.{Run, fault_in, up_to}
@@ -70,3 +72,21 @@ no-fault (x ∷ xs) s e = go (step_fault x s) e (λ h. no-fault xs (apply x s) h
     go : (o : Option Fault) → case_option o (first_fault xs (apply x s)) some ≡ none → (first_fault xs (apply x s) ≡ none → steps_before_fault xs (apply x s) ≡ xs) → case_option o (x ∷ steps_before_fault xs (apply x s)) (λ e. []) ≡ x ∷ xs
     go none e ih = ap (λ (ys : List Step). x ∷ ys) (ih e)
     go (some f) e ih = let z : ◌≡◌ {A = ℕ} 0 1 = cc in absurd (let no : ⊥ = omega arith in no)
+
+-- Commit's steps before the operations, and those behind them, where no step of theirs failed and where one did.
+abbrev pub commit_start : Store → List Step
+commit_start s = rewrite_header ∷ sync_staging ∷ sync_log ∷ []
+
+abbrev pub end_behind : List (Store → List Step) → List Op → Store → List Step
+end_behind ends ops = in_sequence (drop 2 (commit_parts ends ops none))
+
+abbrev pub commit_end : List Op → Store → List Step
+commit_end ops = end_behind plan.commit_end ops
+
+-- 02, item 6: a held commit's.
+abbrev pub hold_end : List Op → Store → List Step
+hold_end ops = end_behind plan.hold_end ops
+
+-- Where one failed it is the same for both.
+abbrev pub commit_undo : List Op → Store → List Step
+commit_undo ops = in_sequence (drop 2 (commit_parts plan.commit_end ops (some fails)))

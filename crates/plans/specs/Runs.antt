@@ -1,8 +1,10 @@
 -- A run: a store, how many steps it may still take, and the number of the step that failed. The plain machine does every step; the careful
 -- one does none that fails: 01, Listings and file steps, "A failing step changes nothing and isn't counted".
-use Rattle.std.specs.Prelude.{ℕ, ◌-◌, List, [], ◌∷◌, Bool, true, false, ◌&&◌, ◌||◌, not, eqb}
-use Rattle.basics.specs.Base.{if◌then◌else◌}
-use Rattle.plans.specs.Machine.{Machine, seq}
+use Rattle.std.specs.Prelude.{ℕ, ◌-◌, List, [], ◌∷◌, Bool, true, false, ◌&&◌, ◌||◌, not, eqb, if◌then◌else◌}
+use Rattle.std.specs.Prelude.{◌≡◌, suc, ◌≤◌, length, take, ltb}
+use Rattle.std.proofs.Math.Option.{some}
+use Rattle.std.proofs.Math.ListN.{get_elem?}
+use Rattle.plans.specs.Machine.{Machine, seq, apply_all}
 
 -- `left` counts where the run is limited; `stopped`: a step was due with none left. `last` is the step that was done last, `refusal` the
 -- number of the step that failed, 0 for none.
@@ -57,3 +59,17 @@ module _ {S X : Type 0} (apply : X → S → S) where
     -- The plan as far as it goes, and then one of two others, by whether a step of it failed.
     unfoldable pub or_else : (S → List X) → (S → List X) → (S → List X) → S → List X
     or_else p f g s = seq apply (cut p) (if eqb (fault_in (p s) s) 0 then f else g) s
+
+module _ {S X : Type 0} (apply : X → S → S) where
+  -- A plan of which at most n steps are done on s, and what the run then says: the n-th step is the last; none is left unless the plan is
+  -- shorter than n; it stopped where the plan is longer.
+  pub record Cut (plan : List X) (n : ℕ) (s : S) (b : Run S X) : Type 0 where
+    pub store : b.store ≡ apply_all apply (take n plan) s
+    pub left : b.left ≡ n - length plan
+    pub stopped : b.stopped ≡ ltb n (length plan)
+    pub last : (k : ℕ) → n ≡ suc k → n ≤ length plan → get_elem? plan k ≡ some b.last
+
+  -- A plan that was done whole.
+  pub record Whole (plan : List X) (s : S) (b : Run S X) : Type 0 where
+    pub store : b.store ≡ apply_all apply plan s
+    pub stopped : b.stopped ≡ false

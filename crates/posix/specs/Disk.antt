@@ -8,7 +8,7 @@ use Rattle.basics.specs.Base.{Bytes, if_empty}
 use Rattle.basics.specs.Worked.{text}
 use Rattle.model.specs.Log.{header}
 use Rattle.model.specs.Store.{Store, dirs}
-use Rattle.model.specs.Step.{Step, rewriteHeader, holdHeader, syncStaging, syncLog, removeLog, syncJournal, syncCollections, make_directory, rename_file, move_staged, rename_directory, copy_file, remove_file, remove_directory, remove_staging, sync_directory}
+use Rattle.model.specs.Step.{Step, rewrite_header, hold_header, sync_staging, sync_log, remove_log, sync_journal, sync_collections, make_directory, rename_file, move_staged, rename_directory, copy_file, remove_file, remove_directory, remove_staging, sync_directory}
 use Rattle.posix.specs.Posix.{Node, file, directory, Directory, empty, entry, Path, Result, ok, error, resolve, Call, rename, mkdir, unlink, rmdir, open-read, open-create-truncate, fsync, pwrite}
 
 -- The Rust's layout, below the store's directory: collections/<directory>/<file>, journal/transaction.wal, journal/staging/<file>.
@@ -78,13 +78,13 @@ bytes_in (error e) = []
 -- The calls of a step on the disk t, which is read for the listings of 0x21 and 0x29 and the bytes of 0x27. These three are several calls, all
 -- others one.
 unfoldable pub step_calls : Step → Directory → List Call
-step_calls rewriteHeader t = pwrite log_path 0 (header 1) ∷ []
-step_calls holdHeader t = pwrite log_path 0 (header 2) ∷ []
-step_calls syncStaging t = map (λ f. fsync (staged_path f)) (names_in (resolve (journal_name ∷ staging_name ∷ []) t))
-step_calls syncLog t = fsync log_path ∷ []
-step_calls removeLog t = unlink log_path ∷ []
-step_calls syncJournal t = fsync (journal_name ∷ []) ∷ []
-step_calls syncCollections t = fsync (collections_name ∷ []) ∷ []
+step_calls rewrite_header t = pwrite log_path 0 (header 1) ∷ []
+step_calls hold_header t = pwrite log_path 0 (header 2) ∷ []
+step_calls sync_staging t = map (λ f. fsync (staged_path f)) (names_in (resolve (journal_name ∷ staging_name ∷ []) t))
+step_calls sync_log t = fsync log_path ∷ []
+step_calls remove_log t = unlink log_path ∷ []
+step_calls sync_journal t = fsync (journal_name ∷ []) ∷ []
+step_calls sync_collections t = fsync (collections_name ∷ []) ∷ []
 step_calls (make_directory d) t = mkdir (directory_path d) ∷ []
 step_calls (rename_file d a b) t = rename (file_path d a) (file_path d b) ∷ []
 step_calls (move_staged f d k) t = rename (staged_path f) (file_path d k) ∷ []

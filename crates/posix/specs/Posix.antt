@@ -3,10 +3,10 @@
 -- Left out: permissions, links (so each file has one name), several file systems, other processes and what they have in use, limits of names and
 -- of space, failing disks, signals, times. A call that takes a file descriptor is given the path that was opened.
 -- XSH 2.3, Error Numbers: where several errors apply, it is undefined which one is told.
-use Rattle.std.specs.Prelude.{ℕ, ◌+◌, List, [], ◌∷◌, ◌++◌, Bool, true, false, ◌&&◌, length, take, drop, replicate}
+use Rattle.std.specs.Prelude.{ℕ, ◌+◌, List, [], ◌∷◌, ◌++◌, Bool, true, false, ◌&&◌, length, take, drop, replicate, if◌then◌else◌}
 use Rattle.std.proofs.Math.Option.{Option, none, some}
 use Rattle.basics.specs.Order.{Name, cmp_name, case_cmp}
-use Rattle.basics.specs.Base.{Bytes, case_option, if◌then◌else◌, same_bytes}
+use Rattle.basics.specs.Base.{Bytes, case_option, same_bytes}
 
 -- XBD 4.6, File Hierarchy; XBD 3, Directory, Regular File: a directory has entries, each a name and what it names, no name twice; a file is a
 -- sequence of bytes. XBD 3, Empty Directory: the entries "." and ".." don't count, so they are not kept here. The others are kept by name,

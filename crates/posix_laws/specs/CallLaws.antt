@@ -1,12 +1,12 @@
 -- The calls on the paths of a store.
-use Rattle.std.specs.Prelude.{◌≡◌, ◌+◌, List, [], ◌∷◌, ◌++◌, map, Bool, true, false, ◌&&◌, length}
+use Rattle.std.specs.Prelude.{◌≡◌, ◌+◌, List, [], ◌∷◌, ◌++◌, map, Bool, true, false, ◌&&◌, length, if◌then◌else◌}
 use Rattle.std.proofs.Math.Path.{refl}
 use Rattle.std.proofs.Common.{sym, ◌∙◌, ap, append-nil}
 use Rattle.std.proofs.Math.Option.{Option, none, some}
 use Rattle.std.proofs.lemmas.Bool.{false≢true}
 use Rattle.std.proofs.Math.Seq.{drop-nil}
 use Rattle.basics.specs.Order.{Name}
-use Rattle.basics.specs.Base.{Bytes, case_option, if◌then◌else◌, same_bytes}
+use Rattle.basics.specs.Base.{Bytes, case_option, same_bytes}
 use Rattle.posix.specs.Posix.{Node, file, directory, Directory, empty, entry, find, enter, leave, Path, Errno, EINVAL, Result, ok, error, and_then, resolve, change, unlinks, written, replaces, vacates, is_directory, begins, Call, rename, unlink, fsync, pwrite, call, calls}
 use Rattle.basics.specs.Worked.{text}
 use Rattle.posix.specs.Disk.{collections_name, journal_name, staging_name, log_name, directory_path, file_path, staged_path, log_path, log_entry, root, entry_names}

@@ -11,7 +11,7 @@ use Rattle.basics.specs.Crc32.{crc32, register, feed_byte, shifts, shift, add_po
 use Rattle.basics.specs.Field.{little_endian}
 use Rattle.model.specs.Log.{header, valid_header, walk, entries, read_journal}
 use Rattle.model.specs.Store.{Store, dirs, files, valid_node, valid_nodes, ascending, well_formed}
-use Rattle.model.specs.Step.{removeLog, rename_directory, copy_file, apply, fails, step_fault}
+use Rattle.model.specs.Step.{remove_log, rename_directory, copy_file, apply, fails, step_fault}
 use Rattle.model.specs.Plan.{restore_directory, recover_plan}
 use Rattle.posix.specs.Posix.{file, directory, empty, entry, find, enter, ok, resolve, change, call, calls}
 use Rattle.basics.specs.Worked.{text}
@@ -52,12 +52,12 @@ module _ (bytes : ℕ → Bytes) where
 
 -- A restore of "..bak.bak" makes the name "..bak", which POSIX takes as it stands. A recovery of the store with "..bak" would rename it to ".",
 -- which is no name of its own. But that store is not well-formed: decode refuses its image.
-restored_once : recover_plan (store (((backup_name dot_bak, []), 0) ∷ []) (some (header 1))) ≡ rename_directory (backup_name dot_bak) dot_bak ∷ removeLog ∷ []
+restored_once : recover_plan (store (((backup_name dot_bak, []), 0) ∷ []) (some (header 1))) ≡ rename_directory (backup_name dot_bak) dot_bak ∷ remove_log ∷ []
 unfolding recover_plan restore_directory dirs look cmp_key apply last_dot extension strip_extension backup_extension backup_name original_name
     read_journal valid_header entries walk header crc32 register feed_byte shifts shift add_polynomial little_endian
 restored_once = refl
 
-restored_twice : recover_plan (store (((dot_bak, []), 0) ∷ []) (some (header 1))) ≡ rename_directory dot_bak (0x2E ∷ []) ∷ removeLog ∷ []
+restored_twice : recover_plan (store (((dot_bak, []), 0) ∷ []) (some (header 1))) ≡ rename_directory dot_bak (0x2E ∷ []) ∷ remove_log ∷ []
 unfolding recover_plan restore_directory dirs look cmp_key apply last_dot extension strip_extension backup_extension original_name
     read_journal valid_header entries walk header crc32 register feed_byte shifts shift add_polynomial little_endian
 restored_twice = refl

@@ -1,6 +1,6 @@
 -- A step that fails with 14 cannot be done: a name of it has over 64 bytes, which is 01's own limit, or POSIX refuses a call of it. A commit that
 -- stops with 14 stops at such a step.
-use Rattle.std.specs.Prelude.{◌≡◌, ℕ, ◌<◌, Bool, ◌⊎◌, length, get_or, ltb, eqb}
+use Rattle.std.specs.Prelude.{◌≡◌, ℕ, ◌<◌, Bool, ◌⊎◌, length, get_or, ltb, eqb, if◌then◌else◌}
 use Rattle.std.proofs.Math.Path.{refl, ap}
 use Rattle.std.proofs.Common.{sym, ◌∙◌, subst, arith}
 use mathlib.Core.List.{List, [], ◌∷◌, ◌++◌, map}
@@ -11,13 +11,13 @@ use Rattle.std.proofs.Math.Logic.{inl, inr}
 use Rattle.basics.specs.Limits.{name_limit, file_limit}
 use Rattle.basics.specs.Order.{Name, Key}
 use Rattle.basics.specs.Map.{Map, look, Has}
-use Rattle.basics.specs.Base.{Bytes, In, case_option, if◌then◌else◌, if_empty, if_present, if_missing}
+use Rattle.basics.specs.Base.{Bytes, In, case_option, if_empty, if_present, if_missing}
 use Rattle.basics.specs.Name.{backup_name}
 use Rattle.model.specs.Operation.{Op, write, delete, delete_all, create_collection, delete_collection, copy_collection, target}
 use Rattle.model.specs.Log.{journal, ops_of}
 use Rattle.model.specs.Store.{Store, staging_key, dirs, files, file_count}
 use Rattle.model.specs.Image.{decode}
-use Rattle.model.specs.Step.{Step, rewriteHeader, syncStaging, syncLog, removeLog, syncJournal, syncCollections, make_directory, rename_file, move_staged, rename_directory, copy_file, remove_file, remove_directory, remove_staging, sync_directory, apply, apply_all, tag_and_names, Fault, fails, full, name_too_long, new_file, step_fault, holdHeader}
+use Rattle.model.specs.Step.{Step, rewrite_header, sync_staging, sync_log, remove_log, sync_journal, sync_collections, make_directory, rename_file, move_staged, rename_directory, copy_file, remove_file, remove_directory, remove_staging, sync_directory, apply, apply_all, tag_and_names, Fault, fails, full, name_too_long, new_file, step_fault, hold_header}
 use Rattle.model.specs.Plan.{op_steps, operation_steps, first_fault, steps_before_fault, commit_fault}
 use Rattle.posix.specs.Posix.{directory, Directory, empty, entry, find, Path, Errno, ENOENT, ENOTEMPTY, ok, error, inside, resolve, replaces, rename, call, calls}
 use Rattle.basics.specs.Worked.{text}
@@ -132,13 +132,13 @@ module _ (bytes : ℕ → Bytes) where
 
     pub fails-refused : (x : Step) → step_fault x s ≡ some fails → OntoItself x ⊎ Impossible x s
     unfolding step_fault tag_and_names
-    fails-refused rewriteHeader e = none≢some e
-    fails-refused holdHeader e = none≢some e
-    fails-refused syncStaging e = none≢some e
-    fails-refused syncLog e = none≢some e
-    fails-refused removeLog e = none≢some e
-    fails-refused syncJournal e = none≢some e
-    fails-refused syncCollections e = none≢some e
+    fails-refused rewrite_header e = none≢some e
+    fails-refused hold_header e = none≢some e
+    fails-refused sync_staging e = none≢some e
+    fails-refused sync_log e = none≢some e
+    fails-refused remove_log e = none≢some e
+    fails-refused sync_journal e = none≢some e
+    fails-refused sync_collections e = none≢some e
     fails-refused (make_directory d) e = go (ltb (length (dirs s.tree)) 16) e
       where
         go : (t : Bool) → if◌then◌else◌ t none (some full) ≡ some fails → OntoItself (make_directory d) ⊎ Impossible (make_directory d) s
@@ -250,7 +250,7 @@ ops-onto (o ∷ ops) s = all_append Onto (op_steps o s) (operation_steps ops (ap
 
 -- The store that a commit which meets a failing step stops at.
 unfoldable pub stopped_at : Store → Store
-stopped_at s = let u : Store = apply rewriteHeader s in apply_all (steps_before_fault (operation_steps (ops_of (journal s.log)) u) u) u
+stopped_at s = let u : Store = apply rewrite_header s in apply_all (steps_before_fault (operation_steps (ops_of (journal s.log)) u) u) u
 
 pub record CannotBeDone (bytes : ℕ → Bytes) (s : Store) : Type 0 where
   pub step : Step
@@ -265,7 +265,7 @@ commit-fails bytes b s d e = record { step = h.0; failing = h.2; reason = go (fa
     ops = ops_of (journal s.log)
 
     u : Store
-    u = apply rewriteHeader s
+    u = apply rewrite_header s
 
     v : Store
     v = apply_all (steps_before_fault (operation_steps ops u) u) u
@@ -278,8 +278,8 @@ commit-fails bytes b s d e = record { step = h.0; failing = h.2; reason = go (fa
 
     end : Good Valid v
     end =
-        (runs_end (Sound Valid) (rewriteHeader ∷ []) (steps_before_fault (operation_steps ops u) u) u
-        (before-fault-keeps valid_naming ops (journal-valid s.log) (all_imp made-valid ops (journal-valid s.log)) (rewriteHeader ∷ []) u (keep-mark valid_naming [] s start))).good
+        (runs_end (Sound Valid) (rewrite_header ∷ []) (steps_before_fault (operation_steps ops u) u) u
+        (before-fault-keeps valid_naming ops (journal-valid s.log) (all_imp made-valid ops (journal-valid s.log)) (rewrite_header ∷ []) u (keep-mark valid_naming [] s start))).good
 
     go : OntoItself h.0 ⊎ Impossible bytes h.0 v → Impossible bytes h.0 v
     go (inl o) = absurd (h.1 o)

@@ -11,7 +11,7 @@ use Rattle.basics.specs.Base.{Bytes, case_option, if_empty}
 use Rattle.model.specs.Log.{header, mark_committing, mark_held, with_status}
 use Rattle.basics.specs.Field.{little_endian}
 use Rattle.model.specs.Store.{Store, staging_key, dirs, files}
-use Rattle.model.specs.Step.{Step, rewriteHeader, syncStaging, syncLog, removeLog, syncJournal, syncCollections, make_directory, rename_file, move_staged, rename_directory, copy_file, remove_file, remove_directory, remove_staging, sync_directory, remove_dir, apply, holdHeader}
+use Rattle.model.specs.Step.{Step, rewrite_header, sync_staging, sync_log, remove_log, sync_journal, sync_collections, make_directory, rename_file, move_staged, rename_directory, copy_file, remove_file, remove_directory, remove_staging, sync_directory, remove_dir, apply, hold_header}
 use Rattle.posix.specs.Posix.{file, directory, Directory, empty, entry, find, enter, ok, resolve, change, makes, unlinks, removes, opens, written, writes, replaces, vacates, Call, rename, unlink, rmdir, fsync, pwrite, call, calls}
 use Rattle.posix.specs.Disk.{collections_name, journal_name, directory_path, file_path, staged_path, log_path, folder, folders, root, disk, entry_names, step_calls}
 use Rattle.basic_laws.specs.MapLaws.{Sorted, put_back, commute, look-put-other, sorted-put}
@@ -272,35 +272,35 @@ module _ (bytes : ℕ → Bytes) where
     rewrites : (status : ℕ) (l : Bytes) → call (pwrite log_path 0 (header status)) (root C G (some l)) ≡ ok (root C G (some (with_status status l)))
     rewrites status l = write-log C G l (header status) ∙ ap (λ (b : Bytes). ok (root C G (some b))) (eight status l)
 
-    done-mark : Ready rewriteHeader s → Done rewriteHeader s
+    done-mark : Ready rewrite_header s → Done rewrite_header s
     unfolding step_calls disk apply mark_committing
     done-mark h = rw h.1 (one (pwrite log_path 0 (header 1)) (root C G (some h.0)) _ (rewrites 1 h.0))
 
-    done-hold : Ready holdHeader s → Done holdHeader s
+    done-hold : Ready hold_header s → Done hold_header s
     unfolding step_calls disk apply mark_held
     done-hold h = rw h.1 (one (pwrite log_path 0 (header 2)) (root C G (some h.0)) _ (rewrites 2 h.0))
 
-    done_unlog : Ready removeLog s → Done removeLog s
+    done_unlog : Ready remove_log s → Done remove_log s
     unfolding step_calls disk apply
     done_unlog h = rw h.1 (one (unlink log_path) (root C G (some h.0)) _ (unlink_log C G h.0))
 
-    done-sync-log : Ready syncLog s → Done syncLog s
+    done-sync-log : Ready sync_log s → Done sync_log s
     unfolding step_calls disk apply
     done-sync-log h = rw h.1 (one (fsync log_path) (root C G (some h.0)) _ (fsyncs log_path (file h.0) _ (resolve-log C G h.0)))
 
-    done-sync-staging : Done syncStaging s
+    done-sync-staging : Done sync_staging s
     unfolding step_calls disk apply
     done-sync-staging = rw (resolve-staging C G s.log) (fsync_all C G G s.log (λ k x e. e) (rising-folder bytes [] s.staging w.staging.sorted))
 
     -- The law.
     pub step-done : (x : Step) → Ready x s → Done x s
-    step-done rewriteHeader h = done-mark h
-    step-done holdHeader h = done-hold h
-    step-done syncStaging h = done-sync-staging
-    step-done syncLog h = done-sync-log h
-    step-done removeLog h = done_unlog h
-    step-done syncJournal h = unfold step_calls disk apply in (one (fsync (journal_name ∷ [])) (root C G s.log) _ (fsyncs _ _ (root C G s.log) (resolve-journal C G s.log)))
-    step-done syncCollections h = unfold step_calls disk apply in (one (fsync (collections_name ∷ [])) (root C G s.log) _ (fsyncs _ _ (root C G s.log) (resolve-collections C G s.log)))
+    step-done rewrite_header h = done-mark h
+    step-done hold_header h = done-hold h
+    step-done sync_staging h = done-sync-staging
+    step-done sync_log h = done-sync-log h
+    step-done remove_log h = done_unlog h
+    step-done sync_journal h = unfold step_calls disk apply in (one (fsync (journal_name ∷ [])) (root C G s.log) _ (fsyncs _ _ (root C G s.log) (resolve-journal C G s.log)))
+    step-done sync_collections h = unfold step_calls disk apply in (one (fsync (collections_name ∷ [])) (root C G s.log) _ (fsyncs _ _ (root C G s.log) (resolve-collections C G s.log)))
     step-done (make_directory d) h = done-make d h
     step-done (rename_file d a b) h = done-rename d a b h
     step-done (move_staged f d k) h = done-move f d k h

@@ -1,17 +1,17 @@
 -- Every step of a recovery and of a commit is ready in its turn, so that on disk its calls succeed and do what the step does.
 use Rattle.std.proofs.Math.Path.{◌≡◌, sym}
-use Rattle.std.specs.Prelude.{refl, ℕ, Bool, true, false}
+use Rattle.std.specs.Prelude.{refl, ℕ, Bool, true, false, if◌then◌else◌}
 use Rattle.std.proofs.Common.{◌∙◌, ap, subst, inl, inr}
 use mathlib.Core.List.{List, [], ◌∷◌, ◌++◌, map, reverse}
 use Rattle.std.proofs.Math.Option.{Option, none, some}
 use Rattle.basics.specs.Order.{lt, Name, Key, cmp_name}
 use Rattle.basics.specs.Map.{Map, look, Has}
-use Rattle.basics.specs.Base.{Bytes, In, case_option, if◌then◌else◌, if_empty, if_present, if_missing}
+use Rattle.basics.specs.Base.{Bytes, In, case_option, if_empty, if_present, if_missing}
 use Rattle.basics.specs.Name.{backup_name, original_name, strip_tmp}
 use Rattle.model.specs.Operation.{Op, Write, write, delete, delete_all, create_collection, delete_collection, copy_collection, target, backup, stood}
-use Rattle.model.specs.Log.{Journal, absent, recording, committing, journal, ops_of, whole, truncated, undecodable, tooMany, held}
+use Rattle.model.specs.Log.{Journal, absent, recording, committing, journal, ops_of, whole, truncated, undecodable, too_many, held}
 use Rattle.model.specs.Store.{Store, staging_key, dirs, files, staging_names}
-use Rattle.model.specs.Step.{Step, rewriteHeader, syncStaging, syncLog, removeLog, syncJournal, make_directory, rename_file, move_staged, rename_directory, copy_file, remove_file, remove_directory, remove_staging, sync_directory, apply, apply_all, Fault, fails, name_too_long, new_file, step_fault, holdHeader}
+use Rattle.model.specs.Step.{Step, rewrite_header, sync_staging, sync_log, remove_log, sync_journal, make_directory, rename_file, move_staged, rename_directory, copy_file, remove_file, remove_directory, remove_staging, sync_directory, apply, apply_all, Fault, fails, name_too_long, new_file, step_fault, hold_header}
 use Rattle.model.specs.Plan.{in_turn, in_sequence, op_steps, undo_steps, restore_file, restore_directory, restore_backups, remove_backup_file, remove_backups_in, remove_backups, remove_staging_files, collection_of, first_namings, sync_existing, steps_before_fault, operation_steps, commit_fault, commit_parts, commit_plan, remove_standing_log, recover_parts, recover_plan, plan_ending, commit_end, hold_end, hold_plan, unheld, revert_plan, keep_plan}
 use Rattle.basic_laws.specs.OrderLaws.{name_laws, key_laws, lt≢eq}
 use Rattle.basic_laws.specs.MapLaws.{Sorted, none≢some, look-del-other, look-tail, look-head}
@@ -250,8 +250,8 @@ pub staging-last : (s : Store) → Fair s → AllReady (remove_staging_files s +
 staging-last s f = going-ready (remove_staging_files s) [] s (staging-goes s f) tt
 
 -- The log goes, then the staging files.
-unlogged : (s : Store) → Fair s → LogStands s → AllReady (removeLog ∷ remove_staging_files (apply removeLog s) ++ []) s
-unlogged s f l = (l, staging-last (apply removeLog s) (fair_step removeLog s l f))
+unlogged : (s : Store) → Fair s → LogStands s → AllReady (remove_log ∷ remove_staging_files (apply remove_log s) ++ []) s
+unlogged s f l = (l, staging-last (apply remove_log s) (fair_step remove_log s l f))
 
 -- A part, and those behind it.
 pub part : (p : Store → List Step) (ps : List (Store → List Step)) (s : Store) → Going (p s) s → AllReady (in_sequence ps (apply_all (p s) s)) (apply_all (p s) s) → AllReady (in_sequence (p ∷ ps) s) s
@@ -272,10 +272,10 @@ log-there (some l) j e h = (l, refl)
 journal-ready : (s : Store) → Fair s → (j : Journal) → All ValidOp (ops_of j) → (Present j → LogStands s) → AllReady (in_sequence (recover_parts j) s) s
 journal-ready s f j v h = go j v h
   where
-    discard : LogStands s → AllReady (in_sequence ((λ s. removeLog ∷ []) ∷ remove_staging_files ∷ []) s) s
+    discard : LogStands s → AllReady (in_sequence ((λ s. remove_log ∷ []) ∷ remove_staging_files ∷ []) s) s
     discard l = unlogged s f l
 
-    standing : (u : Store) → Fair u → (o : Option Bytes) → u.log ≡ o → AllReady (in_sequence ((λ s. if_present o (removeLog ∷ [])) ∷ remove_staging_files ∷ []) u) u
+    standing : (u : Store) → Fair u → (o : Option Bytes) → u.log ≡ o → AllReady (in_sequence ((λ s. if_present o (remove_log ∷ [])) ∷ remove_staging_files ∷ []) u) u
     standing u g none e = staging-last u g
     standing u g (some l) e = unlogged u g (l, e)
 
@@ -292,12 +292,12 @@ journal-ready s f j v h = go j v h
         let u : Store = apply_all xs s in
         let fu = going_fair xs s g f in
         let r = restore_goes u fu in
-        part (in_turn undo_steps (reverse ops)) (restore_backups ∷ (λ s. removeLog ∷ []) ∷ remove_staging_files ∷ []) s g
-        (part restore_backups ((λ s. removeLog ∷ []) ∷ remove_staging_files ∷ []) u r
+        part (in_turn undo_steps (reverse ops)) (restore_backups ∷ (λ s. remove_log ∷ []) ∷ remove_staging_files ∷ []) s g
+        (part restore_backups ((λ s. remove_log ∷ []) ∷ remove_staging_files ∷ []) u r
         (unlogged (apply_all (restore_backups u) u) (going_fair (restore_backups u) u r fu) (going-log (restore_backups u) u r (going-log xs s g l))))
     go (committing ops (truncated c)) v h = discard (h tt)
     go (committing ops undecodable) v h = discard (h tt)
-    go (committing ops tooMany) v h = discard (h tt)
+    go (committing ops too_many) v h = discard (h tt)
     go (held ops x) v h = staging-last s f
 
 pub recover-ready : (s : Store) → Fair s → AllReady (recover_plan s) s
@@ -321,8 +321,8 @@ revert-ready s f =
 pub keep-ready : (s : Store) → Fair s → LogStands s → AllReady (keep_plan s) s
 unfolding keep_plan
 keep-ready s f l =
-    let u : Store = apply syncJournal (apply removeLog s) in
-    (l, (tt, part remove_backups [] u (backups-go u (fair_step syncJournal (apply removeLog s) tt (fair_step removeLog s l f))) tt))
+    let u : Store = apply sync_journal (apply remove_log s) in
+    (l, (tt, part remove_backups [] u (backups-go u (fair_step sync_journal (apply remove_log s) tt (fair_step remove_log s l f))) tt))
 
 -- What a step that does not fail says.
 staged-there : (f d k : Name) (s : Store) → step_fault (move_staged f d k) s ≡ none → StagedStands f s
@@ -464,16 +464,16 @@ EndReady ends = (w : Store) → Fair w → LogStands w → AllReady (in_sequence
 commit-end-ready : EndReady commit_end
 unfolding apply
 commit-end-ready w fw lw =
-    let z : Store = apply syncJournal (apply removeLog w) in
-    let fz = fair_step syncJournal (apply removeLog w) tt (fair_step removeLog w lw fw) in
+    let z : Store = apply sync_journal (apply remove_log w) in
+    let fz = fair_step sync_journal (apply remove_log w) tt (fair_step remove_log w lw fw) in
     let g = backups-go z fz in
     (tt, (lw, (tt, part remove_backups (remove_staging_files ∷ []) z g (staging-last (apply_all (remove_backups z) z) (going_fair (remove_backups z) z g fz)))))
 
 hold-end-ready : EndReady hold_end
 unfolding apply
 hold-end-ready w fw lw =
-    let z : Store = apply holdHeader w in
-    (tt, (lw, (going-log (holdHeader ∷ []) w (lw, tt, tt) lw, staging-last z (fair_step holdHeader w lw fw))))
+    let z : Store = apply hold_header w in
+    (tt, (lw, (going-log (hold_header ∷ []) w (lw, tt, tt) lw, staging-last z (fair_step hold_header w lw fw))))
 
 -- A commit with such an end.
 ending-ready : (ends : List (Store → List Step)) → EndReady ends → (s : Store) → Fair s → LogStands s → AllReady (plan_ending ends s) s
@@ -487,15 +487,15 @@ ending-ready ends ended s f l = (l, all (commit_fault s) refl)
     v = journal-valid s.log
 
     u : Store
-    u = apply rewriteHeader s
+    u = apply rewrite_header s
 
     fu : Fair u
-    fu = fair_step rewriteHeader s l f
+    fu = fair_step rewrite_header s l f
 
     lu : LogStands u
-    lu = going-log (rewriteHeader ∷ []) s (l, tt, tt) l
+    lu = going-log (rewrite_header ∷ []) s (l, tt, tt) l
 
-    starts : Going (syncStaging ∷ syncLog ∷ []) u
+    starts : Going (sync_staging ∷ sync_log ∷ []) u
     starts = (tt, tt, (lu, tt, tt))
 
     goes : GoingOn (operation_steps ops u) u
@@ -505,7 +505,7 @@ ending-ready ends ended s f l = (l, all (commit_fault s) refl)
     last = in_turn sync_existing (first_namings [] (map collection_of ops)) ∷ ends
 
     back : List (Store → List Step)
-    back = in_turn undo_steps (reverse ops) ∷ restore_backups ∷ (λ s. removeLog ∷ syncJournal ∷ []) ∷ remove_staging_files ∷ []
+    back = in_turn undo_steps (reverse ops) ∷ restore_backups ∷ (λ s. remove_log ∷ sync_journal ∷ []) ∷ remove_staging_files ∷ []
 
     -- Behind the operations: the syncs of directories, the end.
     behind : (w : Store) → Fair w → LogStands w → AllReady (in_sequence last w) w
@@ -525,21 +525,21 @@ ending-ready ends ended s f l = (l, all (commit_fault s) refl)
         let y : Store = apply_all (restore_backups z) z in
         let fy = going_fair (restore_backups z) z r fz in
         let ly = going-log (restore_backups z) z r (going-log xs w g lw) in
-        let f₁ = fair_step removeLog y ly fy in
-        part (in_turn undo_steps (reverse ops)) (restore_backups ∷ (λ s. removeLog ∷ syncJournal ∷ []) ∷ remove_staging_files ∷ []) w g
-        (part restore_backups ((λ s. removeLog ∷ syncJournal ∷ []) ∷ remove_staging_files ∷ []) z r
-        (ly, (tt, staging-last (apply syncJournal (apply removeLog y)) (fair_step syncJournal (apply removeLog y) tt f₁))))
+        let f₁ = fair_step remove_log y ly fy in
+        part (in_turn undo_steps (reverse ops)) (restore_backups ∷ (λ s. remove_log ∷ sync_journal ∷ []) ∷ remove_staging_files ∷ []) w g
+        (part restore_backups ((λ s. remove_log ∷ sync_journal ∷ []) ∷ remove_staging_files ∷ []) z r
+        (ly, (tt, staging-last (apply sync_journal (apply remove_log y)) (fair_step sync_journal (apply remove_log y) tt f₁))))
 
     all : (q : Option Fault) → commit_fault s ≡ q → AllReady (in_sequence (commit_parts ends ops q) u) u
     all none e =
         let xs : List Step = operation_steps ops u in
         let g = on-going xs u goes e in
-        part (λ s. syncStaging ∷ syncLog ∷ []) (operation_steps ops ∷ last) u starts
+        part (λ s. sync_staging ∷ sync_log ∷ []) (operation_steps ops ∷ last) u starts
         (part (operation_steps ops) last u g (behind (apply_all xs u) (going_fair xs u g fu) (going-log xs u g lu)))
     all (some x) e =
         let xs : List Step = steps_before_fault (operation_steps ops u) u in
         let g = on-before (operation_steps ops u) u goes in
-        part (λ s. syncStaging ∷ syncLog ∷ []) ((λ s. steps_before_fault (operation_steps ops s) s) ∷ back) u starts
+        part (λ s. sync_staging ∷ sync_log ∷ []) ((λ s. steps_before_fault (operation_steps ops s) s) ∷ back) u starts
         (part (λ s. steps_before_fault (operation_steps ops s) s) back u g (rollback (apply_all xs u) (going_fair xs u g fu) (going-log xs u g lu)))
 
 pub commit-ready : (s : Store) → Fair s → LogStands s → AllReady (commit_plan s) s

@@ -5,7 +5,7 @@ use Rattle.std.specs.Prelude.{ℕ}
 use mathlib.Core.List.{[], ◌∷◌}
 use Rattle.std.proofs.Math.Option.{Option, none, some}
 use Rattle.basics.specs.Order.{Cmp, lt, eq, gt, then_cmp, Name, Key, cmp_name, cmp_key, case_cmp}
-use Rattle.basics.specs.Map.{Map, Node, look, put, del, Has}
+use Rattle.basics.specs.Map.{Map, look, put, del, Has}
 use Rattle.basics.specs.Base.{Bytes, case_option, if_empty}
 use Rattle.model.specs.Store.{dirs}
 use Rattle.model.specs.Step.{remove_dir, rename_dir}

@@ -1,6 +1,6 @@
 -- Commit and recovery on disk: every call of every step succeeds, and after each step the disk is the disk of the
 -- store that the definitions name.
-use Rattle.std.specs.Prelude.{◌≡◌, Bool, true, false, length, take}
+use Rattle.std.specs.Prelude.{◌≡◌, Bool, true, false, length, take, if◌then◌else◌}
 use Rattle.std.proofs.Math.Path.{refl, ap}
 use Rattle.std.proofs.Common.{sym, ◌∙◌}
 use Prim.Native.Nat.{ℕ, zero, suc, ◌-◌}
@@ -8,7 +8,7 @@ use mathlib.Core.List.{List, [], ◌∷◌, ◌++◌}
 use Rattle.std.proofs.Math.Option.{none, some}
 use Rattle.std.proofs.lemmas.Bool.{false≢true}
 use Rattle.basics.specs.Order.{Name}
-use Rattle.basics.specs.Base.{Bytes, if◌then◌else◌}
+use Rattle.basics.specs.Base.{Bytes}
 use Rattle.model.specs.Operation.{Op}
 use Rattle.model.specs.Log.{Journal, absent, recording, committing, journal, ops_of, held, is_held}
 use Rattle.model.specs.Store.{Store, files}

@@ -7,7 +7,7 @@ use Rattle.basics.specs.Name.{backup_extension, is_name_byte, refused_names, val
 use Rattle.basics.specs.Map.{Has}
 use Rattle.basics.specs.Base.{all_of}
 use Rattle.model.specs.Store.{Store, staging_key}
-use Rattle.model.specs.Step.{Step, rewriteHeader, syncStaging, syncLog, removeLog, syncJournal, syncCollections, make_directory, rename_file, move_staged, rename_directory, copy_file, remove_file, remove_directory, remove_staging, sync_directory, apply, tag_and_names, holdHeader}
+use Rattle.model.specs.Step.{Step, rewrite_header, sync_staging, sync_log, remove_log, sync_journal, sync_collections, make_directory, rename_file, move_staged, rename_directory, copy_file, remove_file, remove_directory, remove_staging, sync_directory, apply, tag_and_names, hold_header}
 use Rattle.basic_laws.specs.MapLaws.{look-put-same}
 use Rattle.basic_laws.specs.Tests.{nil≢cons, All, all-of, all_imp}
 use Rattle.basic_laws.specs.ValidNames.{Valid, Restored, valid-named, valid-bytes}
@@ -55,13 +55,13 @@ restored_plain n (inr (inr e)) = dots-plain n _ _ e (ap (all_of is_name_byte) e)
 -- The names of a step stand before it or behind it.
 names_stand : (N : Name → Type 0) → ((n : Name) → Valid n → N n) → (s : Store) (x : Step) → Good N s → Good N (apply x s) → Ready x s → All N (tag_and_names x).1
 unfolding tag_and_names apply
-names_stand N v s rewriteHeader g h r = tt
-names_stand N v s holdHeader g h r = tt
-names_stand N v s syncStaging g h r = tt
-names_stand N v s syncLog g h r = tt
-names_stand N v s removeLog g h r = tt
-names_stand N v s syncJournal g h r = tt
-names_stand N v s syncCollections g h r = tt
+names_stand N v s rewrite_header g h r = tt
+names_stand N v s hold_header g h r = tt
+names_stand N v s sync_staging g h r = tt
+names_stand N v s sync_log g h r = tt
+names_stand N v s remove_log g h r = tt
+names_stand N v s sync_journal g h r = tt
+names_stand N v s sync_collections g h r = tt
 names_stand N v s (make_directory d) g h r = ((h.tree.node d [] 0 (look-put-same (d, []) 0 s.tree)).dir, tt)
 names_stand N v s (rename_file d a b) g h r =
     let o = g.tree.node d a r.0.1.0 r.0.1.1 in

@@ -137,7 +137,7 @@ same_entries (entry n x r) (entry m y q) s t h = go (λ f. same_entries r q s.1 
 
     go : (((k : Name) → find k r ≡ find k q) → r ≡ q) → Dec (n ≡ m) → entry n x r ≡ entry m y q
     go ih (yes e) =
-        let v : x ≡ y = some_inj (sym (find_head n x r) ∙ h n ∙ rw e (find_head m y q)) in
+        let v : x ≡ y = some_inj (sym (find_head n x r) ∙ h n ∙ ap (λ (k : Name). find k (entry m y q)) e ∙ find_head m y q) in
         let w : r ≡ q = ih (λ k. tails e k (name_dec k n)) in
         λ i. entry (e i) (v i) (w i)
     go ih (no e) =

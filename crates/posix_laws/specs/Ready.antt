@@ -5,7 +5,7 @@ use Rattle.basics.specs.Order.{Name}
 use Rattle.basics.specs.Map.{Has}
 use Rattle.basics.specs.Base.{Bytes}
 use Rattle.model.specs.Store.{Store, staging_key, files}
-use Rattle.model.specs.Step.{Step, rewriteHeader, syncStaging, syncLog, removeLog, syncJournal, syncCollections, make_directory, rename_file, move_staged, rename_directory, copy_file, remove_file, remove_directory, remove_staging, sync_directory, holdHeader}
+use Rattle.model.specs.Step.{Step, rewrite_header, sync_staging, sync_log, remove_log, sync_journal, sync_collections, make_directory, rename_file, move_staged, rename_directory, copy_file, remove_file, remove_directory, remove_staging, sync_directory, hold_header}
 
 -- The empty file name is a directory's own place.
 abbrev pub IsName : Name → Type 0
@@ -24,13 +24,13 @@ abbrev pub StagedStands : Name → Store → Type 0
 StagedStands f s = Has (staging_key f) s.staging
 
 abbrev pub Ready : Step → Store → Type 0
-Ready rewriteHeader s = LogStands s
-Ready holdHeader s = LogStands s
-Ready syncStaging s = Unit {0}
-Ready syncLog s = LogStands s
-Ready removeLog s = LogStands s
-Ready syncJournal s = Unit {0}
-Ready syncCollections s = Unit {0}
+Ready rewrite_header s = LogStands s
+Ready hold_header s = LogStands s
+Ready sync_staging s = Unit {0}
+Ready sync_log s = LogStands s
+Ready remove_log s = LogStands s
+Ready sync_journal s = Unit {0}
+Ready sync_collections s = Unit {0}
 Ready (make_directory d) s = DirectoryStands d s → ⊥
 Ready (rename_file d a b) s = FileStands d a s × IsName b
 Ready (move_staged f d k) s = StagedStands f s × DirectoryStands d s × IsName k

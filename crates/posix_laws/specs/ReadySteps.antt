@@ -7,7 +7,7 @@ use Rattle.basics.specs.Map.{Map, look, put, del, Has}
 use Rattle.basics.specs.Base.{In, case_option, if_empty}
 use Rattle.basics.specs.Name.{backup_name, backup_extension}
 use Rattle.model.specs.Store.{Store, staging_key, dirs, files}
-use Rattle.model.specs.Step.{Step, rewriteHeader, syncStaging, syncLog, removeLog, syncJournal, syncCollections, make_directory, rename_file, move_staged, rename_directory, copy_file, remove_file, remove_directory, remove_staging, sync_directory, remove_dir, rename_dir, marked, apply, apply_all, Fault, step_fault, holdHeader, marked_held}
+use Rattle.model.specs.Step.{Step, rewrite_header, sync_staging, sync_log, remove_log, sync_journal, sync_collections, make_directory, rename_file, move_staged, rename_directory, copy_file, remove_file, remove_directory, remove_staging, sync_directory, remove_dir, rename_dir, marked, apply, apply_all, Fault, step_fault, hold_header, marked_held}
 use Rattle.model.specs.Plan.{in_turn, first_fault, steps_before_fault}
 use Rattle.basic_laws.specs.OrderLaws.{nat_same, name_laws}
 use Rattle.basic_laws.specs.MapLaws.{Sorted, key_dec, none≢some, look-put-same, look-put-other, look-del-other, look-del-some, sorted-put, sorted-del}
@@ -68,13 +68,13 @@ inside-move a b t apart s i h c k j z = at (name_dec c a) (name_dec c b)
 -- A ready step keeps it.
 pub fair_step : (x : Step) (s : Store) → Ready x s → Fair s → Fair (apply x s)
 unfolding apply
-fair_step rewriteHeader s h f = record { sorted = f.sorted; inside = f.inside; staging = f.staging }
-fair_step holdHeader s h f = record { sorted = f.sorted; inside = f.inside; staging = f.staging }
-fair_step syncStaging s h f = f
-fair_step syncLog s h f = f
-fair_step removeLog s h f = record { sorted = f.sorted; inside = f.inside; staging = f.staging }
-fair_step syncJournal s h f = f
-fair_step syncCollections s h f = f
+fair_step rewrite_header s h f = record { sorted = f.sorted; inside = f.inside; staging = f.staging }
+fair_step hold_header s h f = record { sorted = f.sorted; inside = f.inside; staging = f.staging }
+fair_step sync_staging s h f = f
+fair_step sync_log s h f = f
+fair_step remove_log s h f = record { sorted = f.sorted; inside = f.inside; staging = f.staging }
+fair_step sync_journal s h f = f
+fair_step sync_collections s h f = f
 fair_step (make_directory d) s h f = record {
   sorted = sorted-put (d, []) 0 s.tree f.sorted;
   inside = inside-put d [] 0 s.tree f.inside (0, look-put-same (d, []) 0 s.tree);
@@ -115,13 +115,13 @@ AllReady (x ∷ xs) s = Ready x s × AllReady xs (apply x s)
 
 -- The same, and none removes the log.
 abbrev pub Leaves : Step → Type 0
-Leaves rewriteHeader = Unit {0}
-Leaves holdHeader = Unit {0}
-Leaves syncStaging = Unit {0}
-Leaves syncLog = Unit {0}
-Leaves removeLog = ⊥
-Leaves syncJournal = Unit {0}
-Leaves syncCollections = Unit {0}
+Leaves rewrite_header = Unit {0}
+Leaves hold_header = Unit {0}
+Leaves sync_staging = Unit {0}
+Leaves sync_log = Unit {0}
+Leaves remove_log = ⊥
+Leaves sync_journal = Unit {0}
+Leaves sync_collections = Unit {0}
 Leaves (make_directory d) = Unit {0}
 Leaves (rename_file d a b) = Unit {0}
 Leaves (move_staged f d k) = Unit {0}
@@ -143,13 +143,13 @@ GoingOn (x ∷ xs) s = step_fault x s ≡ none → Ready x s × Leaves x × Goin
 
 log-step : (x : Step) (s : Store) → Leaves x → LogStands s → LogStands (apply x s)
 unfolding apply
-log-step rewriteHeader s h l = (_, ap marked l.1)
-log-step holdHeader s h l = (_, ap marked_held l.1)
-log-step syncStaging s h l = l
-log-step syncLog s h l = l
-log-step removeLog s h l = absurd h
-log-step syncJournal s h l = l
-log-step syncCollections s h l = l
+log-step rewrite_header s h l = (_, ap marked l.1)
+log-step hold_header s h l = (_, ap marked_held l.1)
+log-step sync_staging s h l = l
+log-step sync_log s h l = l
+log-step remove_log s h l = absurd h
+log-step sync_journal s h l = l
+log-step sync_collections s h l = l
 log-step (make_directory d) s h l = l
 log-step (rename_file d a b) s h l = l
 log-step (move_staged f d k) s h l = l

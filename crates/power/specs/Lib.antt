@@ -1,11 +1,1 @@
 pub mod Loss
-pub mod Could
-pub mod Synced
-pub mod Marking
-pub mod Stays
-pub mod Torn
-pub mod Phases
-pub mod Recovering
-pub mod Commits
-pub mod Theorem
-pub mod Examples

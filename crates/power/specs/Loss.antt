@@ -15,17 +15,17 @@
 --   when a commit starts, all of the store is on the disk, the log's name too, but for what was appended to the log;
 --   a collection is known by its name: so of plans that make, move or remove no collection (`InPlace`);
 --   what is found can be handed over as an image: it is within the limits of one.
-use Rattle.std.specs.Prelude.{◌≡◌, ℕ, List, [], ◌∷◌, ◌++◌, map, Bool, true, false, ◌⊎◌, take, eqb}
+use Rattle.std.specs.Prelude.{◌≡◌, ℕ, List, [], ◌∷◌, ◌++◌, map, Bool, true, false, ◌⊎◌, take, eqb, if◌then◌else◌}
 use Rattle.std.proofs.Math.Option.{none, some}
 use Rattle.basics.specs.Limits.{image_room, step_room}
 use Rattle.basics.specs.Order.{Name}
 use Rattle.basics.specs.Map.{look}
-use Rattle.basics.specs.Base.{Bytes, In, is_some, case_option, if◌then◌else◌, if_missing}
+use Rattle.basics.specs.Base.{Bytes, In, is_some, case_option, if_missing}
 use Rattle.model.specs.Operation.{Op, Write, write, delete, delete_all, create_collection, delete_collection, copy_collection}
 use Rattle.model.specs.Log.{journal}
 use Rattle.model.specs.Store.{Store, dirs}
 use Rattle.model.specs.Image.{decode}
-use Rattle.model.specs.Step.{Step, syncLog, removeLog, syncJournal, syncCollections, sync_directory, tag_and_names, apply, apply_all}
+use Rattle.model.specs.Step.{Step, sync_log, remove_log, sync_journal, sync_collections, sync_directory, tag_and_names, apply, apply_all}
 use Rattle.model.specs.Plan.{commit_fault, commit_plan, committed_at, recover_fault, recover_plan, recovered_at, without_mark}
 use Rattle.model.specs.Record.{transaction}
 use Rattle.answers.specs.Answers.{answer, step_answer, commit, commit_step, recover, recover_step}
@@ -34,14 +34,14 @@ use Rattle.cut_rule.specs.Kinds.{Suits, AllTrue, Marked}
 
 -- The areas: which collections stand, the entries of one collection, whether the log's name stands, the log's bytes.
 pub data Area : Type 0 where
-  collectionsArea journalArea logArea : Area
+  collections_area journal_area log_area : Area
   files_area : Name → Area
 
 -- The step that makes an area durable, with all that was done in it before.
 abbrev pub sync_of : Area → Step
-sync_of collectionsArea = syncCollections
-sync_of journalArea = syncJournal
-sync_of logArea = syncLog
+sync_of collections_area = sync_collections
+sync_of journal_area = sync_journal
+sync_of log_area = sync_log
 sync_of (files_area d) = sync_directory d
 
 -- The steps done were `kept` and then `lost`, and no sync of the area is among those lost: it may be found as it was after those kept, where P holds of it.
@@ -56,12 +56,12 @@ pub record Left (a : Area) (P : Store → Type 0) (done : List Step) (s : Store)
 -- part of that may be found until it is synced. Each area has its own kept and lost steps. Staging files and the open mark, which stands on no disk, may be
 -- anything.
 pub record Survives (appended : Bool) (done : List Step) (s t : Store) : Type 0 where
-  pub directories : Left collectionsArea (λ u. (d : Name) → look (d, []) t.tree ≡ look (d, []) u.tree) done s
+  pub directories : Left collections_area (λ u. (d : Name) → look (d, []) t.tree ≡ look (d, []) u.tree) done s
   pub files : (d : Name) → Left (files_area d) (λ u. (f : Name) → (f ≡ [] → ⊥) → look (d, f) t.tree ≡ look (d, f) u.tree) done s
-  pub entry : Left journalArea (λ u. is_some t.log ≡ is_some u.log) done s
+  pub entry : Left journal_area (λ u. is_some t.log ≡ is_some u.log) done s
   pub content : (l : Bytes) → t.log ≡ some l →
-      Left logArea (λ u. u.log ≡ some l) done s
-      ⊎ ((appended ≡ true) × (In syncLog done → ⊥) × Left logArea (λ u. (rest : Bytes) × (u.log ≡ some (l ++ rest))) done s)
+      Left log_area (λ u. u.log ≡ some l) done s
+      ⊎ ((appended ≡ true) × (In sync_log done → ⊥) × Left log_area (λ u. (rest : Bytes) × (u.log ≡ some (l ++ rest))) done s)
 
 -- The added syncs, by a rule on the steps of a plan. Before a step 0x2B, the log's removal: 0x2D of every collection that stands, in their order, and 0x2D
 -- with no name. Behind it: 0x2E. A step with another tag is carried out as it is.
@@ -72,10 +72,10 @@ abbrev pub standing : Store → List Name
 standing s = dirs s.tree
 
 abbrev pub sync_all : List Name → List Step
-sync_all l = map sync_directory l ++ syncCollections ∷ []
+sync_all l = map sync_directory l ++ sync_collections ∷ []
 
 abbrev pub around : Bool → Step → Store → List Step
-around removes x s = if removes then sync_all (standing s) ++ x ∷ syncJournal ∷ [] else x ∷ []
+around removes x s = if removes then sync_all (standing s) ++ x ∷ sync_journal ∷ [] else x ∷ []
 
 -- A plan with these syncs, from the store s.
 abbrev pub with_syncs : List Step → Store → List Step
@@ -84,7 +84,7 @@ with_syncs (x ∷ xs) s = around (removes_log x) x s ++ with_syncs xs (apply x s
 
 -- A recovery: its plan with these syncs; and where no log stands, first of all 0x2E, so that the log stays gone.
 abbrev pub synced_first : Area
-synced_first = journalArea
+synced_first = journal_area
 
 unfoldable pub synced_plan : Store → List Step
 synced_plan s = if_missing s.log (sync_of synced_first ∷ []) ++ with_syncs (recover_plan s) s
@@ -160,13 +160,13 @@ abbrev pub LossRule : Type 0
 LossRule =
     (b : Bytes) (s : Store) (ops : List Op) (n : ℕ) (c : Bytes) (out : ℕ) → Covered b s ops → Found s n c → ((recover c out).number ≡ 2 → ⊥) →
     (recover c out ≡ answer 0 (settled s.tree))
-    ⊎ (((commit b image_room).number ≡ 0) × In removeLog (take n (synced_commit s)) × (recover c out ≡ commit b image_room))
+    ⊎ (((commit b image_room).number ≡ 0) × In remove_log (take n (synced_commit s)) × (recover c out ≡ commit b image_room))
 
 -- Once the commit has done its 0x2E it is the second, and stays so.
 abbrev pub KeptRule : Type 0
 KeptRule =
     (b : Bytes) (s : Store) (ops : List Op) (n : ℕ) (c : Bytes) (out : ℕ) → Covered b s ops → (commit b image_room).number ≡ 0 →
-    In syncJournal (take n (synced_commit s)) → Found s n c → ((recover c out).number ≡ 2 → ⊥) → recover c out ≡ commit b image_room
+    In sync_journal (take n (synced_commit s)) → Found s n c → ((recover c out).number ≡ 2 → ⊥) → recover c out ≡ commit b image_room
 
 -- Both for marked Writes alone, in the cut rule's words: the files from before, or those with all writes done.
 abbrev pub WritesLossRule : Type 0
@@ -174,11 +174,11 @@ WritesLossRule =
     (b : Bytes) (s : Store) (ws : List Write) (n : ℕ) (c : Bytes) (out : ℕ) → Either b s ws → TrulyMarked s.tree ws → Found s n c →
     ((recover c out).number ≡ 2 → ⊥) →
     (recover c out ≡ answer 0 (settled s.tree))
-    ⊎ (((commit b image_room).number ≡ 0) × In removeLog (take n (synced_commit s))
+    ⊎ (((commit b image_room).number ≡ 0) × In remove_log (take n (synced_commit s))
     × (recover c out ≡ answer 0 (settled (all_writes_done s.staging ws s.tree))))
 
 abbrev pub WritesKeptRule : Type 0
 WritesKeptRule =
     (b : Bytes) (s : Store) (ws : List Write) (n : ℕ) (c : Bytes) (out : ℕ) → Conditions b s ws → TrulyMarked s.tree ws →
-    In syncJournal (take n (synced_commit s)) → Found s n c → ((recover c out).number ≡ 2 → ⊥) →
+    In sync_journal (take n (synced_commit s)) → Found s n c → ((recover c out).number ≡ 2 → ⊥) →
     recover c out ≡ answer 0 (settled (all_writes_done s.staging ws s.tree))

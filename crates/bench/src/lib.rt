@@ -1,4 +1,6 @@
 // What bench/ times, as functions for C: no part of the store.
+#![tactic(auto)]
+
 ghost use Rattle.spans.specs.Spans.{Sound};
 ghost use Rattle.store.specs.Stores.{store_in};
 ghost use Rattle.steps.specs.Steps.{Fits, SoundStep, FileName};

@@ -12,11 +12,13 @@ use Rattle.model.specs.Plan.{operation_steps, commit_fault, plan_ending}
 use Rattle.basic_laws.specs.Tests.{All}
 use Rattle.laws.specs.OperationLaws.{ValidOp, journal-valid}
 use Rattle.store.specs.Stores.{LentStore, log_bytes, store_of}
-use Rattle.plans.specs.RunLaws.{refusal-kept}
-use Rattle.plans.specs.Endings.{Ends}
-use Rattle.plans.specs.Budget.{Cut, Whole, limited_prefix, unlimited_whole}
+use Rattle.plans.proofs.RunLaws.{refusal-kept}
+use Rattle.plans.proofs.Endings.{Ends}
+use Rattle.plans.specs.Runs.{Cut, Whole}
+use Rattle.plans.proofs.Budget.{limited_prefix, unlimited_whole}
 use Rattle.plans.specs.ModelPlans.{plain, careful}
-use Rattle.plans.specs.ModelAnswers.{commit_start, end_behind, commit_undo, ending-commits}
+use Rattle.plans.specs.ModelPlans.{commit_start, end_behind, commit_undo}
+use Rattle.plans.proofs.ModelAnswers.{ending-commits}
 use Rattle.steps.specs.CodeRuns.{LentRun, ModelRun, run_of, SoundRun, Fresh, Follows}
 use Rattle.wal.specs.declared.WalRead.{WalRead}
 use Rattle.wal.specs.Logs.{ops_read}

@@ -12,7 +12,7 @@ use Rattle.basics.specs.Base.{Bytes, is_in, same_bytes}
 use Rattle.model.specs.Step.{apply}
 use Rattle.model.specs.Plan.{in_turn, collection_of, first_namings, sync_existing}
 use Rattle.plans.specs.Machine.{seq_over, Going}
-use Rattle.plans.specs.MachineLaws.{begin, turn, goes_as, finish}
+use Rattle.plans.proofs.MachineLaws.{begin, turn, goes_as, finish}
 use Rattle.plans.specs.ModelPlans.{plain, in_turn_lem}
 use Rattle.spans.specs.declared.NameRef.{NameRef}
 use Rattle.spans.specs.Spans.{name_of, Sound, Names}

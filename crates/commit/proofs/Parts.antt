@@ -10,7 +10,7 @@ use Rattle.model.specs.Operation.{Op}
 use Rattle.model.specs.Step.{sync_directory}
 use Rattle.model.specs.Plan.{sync_existing}
 use Rattle.plans.specs.ModelPlans.{plain}
-use Rattle.plans.specs.ModelAnswers.{end_behind}
+use Rattle.plans.specs.ModelPlans.{end_behind}
 use Rattle.steps.specs.CodeRuns.{LentRun, Follows}
 use Rattle.recovery.proofs.Picks.{present, absent}
 use Rattle.commit.specs.Commits.{end_of}

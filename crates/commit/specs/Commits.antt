@@ -5,7 +5,7 @@ use Rattle.model.specs.Step.{Step, apply, commit_number}
 use Rattle.model.specs.Plan.{commit_end, hold_end, commit_fault, plan_ending}
 use Rattle.model.specs.Store as model
 use Rattle.store.specs.Stores.{LentStore, store_of}
-use Rattle.plans.specs.Budget.{Cut, Whole}
+use Rattle.plans.specs.Runs.{Cut, Whole}
 use Rattle.steps.specs.CodeRuns.{LentRun, run_of, SoundRun}
 
 -- How a commit ends: the ordinary one, and the held one (02, item 6).

@@ -1,15 +1,17 @@
 // Commit: local_storage.rs, `apply_inner`. 01, Listings and file steps: "mark, syncs, operations, directory syncs in order of first naming,
 // log removal, journal sync, backups, staging." After a failing step "the rollback's steps follow, then log removal, journal sync and
 // staging". A held commit ends otherwise (02, item 6).
+#![tactic(auto)]
+
 ghost use Rattle.std.specs.Prelude.{◌≡◌, [], ◌∷◌, map, reverse, ◌≤◌, take};
 ghost use Rattle.basics.specs.Base.{Bytes, is_in};
 ghost use Rattle.model.specs.Log.{journal, ops_of};
-ghost use Rattle.model.specs.Step.{holdHeader, syncLog};
+ghost use Rattle.model.specs.Step.{hold_header, sync_log};
 ghost use Rattle.model.specs.Plan.{in_turn, collection_of, first_namings, sync_existing};
 ghost use Rattle.spans.specs.Spans.{name_of, Sound, Names};
 ghost use Rattle.store.specs.Stores.{store_in, log_bytes};
 ghost use Rattle.plans.specs.ModelPlans.{plain};
-ghost use Rattle.plans.specs.ModelAnswers.{commit_start, end_behind, commit_undo};
+ghost use Rattle.plans.specs.ModelPlans.{commit_start, end_behind, commit_undo};
 ghost use Rattle.steps.specs.Steps.{Fits};
 ghost use Rattle.steps.specs.CodeRuns.{run_in, SoundRun, Follows};
 ghost use Rattle.transaction.specs.Operations.{op_of, SoundOp};
@@ -109,7 +111,7 @@ fn mark_and_sync(src: &[u8], tree: &mut Nodes, staging: &mut Nodes, run: Run) ->
 // 02, item 6: "it rewrites the header with status 0x02, Held (..), syncs the log".
 fn hold_log(src: &[u8], tree: &mut Nodes, staging: &mut Nodes, run: Run) -> Run
     requires { SoundRun src.now (run_in tree.old staging.old run) }
-    ensures { Follows plain src.now (λ s. holdHeader ∷ syncLog ∷ []) (run_in tree.old staging.old run) (run_in tree.new staging.new result) }
+    ensures { Follows plain src.now (λ s. hold_header ∷ sync_log ∷ []) (run_in tree.old staging.old run) (run_in tree.new staging.new result) }
 {
     let held = steps::advance(src, tree, staging, run, Step::HoldHeader);
     steps::advance(src, tree, staging, held, Step::SyncLog)

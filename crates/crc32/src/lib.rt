@@ -1,5 +1,7 @@
 // CRC-32 of lent bytes, from a table and bit by bit. 01, How a store is handed over: "The CRC is reflected, polynomial 0xEDB88320, start and
 // final exclusive-or all ones." It is wal.rs's checksum (`compute_checksum`); that it is IEEE 802.3's is a law of crate laws.
+#![tactic(auto)]
+
 ghost use Rattle.std.specs.Prelude.{◌≡◌, true, drop};
 ghost use Rattle.crc32.specs.Table.{byte_table};
 ghost use Rattle.basics.specs.Crc32.{shift, shifts, feed_byte, register, crc32, ieee_crc32};
@@ -68,7 +70,7 @@ pub fn hash(s: &[u8]) -> u32
 }
 
 // The checksums of two byte strings.
-#[derive(Drop)]
+#[derive(Clone, Copy)]
 pub struct Two {
     pub first: u32,
     pub second: u32,

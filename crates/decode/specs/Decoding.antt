@@ -2,7 +2,6 @@
 use Rattle.std.specs.Prelude.{◌≡◌, Bool, true, false, map, ℕ, eqb}
 use Rattle.std.proofs.Math.Option.{none, some}
 use Rattle.basics.specs.Base.{Bytes}
-use Rattle.model.specs.Store as model
 use Rattle.model.specs.Image.{log_field, mark_field, decode}
 use Rattle.laws.specs.StoreLaws.{LogFits}
 use Rattle.laws.specs.ImageLaws.{listed}

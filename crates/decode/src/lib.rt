@@ -1,4 +1,6 @@
 // A store image, read in one pass: 01, How a store is handed over. The names of the store are parts of the image.
+#![tactic(auto)]
+
 ghost use Rattle.std.specs.Prelude.{◌≡◌, true, false, ◌&&◌, ◌≤◌, length};
 ghost use Rattle.basics.specs.Limits.{image_room};
 ghost use Rattle.spans.specs.Spans.{name_of, Sound};
@@ -18,7 +20,7 @@ const NO_LOG: LogRef = LogRef {
 };
 
 // How far a listing is read: its last node, the place behind it, and how many directories and files it has.
-#[derive(Drop)]
+#[derive(Clone, Copy)]
 pub struct Spot {
     pub node: Node,
     pub next: usize,
@@ -27,28 +29,28 @@ pub struct Spot {
 }
 
 // What stands behind a node: the next one; no field of the listing; or one that may not follow.
-#[derive(Drop)]
+#[derive(Clone, Copy)]
 pub enum Next {
     Is(Spot),
     Other,
     Broken,
 }
 
-#[derive(Drop)]
+#[derive(Clone, Copy)]
 pub struct NodesPart {
     pub ok: bool,
     pub len: usize,
     pub next: usize,
 }
 
-#[derive(Drop)]
+#[derive(Clone, Copy)]
 pub struct LogPart {
     pub ok: bool,
     pub log: LogRef,
     pub next: usize,
 }
 
-#[derive(Drop)]
+#[derive(Clone, Copy)]
 pub struct MarkPart {
     pub ok: bool,
     pub mark: bool,
@@ -56,7 +58,7 @@ pub struct MarkPart {
 }
 
 // The store of an image, where that is not refused, and where its tree ends.
-#[derive(Drop)]
+#[derive(Clone, Copy)]
 pub struct Decoded {
     pub ok: bool,
     pub store: Store,

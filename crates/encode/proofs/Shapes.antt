@@ -8,8 +8,8 @@ use native.Mathlib.Omega.{arith}
 use lib.ListN.{length, take, drop, length-append, length-drop}
 use Rattle.basics.specs.Order.{Name}
 use Rattle.basics.specs.Map as model
-use Rattle.basics.specs.Base.{Bytes, if◌then◌else◌, if_empty}
-use Rattle.basics.specs.Field.{Field, little_endian, encode_field, encode_fields}
+use Rattle.basics.specs.Base.{Bytes, if_empty}
+use Rattle.basics.specs.Field.{little_endian, encode_field, encode_fields}
 use Rattle.model.specs.Log.{header, with_status}
 use Rattle.model.specs.Image.{log_field}
 use Rattle.basic_laws.specs.FieldLaws.{encode_one}

@@ -1,4 +1,6 @@
 // A store's image, written at the front of the lent output: 01, How a store is handed over. And what names a backup, in the fields of an image.
+#![tactic(auto)]
+
 ghost use Rattle.std.specs.Prelude.{◌≡◌, false, ◌++◌, map, ◌+◌, ◌-◌, ◌≤◌, ◌<◌, length, take, drop};
 ghost use Rattle.std.proofs.Math.Option.{some};
 ghost use Rattle.basics.specs.Field.{little_endian, encode_field, encode_fields};

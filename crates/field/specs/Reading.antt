@@ -1,8 +1,8 @@
 -- What stands at a place. 01, How a store is handed over: "A field is a tag (1 byte), a length (2 bytes, little-endian) and that many
 -- value bytes."
-use Rattle.std.specs.Prelude.{◌≡◌, ℕ, ◌+◌, ◌-◌, ◌≤◌, ◌<◌, [], ◌∷◌, ◌++◌, length, take, drop, leb}
+use Rattle.std.specs.Prelude.{◌≡◌, ℕ, ◌+◌, ◌-◌, ◌≤◌, ◌<◌, [], ◌∷◌, ◌++◌, length, take, drop, leb, if◌then◌else◌}
 use Rattle.std.proofs.Math.Option.{none, some}
-use Rattle.basics.specs.Base.{Bytes, case_option, if◌then◌else◌}
+use Rattle.basics.specs.Base.{Bytes, case_option}
 use Rattle.basics.specs.Field.{Field, from_little_endian, encode_field, fields_from}
 use Rattle.field.specs.declared.Item.{Item}
 use Rattle.field.specs.declared.Read.{Read}

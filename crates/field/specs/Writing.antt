@@ -1,7 +1,7 @@
 -- What writing into lent bytes leaves. 01, Sixteen numbers: "the lent output keeps its bytes behind them".
-use Rattle.std.specs.Prelude.{◌≡◌, ℕ, ◌+◌, length, leb}
+use Rattle.std.specs.Prelude.{◌≡◌, ℕ, ◌+◌, length, leb, if◌then◌else◌}
 use Rattle.std.proofs.Math.Seq.{paste}
-use Rattle.basics.specs.Base.{Bytes, if◌then◌else◌}
+use Rattle.basics.specs.Base.{Bytes}
 use Rattle.basics.specs.Field.{Field, encode_field}
 
 -- The lent bytes after some bytes are written at a place; where they have no room nothing changes.

@@ -1,12 +1,14 @@
 // Fields and little-endian numbers in lent bytes: 01, How a store is handed over. Every function takes any place; where something is not
 // there, or has no room, the answer says so or nothing is written.
+#![tactic(auto)]
+
 ghost use Rattle.std.specs.Prelude.{◌≡◌, [], ◌∷◌, ◌-◌};
 ghost use Rattle.basics.specs.Field.{little_endian, from_little_endian};
 ghost use Rattle.field.specs.Writing.{written, field, written_field};
 ghost use Rattle.field.specs.Reading.{u32_at, Reads};
 
 // A field's tag and the bounds of its value; the next field stands at `end`.
-#[derive(Drop)]
+#[derive(Clone, Copy)]
 pub struct Item {
     pub tag: u8,
     pub start: usize,
@@ -14,7 +16,7 @@ pub struct Item {
 }
 
 // What stands at a place: a field; fewer than three bytes; or a value that goes past the end.
-#[derive(Drop)]
+#[derive(Clone, Copy)]
 pub enum Read {
     Is(Item),
     NoHeader,

@@ -1,8 +1,8 @@
 -- The inventory's text as the code walks the tree: each node's part by what stood before it.
-use Rattle.std.specs.Prelude.{◌≡◌, List, [], ◌∷◌, ◌++◌, Bool, not, ℕ, eqb}
+use Rattle.std.specs.Prelude.{◌≡◌, List, [], ◌∷◌, ◌++◌, Bool, not, ℕ, eqb, if◌then◌else◌}
 use Rattle.basics.specs.Order.{Name}
 use Rattle.basics.specs.Map.{Map, Node}
-use Rattle.basics.specs.Base.{Bytes, if◌then◌else◌, if_empty}
+use Rattle.basics.specs.Base.{Bytes, if_empty}
 use Rattle.answers.specs.Answers.{decimal}
 use Rattle.answers.specs.Inventory.{quoted}
 use Rattle.store.specs.declared.Node as store

@@ -1,4 +1,6 @@
 // The inventory as JSON, written at the front of the lent output: 02, item 9.
+#![tactic(auto)]
+
 ghost use Rattle.std.specs.Prelude.{◌≡◌, true, [], ◌∷◌, ◌+◌, ◌≤◌, length};
 ghost use Rattle.model.specs.Store.{valid_nodes};
 ghost use Rattle.answers.specs.Answers.{decimal};

@@ -1,4 +1,6 @@
 // The bytes into which the spans of a recording entry point: a copy of the image, and behind it the names that were given.
+#![tactic(auto)]
+
 ghost use Rattle.std.specs.Prelude.{◌≡◌, false, ◌+◌, ◌≤◌, ◌<◌, length};
 ghost use Rattle.basics.specs.Limits.{name_limit};
 ghost use Rattle.basics.specs.Name.{lower};
@@ -7,7 +9,7 @@ ghost use Rattle.lend.specs.Lending.{Lends};
 use spans::NameRef;
 
 // A given name that was tested: where it is valid, it stands in the bytes before `end`.
-#[derive(Drop)]
+#[derive(Clone, Copy)]
 pub struct Named {
     pub valid: bool,
     pub name: NameRef,

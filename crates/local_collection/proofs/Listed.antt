@@ -1,4 +1,5 @@
 -- The keys of a listing, name by name.
+use Rattle.std.specs.Prelude.{if◌then◌else◌}
 use mathlib.Core.Path.{◌≡◌, refl, sym, ap, ◌∙◌}
 use mathlib.Core.List.{List, [], ◌∷◌, ◌++◌}
 use mathlib.Core.Option.{some}
@@ -8,7 +9,7 @@ use native.Mathlib.Omega.{arith}
 use lib.ListN.{length, drop, get_or, length-append}
 use Rattle.basics.specs.Order.{Name}
 use Rattle.basics.specs.Map.{Map}
-use Rattle.basics.specs.Base.{Bytes, if◌then◌else◌, same_bytes}
+use Rattle.basics.specs.Base.{Bytes, same_bytes}
 use Rattle.basics.specs.Name.{lower, is_backup, is_tmp}
 use Rattle.basics.specs.Field.{encode_field}
 use Rattle.model.specs.Store.{Store, files}

@@ -1,9 +1,9 @@
 -- The keys among the files of a directory, and what the functions over them answer.
-use Rattle.std.specs.Prelude.{◌≡◌, ℕ, ◌≤◌, List, [], Bool, not, ◌&&◌, ◌||◌, length}
+use Rattle.std.specs.Prelude.{◌≡◌, ℕ, ◌≤◌, List, [], Bool, not, ◌&&◌, ◌||◌, length, if◌then◌else◌}
 use Rattle.std.proofs.Math.Option.{Option, none, some}
 use Rattle.basics.specs.Order.{Name}
 use Rattle.basics.specs.Map.{Map}
-use Rattle.basics.specs.Base.{Bytes, if◌then◌else◌, flat_map}
+use Rattle.basics.specs.Base.{Bytes, flat_map}
 use Rattle.basics.specs.Name.{lower, is_backup, is_tmp}
 use Rattle.basics.specs.Field.{encode_field}
 use Rattle.model.specs.Store.{files}

@@ -1,4 +1,6 @@
 // The files of one collection as keys: local_collection.rs. A key that is given stands in the lent bytes in lower case.
+#![tactic(auto)]
+
 ghost use Rattle.std.specs.Prelude.{◌≡◌, ◌≤◌, length};
 ghost use Rattle.basics.specs.Base.{same_bytes};
 ghost use Rattle.basics.specs.Name.{lower};
@@ -16,7 +18,7 @@ use steps::Step;
 use store::{Held, Nodes, Store};
 
 // A file whose name is the key in another case, if there is one.
-#[derive(Drop)]
+#[derive(Clone, Copy)]
 pub enum OtherCase {
     Is(NameRef),
     Nothing,

@@ -1,4 +1,5 @@
 -- `commit`, held or not, as an answer: the operations of the open transaction, and what the run did.
+use Rattle.std.specs.Prelude.{if◌then◌else◌}
 use mathlib.Core.Path.{◌≡◌, refl, sym, ap, ◌∙◌}
 use mathlib.Core.List.{[]}
 use mathlib.Core.Bool.{Bool, true, false, not, false≢true}
@@ -6,7 +7,7 @@ use Prim.Native.Nat.{ℕ}
 use lib.ListN.{length}
 use lib.Dec.{leb, eqb}
 use borrow.Author.Tests.{eqb-true, eqb-false}
-use Rattle.basics.specs.Base.{Bytes, if◌then◌else◌}
+use Rattle.basics.specs.Base.{Bytes}
 use Rattle.model.specs.Log.{journal, ops_of}
 use Rattle.model.specs.Store as model
 use Rattle.model.specs.Step.{Step, apply}
@@ -15,10 +16,11 @@ use Rattle.laws.specs.LogLaws.{found-whole}
 use Rattle.store.specs.Words.{Words}
 use Rattle.store.specs.Stores.{LentStore, store_in, store_of, log_bytes, SoundStore}
 use Rattle.store.specs.declared.Store.{Store}
-use Rattle.plans.specs.MachineLaws.{clash}
+use Rattle.plans.proofs.MachineLaws.{clash}
 use Rattle.plans.specs.Runs as plans
-use Rattle.plans.specs.Budget.{Cut, Whole, past, not-past}
-use Rattle.plans.specs.ModelAnswers.{committed-cut, committed-whole, held_cut, held_whole, field-at}
+use Rattle.plans.specs.Runs.{Cut, Whole}
+use Rattle.plans.proofs.Budget.{past, not-past}
+use Rattle.plans.proofs.ModelAnswers.{committed-cut, committed-whole, held_cut, held_whole, field-at}
 use Rattle.steps.specs.CodeRuns.{LentRun, run_in}
 use Rattle.steps.specs.declared.Run.{Run}
 use Rattle.steps.specs.declared.Step.TheVariants.{SyncJournal}

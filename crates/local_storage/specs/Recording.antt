@@ -1,10 +1,10 @@
 -- What the methods of a `LocalStorage` answer: the model's outcomes.
-use Rattle.std.specs.Prelude.{◌≡◌, ℕ, ◌≤◌, List, [], Bool, true, false, not, ◌&&◌, length, leb, eqb}
+use Rattle.std.specs.Prelude.{◌≡◌, ℕ, ◌≤◌, List, [], Bool, true, false, not, ◌&&◌, length, leb, eqb, if◌then◌else◌}
 use Rattle.std.proofs.Math.Option.{Option, none, some}
 use Rattle.basics.specs.Limits.{staging_limit}
 use Rattle.basics.specs.Order.{Name}
 use Rattle.basics.specs.Map.{Map, look, put}
-use Rattle.basics.specs.Base.{Bytes, if◌then◌else◌, is_some}
+use Rattle.basics.specs.Base.{Bytes, is_some}
 use Rattle.basics.specs.Name.{valid_name, lower}
 use Rattle.model.specs.Operation.{Op}
 use Rattle.model.specs.Log.{Journal, absent, recording, committing, held}

@@ -1,5 +1,7 @@
 // Begin, the recorded operations, commit and rollback: local_storage.rs, and the methods of local_collection.rs that record. Each consumes
 // the store and hands it on. A given name is tested beforehand; where it is valid, it stands in the lent bytes, a key in lower case.
+#![tactic(auto)]
+
 ghost use Rattle.std.specs.Prelude.{◌≡◌, true, false, ◌&&◌, ◌<◌};
 ghost use Rattle.basics.specs.Order.{Name};
 ghost use Rattle.basics.specs.Base.{Bytes};
@@ -21,13 +23,13 @@ use store::{Nodes, Store};
 use transaction::Operation;
 use wal::{Ending, Status, Tail, WalRead};
 
-#[derive(Drop)]
+#[derive(Clone, Copy)]
 pub struct LocalStorage {
     pub store: Store,
 }
 
 // A refusal's number, or 0 with the store handed on.
-#[derive(Drop)]
+#[derive(Clone, Copy)]
 pub struct Recorded {
     pub number: u32,
     pub storage: LocalStorage,
@@ -36,7 +38,7 @@ pub struct Recorded {
 
 // What `commit` answers: whether a transaction was found (else 4); the number of the step that failed, 0 for none; the store handed on; what
 // is left of the budget; the step that was done last.
-#[derive(Drop)]
+#[derive(Clone, Copy)]
 pub struct Committed {
     pub found: bool,
     pub number: u32,
@@ -46,7 +48,7 @@ pub struct Committed {
 }
 
 // The operations of the open transaction, where one is found.
-#[derive(Drop)]
+#[derive(Clone, Copy)]
 pub struct Transaction {
     pub found: bool,
     pub read: WalRead,

@@ -14,9 +14,9 @@ use Rattle.model.specs.Store.{Store}
 use Rattle.model.specs.Step.{Step, rename_file, rename_directory, copy_file, apply, fails, name_too_long, new_file, step_fault}
 use Rattle.store.specs.Stores.{store_of}
 use Rattle.plans.specs.Machine.{Lawful, single}
-use Rattle.plans.specs.MachineLaws.{stays}
+use Rattle.plans.proofs.MachineLaws.{stays}
 use Rattle.plans.specs.ModelPlans.{fault, careful}
-use Rattle.plans.specs.RunLaws.{careful-lawful, over-stopped}
+use Rattle.plans.proofs.RunLaws.{careful-lawful, over-stopped}
 use Rattle.steps.specs.CodeRuns.{LentRun, run_of, SoundRun, Follows, Refuses}
 
 abbrev pub lawful : Lawful careful

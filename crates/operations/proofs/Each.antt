@@ -14,7 +14,7 @@ use Rattle.model.specs.Plan.{op_steps, operation_steps}
 use Rattle.laws.specs.OperationLaws.{ValidOp}
 use Rattle.basic_laws.specs.Tests.{All}
 use Rattle.plans.specs.Machine.{single, seq_over, Going}
-use Rattle.plans.specs.MachineLaws.{begin, turn, goes_as, finish}
+use Rattle.plans.proofs.MachineLaws.{begin, turn, goes_as, finish}
 use Rattle.plans.specs.ModelPlans.{careful, in_turn_lem, in_turn-single}
 use Rattle.spans.specs.declared.NameRef.{NameRef}
 use Rattle.store.specs.Words.{name_at}

@@ -1,5 +1,7 @@
 // What the operations of a log do at commit: local_storage.rs, `apply_operations`. Each step may fail; behind a failing step no other is
 // done (`steps::attempt`).
+#![tactic(auto)]
+
 ghost use Rattle.std.proofs.Math.Option.{Option};
 ghost use Rattle.std.specs.Prelude.{Bool};
 ghost use Rattle.basics.specs.Name.{backup_name};

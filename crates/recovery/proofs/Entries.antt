@@ -14,7 +14,7 @@ use Rattle.model.specs.Store.{Store}
 use Rattle.model.specs.Step.{Step, apply}
 use Rattle.model.specs.Plan.{in_turn, is_new_artifact}
 use Rattle.plans.specs.Machine.{seq_over, Going}
-use Rattle.plans.specs.MachineLaws.{begin, turn, goes_as, finish}
+use Rattle.plans.proofs.MachineLaws.{begin, turn, goes_as, finish}
 use Rattle.plans.specs.ModelPlans.{plain, in_turn_lem}
 use Rattle.store.proofs.Lists.{all_get_d}
 use Rattle.steps.specs.CodeRuns.{LentRun, run_of, SoundRun, Follows}

@@ -8,10 +8,10 @@ use Rattle.model.specs.Step.{Step, apply}
 use Rattle.model.specs.Operation.{Op}
 use Rattle.model.specs.Plan.{in_turn, in_sequence, undo_steps, restore_backups}
 use Rattle.plans.specs.Machine.{Machine, Lawful, apply_all, single, seq}
-use Rattle.plans.specs.MachineLaws as machines
-use Rattle.plans.specs.MachineLaws.{idle, like, and_then}
+use Rattle.plans.proofs.MachineLaws as machines
+use Rattle.plans.proofs.MachineLaws.{idle, like, and_then}
 use Rattle.plans.specs.ModelPlans.{plain, turn-of, in_sequence_lem}
-use Rattle.plans.specs.RunLaws.{plain-lawful}
+use Rattle.plans.proofs.RunLaws.{plain-lawful}
 use Rattle.steps.specs.CodeRuns.{LentRun, ModelRun, run_of, SoundRun, Follows}
 use Rattle.recovery.specs.Walks.{undo_all}
 

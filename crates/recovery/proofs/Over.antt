@@ -10,7 +10,7 @@ use Rattle.model.specs.Store.{Store, dirs, files, staging_names}
 use Rattle.model.specs.Step.{Step, remove_staging}
 use Rattle.model.specs.Plan.{in_turn, remove_staging_files}
 use Rattle.plans.specs.Machine.{Machine, Lawful, single, seq_over, Going}
-use Rattle.plans.specs.MachineLaws.{begin, turn, goes_as, finish}
+use Rattle.plans.proofs.MachineLaws.{begin, turn, goes_as, finish}
 use Rattle.plans.specs.ModelPlans.{plain, in_turn_lem, in_turn-single}
 use Rattle.spans.specs.Spans.{name_of, Sound}
 use Rattle.spans.specs.declared.NameRef.{NameRef}

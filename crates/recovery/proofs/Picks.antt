@@ -8,7 +8,7 @@ use Rattle.basics.specs.Map.{look}
 use Rattle.basics.specs.Base.{Bytes, is_some, if_present, if_missing, if_empty}
 use Rattle.basics.specs.Name.{backup_name, original_name, strip_tmp, is_backup, is_tmp}
 use Rattle.model.specs.Store.{Store, files}
-use Rattle.model.specs.Step.{remove_file, remove_directory, rename_file, rename_directory, removeLog, apply}
+use Rattle.model.specs.Step.{remove_file, remove_directory, rename_file, rename_directory, remove_log, apply}
 use Rattle.model.specs.Plan.{restore_file, restore_directory, remove_backup_file, remove_backups_in}
 use Rattle.plans.specs.Machine.{single, seq}
 use Rattle.store.specs.Stores.{log_bytes}
@@ -161,8 +161,8 @@ module _ (src : Bytes) (l : LogRef) where
       go true e = rw e
       go false e = rw e
 
-  pub log-gone : l.stands ≡ true → removeLog ∷ [] ≡ if_present (log_bytes src l) (removeLog ∷ [])
+  pub log-gone : l.stands ≡ true → remove_log ∷ [] ≡ if_present (log_bytes src l) (remove_log ∷ [])
   log-gone h = sym (present (log_bytes src l) _ (log-told ∙ h))
 
-  pub no-log : l.stands ≡ false → if_present (log_bytes src l) (removeLog ∷ []) ≡ []
+  pub no-log : l.stands ≡ false → if_present (log_bytes src l) (remove_log ∷ []) ≡ []
   no-log h = absent (log_bytes src l) _ (log-told ∙ h)

@@ -1,4 +1,5 @@
 -- `recover`, `revert` and `keep`: the start, the plan, and what the run comes to.
+use Rattle.std.specs.Prelude.{if◌then◌else◌}
 use mathlib.Core.Path.{◌≡◌, refl, sym, ap, subst, ◌∙◌}
 use mathlib.Core.List.{List, [], ◌∷◌}
 use mathlib.Core.Option.{Option, none, some}
@@ -9,9 +10,9 @@ use native.Mathlib.Omega.{arith}
 use types.Run.{OneOf}
 use denote.Enum.Declared.{tag_of}
 use Rattle.basics.specs.Map.{Map}
-use Rattle.basics.specs.Base.{Bytes, if◌then◌else◌, any_of}
+use Rattle.basics.specs.Base.{Bytes, any_of}
 use Rattle.model.specs.Operation.{Op}
-use Rattle.model.specs.Log.{Entries, Journal, committing, held, is_held, Ending, whole, truncated, undecodable, tooMany, entries, journal}
+use Rattle.model.specs.Log.{Entries, Journal, committing, held, is_held, Ending, whole, truncated, undecodable, too_many, entries, journal}
 use Rattle.model.specs.Store as model
 use Rattle.model.specs.Store.{has_backup_files}
 use Rattle.model.specs.Step.{Step, apply}
@@ -21,7 +22,8 @@ use Rattle.store.specs.Words.{Words}
 use Rattle.store.specs.declared.Store.{Store}
 use Rattle.store.specs.Tables.{table_of, map_of}
 use Rattle.store.specs.Stores.{LentStore, store_in, log_bytes, store_of}
-use Rattle.plans.specs.Budget.{Cut, Whole, plainly, limited_prefix, unlimited_whole}
+use Rattle.plans.specs.Runs.{Cut, Whole}
+use Rattle.plans.proofs.Budget.{plainly, limited_prefix, unlimited_whole}
 use Rattle.plans.specs.ModelPlans.{plain}
 use Rattle.steps.specs.Steps.{Fits}
 use Rattle.steps.specs.declared.Run.{Run}
@@ -46,7 +48,7 @@ fault-none o (truncated c) t h = go (has_backup_files t || any_of (is_new_artifa
     go true h = absurd (omega arith)
     go false h = refl
 fault-none o undecodable t h = absurd (omega arith)
-fault-none o tooMany t h = absurd (omega arith)
+fault-none o too_many t h = absurd (omega arith)
 
 fault-told : (o : Option ℕ) (k : ℕ) → k ≡ refusal_of o → (k ≡ 0 → ⊥) → o ≡ told k
 fault-told none k e h = absurd (h e)

@@ -1,4 +1,5 @@
 -- Recovery from a Committing log, by how the walk through it ended.
+use Rattle.std.specs.Prelude.{if◌then◌else◌}
 use mathlib.Core.Path.{◌≡◌, refl}
 use mathlib.Core.List.{List, [], ◌∷◌}
 use mathlib.Core.Option.{none, some}
@@ -9,7 +10,7 @@ use Prim.Native.Nat.{ℕ}
 use types.Run.{OneOf}
 use denote.Enum.Declared.{tag_of}
 use Rattle.basics.specs.Map.{Map}
-use Rattle.basics.specs.Base.{if◌then◌else◌, any_of}
+use Rattle.basics.specs.Base.{any_of}
 use Rattle.model.specs.Operation.{Op}
 use Rattle.model.specs.Log.{committing}
 use Rattle.model.specs.Store.{Store, has_backup_files}

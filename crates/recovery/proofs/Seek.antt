@@ -1,4 +1,5 @@
 -- The search for backups: what a walk through the nodes still has before it decides.
+use Rattle.std.specs.Prelude.{if◌then◌else◌}
 use mathlib.Core.Path.{◌≡◌, refl, sym, ap, ◌∙◌}
 use mathlib.Core.List.{[], ◌∷◌}
 use mathlib.Core.Logic.{inl, inr}
@@ -12,11 +13,11 @@ use borrow.Author.Tests.{ltb-true, ltb-false}
 use types.Run.{OneOf}
 use denote.Enum.Declared.{tag_of}
 use Rattle.basics.specs.Map as model
-use Rattle.basics.specs.Base.{Bytes, same_bytes, first_of, if◌then◌else◌}
+use Rattle.basics.specs.Base.{Bytes, same_bytes, first_of}
 use Rattle.model.specs.Store.{first_backup, is_backup_file, in_backup_directory, is_hit, has_backup_files}
 use Rattle.basic_laws.specs.Tests.{same_refl}
 use Rattle.laws.specs.BackupLaws.{same_answer}
-use Rattle.plans.specs.MachineLaws.{clash}
+use Rattle.plans.proofs.MachineLaws.{clash}
 use Rattle.spans.specs.Spans.{name_of, Sound}
 use Rattle.spans.specs.declared.NameRef.{NameRef}
 use Rattle.store.specs.declared.Node.{Node}

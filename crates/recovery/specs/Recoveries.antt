@@ -1,7 +1,7 @@
 -- What `recover`, `revert` and `keep` answer.
-use Rattle.std.specs.Prelude.{◌≡◌, List, Bool, true, false, ℕ, zero, suc, take, drop}
+use Rattle.std.specs.Prelude.{◌≡◌, List, Bool, true, false, ℕ, zero, suc, take, drop, if◌then◌else◌}
 use Rattle.std.proofs.Math.Option.{Option, none, some}
-use Rattle.basics.specs.Base.{Bytes, case_option, if◌then◌else◌}
+use Rattle.basics.specs.Base.{Bytes, case_option}
 use Rattle.model.specs.Log.{Journal, is_held, journal}
 use Rattle.model.specs.Store as model
 use Rattle.model.specs.Step.{Step, apply}
@@ -9,7 +9,7 @@ use Rattle.model.specs.Plan.{in_sequence, without_mark, recover_fault, discarded
 use Rattle.store.specs.Words.{Words}
 use Rattle.store.specs.Stores.{LentStore, store_of}
 use Rattle.store.specs.declared.LogRef.{LogRef}
-use Rattle.plans.specs.Budget.{Cut, Whole}
+use Rattle.plans.specs.Runs.{Cut, Whole}
 use Rattle.steps.specs.CodeRuns.{LentRun, run_in, run_of, SoundRun}
 use Rattle.recovery.specs.declared.Recovered.{Recovered}
 

@@ -1,7 +1,7 @@
 -- What callers of `recover`, `revert` and `keep` read off an answer.
 use Rattle.std.specs.Prelude.{◌≡◌, refl, Bool, true, false, ℕ, zero, suc, ◌≤◌, length, take}
 use Rattle.std.proofs.Common.{sym, ap, ◌∙◌}
-use Rattle.std.proofs.Math.Option.{Option, none, some}
+use Rattle.std.proofs.Math.Option.{none, some}
 use Rattle.basics.specs.Base.{Bytes}
 use Rattle.model.specs.Step.{step_field, field_at}
 use Rattle.model.specs.Step as model
@@ -9,7 +9,7 @@ use Rattle.model.specs.Plan.{without_mark}
 use Rattle.store.specs.Words.{Words}
 use Rattle.store.specs.Stores.{LentStore, store_in, store_of}
 use Rattle.plans.specs.ModelPlans.{apply-all}
-use Rattle.plans.specs.ModelAnswers.{field-at}
+use Rattle.plans.proofs.ModelAnswers.{field-at}
 use Rattle.steps.specs.Steps.{step_of}
 use Rattle.recovery.specs.declared.Recovered.{Recovered}
 use Rattle.recovery.specs.Recoveries.{told, Work, Recovers}

@@ -6,7 +6,7 @@ use Rattle.basics.specs.Base.{if_empty, is_some, if_present, if_missing}
 use Rattle.basics.specs.Name.{backup_name}
 use Rattle.model.specs.Operation.{Op}
 use Rattle.model.specs.Store.{Store, files}
-use Rattle.model.specs.Step.{Step, remove_file, remove_directory, removeLog, apply}
+use Rattle.model.specs.Step.{Step, remove_file, remove_directory, remove_log, apply}
 use Rattle.model.specs.Plan.{in_turn, in_sequence, undo_steps, restore_backups, remove_staging_files}
 use Rattle.plans.specs.Machine.{seq}
 
@@ -41,4 +41,4 @@ undo_all ops s = seq apply (in_turn undo_steps (reverse ops)) restore_backups s
 
 -- What recovery does in any case where a valid log stands.
 abbrev pub clean_up : Store → List Step
-clean_up = in_sequence ((λ s. removeLog ∷ []) ∷ remove_staging_files ∷ [])
+clean_up = in_sequence ((λ s. remove_log ∷ []) ∷ remove_staging_files ∷ [])

@@ -1,12 +1,14 @@
 // Recovery of an interrupted transaction: recovery.rs. A walk goes through names that are listed where the walk starts: 01, Listings and
 // file steps, "A directory is listed as it stands when its walk starts, in ascending byte order".
+#![tactic(auto)]
+
 ghost use Rattle.std.specs.Prelude.{◌≡◌, [], ◌∷◌, reverse, true, false, ◌≤◌, length};
 ghost use Rattle.basics.specs.Base.{is_some, any_of};
 ghost use Rattle.basics.specs.Map.{look};
 ghost use Rattle.basics.specs.Name.{backup_name};
 ghost use Rattle.model.specs.Log.{entries, journal, absent, committing};
 ghost use Rattle.model.specs.Store.{has_pending_work};
-ghost use Rattle.model.specs.Step.{removeLog, syncJournal};
+ghost use Rattle.model.specs.Step.{remove_log, sync_journal};
 ghost use Rattle.model.specs.Plan.{in_turn, in_sequence, recover_parts, recover_fault, undo_steps, restore_file, restore_directory, restore_backups, remove_backup_file, remove_backups_in, remove_backups, remove_staging_files, remove_standing_log, is_new_artifact};
 ghost use Rattle.spans.specs.Spans.{name_of, Sound};
 ghost use Rattle.store.specs.Tables.{table_of, map_of, SoundTable};
@@ -494,7 +496,7 @@ pub fn remove_log(src: &[u8], tree: &mut Nodes, staging: &mut Nodes, run: Run) -
 // The log goes, and the journal is synced: "the point of no return".
 pub fn remove_log_durably(src: &[u8], tree: &mut Nodes, staging: &mut Nodes, run: Run) -> Run
     requires { SoundRun src.now (run_in tree.old staging.old run) }
-    ensures { Follows plain src.now (λ s. removeLog ∷ syncJournal ∷ []) (run_in tree.old staging.old run) (run_in tree.new staging.new result) }
+    ensures { Follows plain src.now (λ s. remove_log ∷ sync_journal ∷ []) (run_in tree.old staging.old run) (run_in tree.new staging.new result) }
 {
     let removed = steps::advance(src, tree, staging, run, Step::RemoveLog);
     steps::advance(src, tree, staging, removed, Step::SyncJournal)
@@ -608,7 +610,7 @@ fn without_mark(s: Store) -> Store
 
 // The number that it is refused with, 0 for none; where it is not refused, the cause of a truncated log that is discarded, 0 for any other, and the
 // run that did its steps.
-#[derive(Drop)]
+#[derive(Clone, Copy)]
 pub struct Recovered {
     pub number: u32,
     pub cause: u32,

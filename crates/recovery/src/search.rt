@@ -9,7 +9,7 @@ use spans::NameRef;
 use store::{Node, Nodes};
 
 // What the search meets: 02, item 2, "With a yes it names its hit".
-#[derive(Drop)]
+#[derive(Clone, Copy)]
 pub enum BackupHit {
     File(Node),
     Directory(NameRef),

@@ -1,3 +1,5 @@
+#![tactic(auto)]
+
 ghost use Rattle.std.specs.Prelude.{◌≡◌, List, [], ◌∷◌, ℕ, ◌≤◌, ◌<◌, ◌+◌, ◌*◌, length, get_or, take, drop};
 ghost use Rattle.basics.specs.Limits.{name_limit};
 ghost use Rattle.basics.specs.Order.{cmp_name};
@@ -7,27 +9,27 @@ ghost use Rattle.basic_laws.specs.NameLaws.{ends_in};
 ghost use Rattle.spans.specs.Spans.{name_of, length_of, order_of, from_big_endian, Sound, Decides, Names, Backup, Original};
 
 // A name that stands in the lent bytes, with ".bak" behind it some times: `name_of` (specs/Spans.antt).
-#[derive(Drop)]
+#[derive(Clone, Copy)]
 pub struct NameRef {
     pub start: u16,
     pub len: u8,
     pub baks: u8,
 }
 
-#[derive(Drop)]
+#[derive(Clone, Copy)]
 pub enum Order {
     Less,
     Equal,
     Greater,
 }
 
-#[derive(Drop)]
+#[derive(Clone, Copy)]
 pub enum BackupName {
     Is(NameRef),
     TooLong,
 }
 
-#[derive(Drop)]
+#[derive(Clone, Copy)]
 pub enum OriginalName {
     Is(NameRef),
     NotABackup,

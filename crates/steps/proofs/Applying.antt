@@ -1,4 +1,5 @@
 -- Each arm of `apply`: what it makes of the store is what the step does.
+use Rattle.std.specs.Prelude.{if◌then◌else◌}
 use mathlib.Core.Path.{◌≡◌, refl, sym, ap, subst, ◌∙◌}
 use mathlib.Core.List.{List, [], ◌∷◌}
 use mathlib.Core.Option.{Option, none, some}
@@ -8,7 +9,7 @@ use lib.ListN.{take, drop}
 use types.Run.{OneOf}
 use denote.Enum.Declared.{tag_of}
 use Rattle.basics.specs.Map.{Map, look, put, del}
-use Rattle.basics.specs.Base.{Bytes, if◌then◌else◌, case_option}
+use Rattle.basics.specs.Base.{Bytes, case_option}
 use Rattle.basics.specs.Field.{little_endian}
 use Rattle.model.specs.Log.{header, with_status, mark_committing, mark_held}
 use Rattle.model.specs.Store as model

@@ -1,4 +1,5 @@
 -- Each arm of `fault`: 01, Sixteen numbers, 14 and 15.
+use Rattle.std.specs.Prelude.{if◌then◌else◌}
 use mathlib.Core.Path.{◌≡◌, refl, sym, ap, ◌∙◌}
 use mathlib.Core.List.{List, [], ◌∷◌}
 use mathlib.Core.Option.{Option, none, some}
@@ -12,7 +13,7 @@ use denote.Enum.Declared.{tag_of}
 use Rattle.basics.specs.Limits.{name_limit, dir_limit}
 use Rattle.basics.specs.Order.{Name}
 use Rattle.basics.specs.Map.{look}
-use Rattle.basics.specs.Base.{Bytes, if◌then◌else◌, case_option, if_empty}
+use Rattle.basics.specs.Base.{Bytes, case_option, if_empty}
 use Rattle.model.specs.Store as model
 use Rattle.model.specs.Store.{dirs, files}
 use Rattle.model.specs.Step.{name_too_long, new_file, step_fault, fails, commit_number}

@@ -1,4 +1,5 @@
 -- Trees within their limits: there is room for one node more, and every step that is allowed keeps them so.
+use Rattle.std.specs.Prelude.{if◌then◌else◌}
 use mathlib.Core.Path.{◌≡◌, refl}
 use mathlib.Core.List.{[]}
 use mathlib.Core.Option.{Option, none, some}
@@ -10,7 +11,7 @@ use borrow.Author.Tests.{ltb-true}
 use Rattle.basics.specs.Limits.{dir_limit, file_limit}
 use Rattle.basics.specs.Order.{Name}
 use Rattle.basics.specs.Map.{Map, look, put, del}
-use Rattle.basics.specs.Base.{if◌then◌else◌, case_option}
+use Rattle.basics.specs.Base.{case_option}
 use Rattle.model.specs.Store as model
 use Rattle.model.specs.Store.{dirs, file_count, staging_key}
 use Rattle.model.specs.Step as step
@@ -103,13 +104,13 @@ found-put (some x) d k n h s w = file-put d k x n h s w
 
 -- The files that a step makes have names.
 abbrev pub Named : Step → Type 0
-Named step.rewriteHeader = Unit {0}
-Named step.holdHeader = Unit {0}
-Named step.syncStaging = Unit {0}
-Named step.syncLog = Unit {0}
-Named step.removeLog = Unit {0}
-Named step.syncJournal = Unit {0}
-Named step.syncCollections = Unit {0}
+Named step.rewrite_header = Unit {0}
+Named step.hold_header = Unit {0}
+Named step.sync_staging = Unit {0}
+Named step.sync_log = Unit {0}
+Named step.remove_log = Unit {0}
+Named step.sync_journal = Unit {0}
+Named step.sync_collections = Unit {0}
 Named (step.make_directory d) = Unit {0}
 Named (step.rename_file d a b) = (a ≡ [] → ⊥) × (b ≡ [] → ⊥)
 Named (step.move_staged f d k) = k ≡ [] → ⊥
@@ -122,13 +123,13 @@ Named (step.sync_directory d) = Unit {0}
 
 pub kept : (x : Step) (s : model.Store) → Named x → Allowed x s → Sorted s.tree → Within s.tree → Within (apply x s).tree
 unfolding apply step_fault
-kept step.rewriteHeader s n a o w = w
-kept step.holdHeader s n a o w = w
-kept step.syncStaging s n a o w = w
-kept step.syncLog s n a o w = w
-kept step.removeLog s n a o w = w
-kept step.syncJournal s n a o w = w
-kept step.syncCollections s n a o w = w
+kept step.rewrite_header s n a o w = w
+kept step.hold_header s n a o w = w
+kept step.sync_staging s n a o w = w
+kept step.sync_log s n a o w = w
+kept step.remove_log s n a o w = w
+kept step.sync_journal s n a o w = w
+kept step.sync_collections s n a o w = w
 kept (step.make_directory d) s n a o w = more-dirs d w (ltb-true (length (dirs s.tree)) dir_limit (not_full (ltb (length (dirs s.tree)) dir_limit) full a))
 kept (step.rename_file d a b) s n h o w = renamed d a b n.0 n.1 w
 kept (step.move_staged f d k) s n a o w = found-put (look (staging_key f) s.staging) d k n a o w
@@ -142,13 +143,13 @@ kept (step.sync_directory d) s n a o w = w
 
 -- A step that does not fail is allowed.
 pub allowed : (x : Step) (s : model.Store) → step_fault x s ≡ none → Allowed x s
-allowed step.rewriteHeader s h = tt
-allowed step.holdHeader s h = tt
-allowed step.syncStaging s h = tt
-allowed step.syncLog s h = tt
-allowed step.removeLog s h = tt
-allowed step.syncJournal s h = tt
-allowed step.syncCollections s h = tt
+allowed step.rewrite_header s h = tt
+allowed step.hold_header s h = tt
+allowed step.sync_staging s h = tt
+allowed step.sync_log s h = tt
+allowed step.remove_log s h = tt
+allowed step.sync_journal s h = tt
+allowed step.sync_collections s h = tt
 allowed (step.make_directory d) s h = h
 allowed (step.rename_file d a b) s h = tt
 allowed (step.move_staged f d k) s h = h

@@ -9,8 +9,8 @@ use Rattle.basics.specs.Base.{Bytes}
 use Rattle.model.specs.Step.{apply, Fault, fails, full, step_fault, commit_number}
 use Rattle.store.specs.Stores.{LentStore, store_of}
 use Rattle.plans.specs.Machine.{single}
-use Rattle.plans.specs.MachineLaws as laws
-use Rattle.plans.specs.RunLaws.{plain-lawful, careful-lawful, over-stopped, over-refused, not-over, halts, steps, refuses, passes}
+use Rattle.plans.proofs.MachineLaws as laws
+use Rattle.plans.proofs.RunLaws.{plain-lawful, careful-lawful, over-stopped, over-refused, not-over, halts, steps, refuses, passes}
 use Rattle.plans.specs.ModelPlans.{plain, careful, fault}
 use Rattle.steps.specs.declared.Step.{Step}
 use Rattle.steps.specs.Steps.{step_of, SoundStep, Allowed, Applied}

@@ -16,13 +16,13 @@ use Rattle.steps.specs.declared.Step.{Step}
 use Rattle.steps.specs.declared.Step.TheVariants as code
 
 unfoldable pub step_of : Bytes → Step → step.Step
-step_of src code.RewriteHeader = step.rewriteHeader
-step_of src code.HoldHeader = step.holdHeader
-step_of src code.SyncStaging = step.syncStaging
-step_of src code.SyncLog = step.syncLog
-step_of src code.RemoveLog = step.removeLog
-step_of src code.SyncJournal = step.syncJournal
-step_of src code.SyncCollections = step.syncCollections
+step_of src code.RewriteHeader = step.rewrite_header
+step_of src code.HoldHeader = step.hold_header
+step_of src code.SyncStaging = step.sync_staging
+step_of src code.SyncLog = step.sync_log
+step_of src code.RemoveLog = step.remove_log
+step_of src code.SyncJournal = step.sync_journal
+step_of src code.SyncCollections = step.sync_collections
 step_of src (code.MakeDirectory d) = step.make_directory (name_of src d)
 step_of src (code.RenameFile d a b) = step.rename_file (name_of src d) (name_of src a) (name_of src b)
 step_of src (code.MoveStaged f d k) = step.move_staged (name_of src f) (name_of src d) (name_of src k)
@@ -72,13 +72,13 @@ pub record Fits (src : Bytes) (s : LentStore) : Type 0 where
 
 -- A step that makes a node is done only where it does not fail; the others make none.
 abbrev pub Allowed : step.Step → model.Store → Type 0
-Allowed step.rewriteHeader s = Unit {0}
-Allowed step.holdHeader s = Unit {0}
-Allowed step.syncStaging s = Unit {0}
-Allowed step.syncLog s = Unit {0}
-Allowed step.removeLog s = Unit {0}
-Allowed step.syncJournal s = Unit {0}
-Allowed step.syncCollections s = Unit {0}
+Allowed step.rewrite_header s = Unit {0}
+Allowed step.hold_header s = Unit {0}
+Allowed step.sync_staging s = Unit {0}
+Allowed step.sync_log s = Unit {0}
+Allowed step.remove_log s = Unit {0}
+Allowed step.sync_journal s = Unit {0}
+Allowed step.sync_collections s = Unit {0}
 Allowed (step.make_directory d) s = step_fault (step.make_directory d) s ≡ none
 Allowed (step.rename_file d a b) s = Unit {0}
 Allowed (step.move_staged f d k) s = step_fault (step.move_staged f d k) s ≡ none

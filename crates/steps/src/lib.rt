@@ -1,4 +1,6 @@
 // The file steps on a store, and runs of them with a budget: 01, Listings and file steps.
+#![tactic(auto)]
+
 ghost use Rattle.std.specs.Prelude.{◌≡◌, true, false, [], ◌∷◌, ◌++◌, ◌+◌, ◌-◌, ◌<◌, ◌≤◌, length};
 ghost use Rattle.std.proofs.Math.Option.{some};
 ghost use Rattle.basics.specs.Base.{Bytes, case_option};
@@ -30,7 +32,7 @@ const COMMITTING: u8 = 0x01;
 const HELD: u8 = 0x02;
 
 // The file steps, each with its names in the order of 01, Listings and file steps; `HoldHeader` rewrites the header with Held (02, item 6).
-#[derive(Drop)]
+#[derive(Clone, Copy)]
 pub enum Step {
     RewriteHeader,
     HoldHeader,
@@ -52,7 +54,7 @@ pub enum Step {
 
 // A store on which steps are done: where `limited`, only `left` more. `stopped`: a step was due with none left. `refusal`: the number of
 // the step that failed, 0 for none. `last`: the step that was done last.
-#[derive(Drop)]
+#[derive(Clone, Copy)]
 pub struct Run {
     pub store: Store,
     pub limited: bool,

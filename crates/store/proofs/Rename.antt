@@ -1,4 +1,5 @@
 -- A directory renamed: it is removed, and then its nodes are put in under the new name.
+use Rattle.std.specs.Prelude.{if◌then◌else◌}
 use mathlib.Core.Path.{◌≡◌, refl, sym, ap, ◌∙◌}
 use mathlib.Core.List.{List, [], ◌∷◌, map}
 use mathlib.Core.Bool.{Bool, true, false}
@@ -9,7 +10,7 @@ use lib.Seq.{get_or-take}
 use Rattle.basics.specs.Order.{Cmp, lt, eq, gt, Name, Key, cmp_name, case_cmp}
 use Rattle.basics.specs.Map as model
 use Rattle.basics.specs.Map.{Map, put, del}
-use Rattle.basics.specs.Base.{Bytes, if◌then◌else◌, same_bytes}
+use Rattle.basics.specs.Base.{Bytes, same_bytes}
 use Rattle.model.specs.Step.{remove_dir, rename_dir}
 use Rattle.basic_laws.specs.OrderLaws.{name_laws, key_laws, lt≢eq}
 use Rattle.basic_laws.specs.MapLaws.{Sorted, sorted-put, sorted-del, commute}

@@ -1,4 +1,5 @@
 -- `remove_dir`: the nodes of other directories are stored one behind the other.
+use Rattle.std.specs.Prelude.{if◌then◌else◌}
 use mathlib.Core.Path.{◌≡◌, refl, sym, ap, ◌∙◌}
 use mathlib.Core.List.{List, [], ◌∷◌, ◌++◌, map, map-append, append-nil}
 use mathlib.Core.Bool.{Bool, true, false}
@@ -9,7 +10,7 @@ use lib.ListN.{length, take, get_or, set, length-set}
 use lib.Seq.{take-suc, take-suc-set, get_or-set_other}
 use Rattle.basics.specs.Order.{Cmp, lt, eq, gt, case_cmp, Name, cmp_name}
 use Rattle.basics.specs.Map as model
-use Rattle.basics.specs.Base.{Bytes, if◌then◌else◌, same_bytes}
+use Rattle.basics.specs.Base.{Bytes, same_bytes}
 use Rattle.model.specs.Step.{remove_dir}
 use Rattle.laws.specs.StoreLaws.{sorted-drop}
 use Rattle.basic_laws.specs.Tests.{All, all_append}

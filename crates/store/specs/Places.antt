@@ -1,8 +1,7 @@
 -- Places in a sorted map, and changes of a map at its end.
-use Rattle.std.specs.Prelude.{◌≡◌, ℕ, suc, ◌≤◌, ◌<◌, ◌∷◌, length, take, drop, ltb}
+use Rattle.std.specs.Prelude.{◌≡◌, ℕ, suc, ◌≤◌, ◌<◌, ◌∷◌, length, take, drop, ltb, if◌then◌else◌}
 use Rattle.basics.specs.Order.{lt, gt, Key, cmp_key}
 use Rattle.basics.specs.Map.{Node, Map, put}
-use Rattle.basics.specs.Base.{if◌then◌else◌}
 use Rattle.basic_laws.specs.Tests.{All}
 
 -- A node below a key, and one above it.

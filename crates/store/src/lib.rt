@@ -1,4 +1,6 @@
 // The nodes of a store in lent tables: the tree, and the staging files. A table's nodes are sorted, so each is found by halving.
+#![tactic(auto)]
+
 ghost use Rattle.std.specs.Prelude.{◌≡◌, [], ◌∷◌, ◌++◌, true, false, ◌≤◌, ◌<◌, ◌+◌, length, take, drop, get_or, set};
 ghost use Rattle.basics.specs.Order.{cmp_key};
 ghost use Rattle.basics.specs.Map.{look, del};
@@ -23,33 +25,33 @@ pub type Nodes = [[u32; 3]; ROOM];
 pub type Listing = [u32; ROOM];
 
 // A directory's own node has the empty file name and number 0; a staging file's has the empty directory name.
-#[derive(Drop)]
+#[derive(Clone, Copy)]
 pub struct Node {
     pub dir: NameRef,
     pub file: NameRef,
     pub number: u32,
 }
 
-#[derive(Drop)]
+#[derive(Clone, Copy)]
 pub enum Found {
     At(usize),
     Missing(usize),
 }
 
-#[derive(Drop)]
+#[derive(Clone, Copy)]
 pub enum Held {
     Nothing,
     Number(u32),
 }
 
-#[derive(Drop)]
+#[derive(Clone, Copy)]
 pub struct Counts {
     pub dirs: usize,
     pub files: usize,
 }
 
 // The log's bytes as a part of the lent bytes; `status` is the one that its header was rewritten with, 0 where it was not.
-#[derive(Drop)]
+#[derive(Clone, Copy)]
 pub struct LogRef {
     pub start: u16,
     pub len: u16,
@@ -58,7 +60,7 @@ pub struct LogRef {
 }
 
 // A store whose nodes stand in two lent tables, the tree's and the staging files': how many places of each are in use, the log, the mark.
-#[derive(Drop)]
+#[derive(Clone, Copy)]
 pub struct Store {
     pub tree: usize,
     pub staging: usize,

@@ -1,7 +1,7 @@
 -- What a text leaves in the lent output.
-use Rattle.std.specs.Prelude.{◌≡◌, ◌++◌, ℕ, ◌≤◌, length, drop, leb}
+use Rattle.std.specs.Prelude.{◌≡◌, ◌++◌, ℕ, ◌≤◌, length, drop, leb, if◌then◌else◌}
 use Rattle.std.proofs.Common.{◌∙◌, le-leb}
-use Rattle.basics.specs.Base.{Bytes, if◌then◌else◌}
+use Rattle.basics.specs.Base.{Bytes}
 use Rattle.field.specs.Writing.{written}
 use Rattle.field.proofs.Written.{written-front}
 

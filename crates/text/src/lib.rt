@@ -1,4 +1,6 @@
 // What the programs' and entries' texts are made of: numbers in decimal, written into a lent output.
+#![tactic(auto)]
+
 ghost use Rattle.std.specs.Prelude.{◌≡◌, ◌+◌, ◌%◌, ◌≤◌, length};
 ghost use Rattle.answers.specs.Answers.{decimal};
 ghost use Rattle.field.specs.Writing.{written};

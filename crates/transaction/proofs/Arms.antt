@@ -1,11 +1,12 @@
 -- The seven kinds: an operation from the values of its row, and back.
+use Rattle.std.specs.Prelude.{if◌then◌else◌}
 use mathlib.Core.Path.{◌≡◌, refl}
 use mathlib.Core.List.{List, [], ◌∷◌, map}
 use mathlib.Core.Bool.{Bool}
 use Prim.Native.Nat.{ℕ, zero, suc}
 use native.Mathlib.Omega.{arith}
 use lib.ListN.{length, take, get_or}
-use Rattle.basics.specs.Base.{Bytes, if◌then◌else◌, same_bytes}
+use Rattle.basics.specs.Base.{Bytes, same_bytes}
 use Rattle.model.specs.Operation.{field_table, field_tags, kind, values, makers}
 use Rattle.basic_laws.specs.Tests.{All}
 use Rattle.spans.specs.Spans.{name_of, Sound}

@@ -1,4 +1,5 @@
 -- What `valid_value` tests, by a field's tag.
+use Rattle.std.specs.Prelude.{if◌then◌else◌}
 use mathlib.Core.Path.{◌≡◌, refl, sym, ap, ◌∙◌}
 use mathlib.Core.List.{[], ◌∷◌}
 use mathlib.Core.Bool.{Bool, true, false, ◌||◌, false≢true}
@@ -7,7 +8,7 @@ use native.Mathlib.Omega.{arith}
 use lib.Dec.{eqb}
 use lib.ListN.{length}
 use borrow.Author.Tests.{ne_eqb, eqb-true}
-use Rattle.basics.specs.Base.{Bytes, if◌then◌else◌, same_bytes}
+use Rattle.basics.specs.Base.{Bytes, same_bytes}
 use Rattle.basics.specs.Name.{valid_name}
 use Rattle.model.specs.Operation.{is_mark, valid_value}
 use Rattle.basic_laws.specs.Tests.{same-eq}

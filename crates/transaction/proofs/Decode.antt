@@ -1,4 +1,5 @@
 -- A payload read field by field against the row of its kind.
+use Rattle.std.specs.Prelude.{if◌then◌else◌}
 use mathlib.Core.Path.{◌≡◌, refl, sym, ap, ◌∙◌}
 use mathlib.Core.List.{List, [], ◌∷◌, ◌++◌, map, append-nil, append_assoc}
 use mathlib.Core.Bool.{Bool, true, false, ◌&&◌}
@@ -12,7 +13,7 @@ use lib.Seq.{drop-cons, length-take-le, get_or-take, take-suc-set}
 use borrow.Author.Tests.{leb-true, leb-false, eqb-true, eqb-false}
 use types.Run.{OneOf}
 use denote.Enum.Declared.{tag_of}
-use Rattle.basics.specs.Base.{Bytes, case_option, if◌then◌else◌, same_bytes, all_of}
+use Rattle.basics.specs.Base.{Bytes, case_option, same_bytes, all_of}
 use Rattle.basics.specs.Field.{Field, from_little_endian, fields_from, decode_fields}
 use Rattle.model.specs.Operation.{valid_value}
 use Rattle.basic_laws.specs.OrderLaws.{nat_laws}

@@ -1,4 +1,5 @@
 -- What a payload decodes to, by the row of its kind, and in which bytes its names lie.
+use Rattle.std.specs.Prelude.{if◌then◌else◌}
 use mathlib.Core.Path.{◌≡◌, refl, sym, ap, subst, ◌∙◌}
 use mathlib.Core.List.{List, [], ◌∷◌, map}
 use mathlib.Core.Bool.{Bool, true, false, ◌&&◌}
@@ -10,7 +11,7 @@ use lib.ListN.{length, take, drop, get_or, get_elem?, take-append-drop, drop_of_
 use borrow.Author.Tests.{leb-true, leb-false, le-leb, lt-leb}
 use types.Run.{OneOf}
 use denote.Enum.Declared.{tag_of}
-use Rattle.basics.specs.Base.{Bytes, case_option, if◌then◌else◌, same_bytes, all_of}
+use Rattle.basics.specs.Base.{Bytes, case_option, same_bytes, all_of}
 use Rattle.basics.specs.Field.{Field, fields_from, decode_fields}
 use Rattle.model.specs.Operation.{field_tags, makers, valid_value, op_of_fields, decode_payload}
 use Rattle.basic_laws.specs.Tests.{and_both, All, all_imp}

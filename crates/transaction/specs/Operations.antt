@@ -1,7 +1,7 @@
 -- What an `Operation` stands for, and what decoding answers.
-use Rattle.std.specs.Prelude.{◌≡◌, ℕ, ◌-◌, ◌≤◌, [], Bool, ◌&&◌, length, take, drop, leb}
+use Rattle.std.specs.Prelude.{◌≡◌, ℕ, ◌-◌, ◌≤◌, [], Bool, ◌&&◌, length, take, drop, leb, if◌then◌else◌}
 use Rattle.std.proofs.Math.Option.{Option, none, some}
-use Rattle.basics.specs.Base.{Bytes, if◌then◌else◌}
+use Rattle.basics.specs.Base.{Bytes}
 use Rattle.model.specs.Operation.{Op, write, delete, delete_all, create_collection, delete_collection, copy_collection, encode_payload, decode_payload}
 use Rattle.field.specs.Writing.{Writes}
 use Rattle.spans.specs.Spans.{name_of, Sound}

@@ -1,8 +1,8 @@
 -- Operations by the columns of the kinds' table.
-use Rattle.std.specs.Prelude.{◌≡◌, ℕ, zero, suc, ◌≤◌, List, [], ◌∷◌, map, ◌&&◌, length, take, drop}
+use Rattle.std.specs.Prelude.{◌≡◌, ℕ, zero, suc, ◌≤◌, List, [], ◌∷◌, map, ◌&&◌, length, take, drop, if◌then◌else◌}
 use Rattle.std.proofs.Math.Option.{Option, none, some}
 use Rattle.std.proofs.Math.ListN.{get_elem?}
-use Rattle.basics.specs.Base.{Bytes, case_option, if◌then◌else◌, same_bytes, all_of}
+use Rattle.basics.specs.Base.{Bytes, case_option, same_bytes, all_of}
 use Rattle.basics.specs.Field.{encode_field, decode_fields}
 use Rattle.model.specs.Operation.{Op, field_tags, kind, values, makers, valid_value}
 use Rattle.basic_laws.specs.Tests.{All}

@@ -1,6 +1,8 @@
 // The operations, of seven kinds, and their payload: transaction.rs; 01, How a store is handed over, "The payload stands in for rkyv".
-ghost use Rattle.std.specs.Prelude.{◌≡◌, List, [], ◌∷◌, ℕ, ◌≤◌, length, get_or, take};
-ghost use Rattle.basics.specs.Base.{if◌then◌else◌, same_bytes};
+#![tactic(auto)]
+
+ghost use Rattle.std.specs.Prelude.{◌≡◌, List, [], ◌∷◌, ℕ, ◌≤◌, length, get_or, take, if◌then◌else◌};
+ghost use Rattle.basics.specs.Base.{same_bytes};
 ghost use Rattle.model.specs.Operation.{field_tags, kind, is_mark, valid_value, encode_payload};
 ghost use Rattle.field.specs.Writing.{field};
 ghost use Rattle.spans.specs.Spans.{name_of, Sound, Decides};
@@ -11,7 +13,7 @@ use field::Read;
 use spans::NameRef;
 
 // A recorded operation. Its names are parts of the lent bytes.
-#[derive(Drop)]
+#[derive(Clone, Copy)]
 pub enum Operation {
     // Collection, key, staging name.
     Write(NameRef, NameRef, NameRef),
@@ -26,28 +28,28 @@ pub enum Operation {
     MarkedWrite(NameRef, NameRef, NameRef, bool),
 }
 
-#[derive(Drop)]
+#[derive(Clone, Copy)]
 pub enum Decoded {
     Is(Operation),
     Undecodable,
 }
 
 // A payload's bytes: those before `len`. Five fields have at most 3 + 64 bytes each.
-#[derive(Drop)]
+#[derive(Clone, Copy)]
 pub struct Payload {
     pub bytes: [u8; 335],
     pub len: usize,
 }
 
 // The values under a row's tags as parts of the bytes, where the fields fit the row.
-#[derive(Drop)]
+#[derive(Clone, Copy)]
 struct Values {
     fit: bool,
     parts: [NameRef; 5],
 }
 
 // A value to be written: a name, or one byte.
-#[derive(Drop)]
+#[derive(Clone, Copy)]
 enum Column {
     Name(NameRef),
     Byte(u8),

@@ -1,4 +1,5 @@
 -- The tests of `entry_at` and of `checked`, one by one.
+use Rattle.std.specs.Prelude.{if◌then◌else◌}
 use mathlib.Core.Path.{◌≡◌, refl, sym, ap, ◌∙◌}
 use mathlib.Core.List.{[]}
 use mathlib.Core.Bool.{Bool, true, false, ◌&&◌}
@@ -9,10 +10,10 @@ use lib.Dec.{leb, eqb}
 use lib.ListN.{length, take, drop, get_or, length-drop}
 use lib.Seq.{drop-drop}
 use borrow.Author.Tests.{eq-eqb, ne_eqb, le-leb, lt-leb}
-use Rattle.basics.specs.Base.{Bytes, if◌then◌else◌, same_bytes, at_least}
+use Rattle.basics.specs.Base.{Bytes, same_bytes, at_least}
 use Rattle.basics.specs.Crc32.{crc32}
 use Rattle.basics.specs.Field.{little_endian, from_little_endian}
-use Rattle.model.specs.Log.{Cause, headerShort, payloadMissing, checksumWrong, first_payload, first_cause}
+use Rattle.model.specs.Log.{Cause, header_short, payload_missing, checksum_wrong, first_payload, first_cause}
 use Rattle.basic_laws.specs.FieldLaws.{Byte}
 use Rattle.field.specs.Reading.{u32_at}
 use Rattle.field.proofs.Fields.{number-there}
@@ -49,7 +50,7 @@ module _ (log : Bytes) (at : ℕ) where
 
   -- What is missing of it, by the same tests.
   unfoldable missing : ℕ → Cause
-  missing n = if at_least 8 (drop at log) then (if leb 1 n && at_least n (drop (at + 8) log) then checksumWrong else payloadMissing) else headerShort
+  missing n = if at_least 8 (drop at log) then (if leb 1 n && at_least n (drop (at + 8) log) then checksum_wrong else payload_missing) else header_short
 
   truncated : (c : code.Cause) (n : ℕ) → n ≡ from_little_endian (take 4 (drop (at + 4) log)) → whole n ≡ false → cause_of c ≡ missing n → EntryAt log at (Truncated c)
   unfolding missing first_cause

@@ -44,7 +44,7 @@ module _ (l : Bytes) (at : ℕ) where
   walk_end k h = rw (drop_of_length-le l {i = at} h)
 
   module _ (h : at < length l) where
-    pub walk_more : walk 0 0 (drop at l) ≡ stop model.tooMany
+    pub walk_more : walk 0 0 (drop at l) ≡ stop model.too_many
     unfolding walk
     walk_more = rw (drop-cons l at 0 h)
 

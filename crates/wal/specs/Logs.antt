@@ -1,7 +1,7 @@
 -- What the answers about a log say of the model's log.
-use Rattle.std.specs.Prelude.{◌≡◌, ℕ, ◌+◌, ◌≤◌, ◌<◌, List, [], map, Bool, true, false, ◌&&◌, length, take, drop, leb}
+use Rattle.std.specs.Prelude.{◌≡◌, ℕ, ◌+◌, ◌≤◌, ◌<◌, List, [], map, Bool, true, false, ◌&&◌, length, take, drop, leb, if◌then◌else◌}
 use Rattle.std.proofs.Math.Option.{Option, none, some}
-use Rattle.basics.specs.Base.{Bytes, if◌then◌else◌}
+use Rattle.basics.specs.Base.{Bytes}
 use Rattle.basics.specs.Crc32.{crc32}
 use Rattle.model.specs.Operation.{Op}
 use Rattle.model.specs.Log.{Entries, Journal, absent, recording, committing, held, stop, first_payload, first_cause, entries}
@@ -44,9 +44,9 @@ Bounded log at (entry.Truncated c) = Unit {0}
 
 -- The causes, by the model's names.
 abbrev pub cause_of : Cause → model.Cause
-cause_of HeaderShort = model.headerShort
-cause_of PayloadMissing = model.payloadMissing
-cause_of ChecksumWrong = model.checksumWrong
+cause_of HeaderShort = model.header_short
+cause_of PayloadMissing = model.payload_missing
+cause_of ChecksumWrong = model.checksum_wrong
 
 -- An entry that is not whole says how it is broken.
 abbrev pub Told : Bytes → ℕ → Entry → Type 0
@@ -97,7 +97,7 @@ abbrev pub ending_of : Ending → model.Ending
 ending_of code.Whole = model.whole
 ending_of (code.Truncated c) = model.truncated (cause_of c)
 ending_of code.Undecodable = model.undecodable
-ending_of code.TooMany = model.tooMany
+ending_of code.TooMany = model.too_many
 
 -- The operations that were read: those before `len`.
 abbrev pub logged_of : Bytes → Logged → Op

@@ -1,4 +1,6 @@
 // The log: wal.rs. 01, How a store is handed over: the header and the entries; Corners, wal.rs.
+#![tactic(auto)]
+
 ghost use Rattle.std.specs.Prelude.{◌≡◌, [], ◌∷◌};
 ghost use Rattle.basics.specs.Crc32.{crc32};
 ghost use Rattle.model.specs.Operation.{encode_payload};
@@ -33,7 +35,7 @@ const WAL_FILE_HEADER_SIZE: usize = 8;
 const ENTRY_HEADER_SIZE: usize = 8;
 
 // A log's status (`WalStatus`); one without a valid header is as if absent.
-#[derive(Drop)]
+#[derive(Clone, Copy)]
 pub enum Status {
     Absent,
     Recording,
@@ -42,7 +44,7 @@ pub enum Status {
 }
 
 // How an entry is broken. 02, item 1: "1 entry header too short, 2 payload missing (length 0 or past the end), 3 checksum wrong."
-#[derive(Drop)]
+#[derive(Clone, Copy)]
 pub enum Cause {
     HeaderShort,
     PayloadMissing,
@@ -50,14 +52,14 @@ pub enum Cause {
 }
 
 // An entry: where its payload starts and ends; or how it is broken.
-#[derive(Drop)]
+#[derive(Clone, Copy)]
 pub enum Entry {
     Payload(usize, usize),
     Truncated(Cause),
 }
 
 // How the walk through the entries ended: at the log's end, at a truncated entry and how, at an undecodable payload (11), at a byte too many (12).
-#[derive(Drop)]
+#[derive(Clone, Copy)]
 pub enum Ending {
     Whole,
     Truncated(Cause),
@@ -66,34 +68,34 @@ pub enum Ending {
 }
 
 // The checksum of an entry's payload, where it was taken with that of the entry before.
-#[derive(Drop)]
+#[derive(Clone, Copy)]
 struct Ahead {
     known: bool,
     sum: u32,
 }
 
 // A payload's checksum, and that of the entry behind it.
-#[derive(Drop)]
+#[derive(Clone, Copy)]
 struct Sums {
     sum: u32,
     ahead: Ahead,
 }
 
 // An entry that is held to its checksum, and the checksum of the one behind it.
-#[derive(Drop)]
+#[derive(Clone, Copy)]
 struct Turn {
     entry: Entry,
     ahead: Ahead,
 }
 
 // An operation that was read.
-#[derive(Drop)]
+#[derive(Clone, Copy)]
 pub struct Logged {
     pub op: Operation,
 }
 
 // The operations of a log, those before `len`, and how the walk ended (`WalReadResult`).
-#[derive(Drop)]
+#[derive(Clone, Copy)]
 pub struct WalRead {
     pub ops: [Logged; basics::OPERATION_LIMIT],
     pub len: usize,
@@ -101,7 +103,7 @@ pub struct WalRead {
 }
 
 // How a log is written into an image: as it stands; as the header of a new one; with an operation's entry behind it.
-#[derive(Drop)]
+#[derive(Clone, Copy)]
 pub enum Tail {
     Nothing,
     Header,
@@ -207,7 +209,7 @@ pub fn entry_at(log: &[u8], at: usize) -> Entry
 }
 
 // The log walker: it borrows the log and remembers its next entry. 01, Forms that change shape: "The loop of `read_wal`".
-#[derive(Drop)]
+#[derive(Clone, Copy)]
 pub struct Walker<'a> {
     pub log: &'a [u8],
     pub at: usize,

@@ -1,0 +1,6 @@
+-- `encode::put_header` meets its contract.
+use Rattle.encode.proofs.Tails.{new-header}
+use Rattle.encode.proofs.put_header.Goals as goal
+
+pub returns : goal.returns
+returns c = new-header _ _ c.encode_header-h.ensures c.write_field.ensures

@@ -1,0 +1,6 @@
+-- `put_file` meets its contract.
+use Rattle.inventory.proofs.Names.{file-put}
+use Rattle.inventory.proofs.put_file.Goals as goal
+
+pub returns : goal.returns
+returns c = file-put _ _ _ c.put_if-p.ensures c.put_quoted-q.ensures c.put_u8.ensures c.put_number.ensures

@@ -1,0 +1,6 @@
+-- `discarded` meets its contract.
+use Rattle.local_storage.proofs.Ends.{all-gone}
+use Rattle.local_storage.proofs.discarded.Goals as goal
+
+pub returns : goal.returns
+returns c = λ src tree staging. all-gone

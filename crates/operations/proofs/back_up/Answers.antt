@@ -1,0 +1,18 @@
+-- `back_up`: a backup name of over 64 bytes is no step that could be made.
+use mathlib.Core.Path.{sym, ◌∙◌}
+use Rattle.basic_laws.specs.ValidNames.{backup-named}
+use Rattle.steps.specs.Steps.{step_of}
+use Rattle.steps.proofs.FileNames.{file-name}
+use Rattle.operations.proofs.Careful.{refused, long-file}
+use Rattle.operations.proofs.back_up.Goals as goal
+
+pub attempt-requires : goal.attempt-requires
+unfolding step_of
+attempt-requires c = let q = (rw c.in-Is.is at c.backup-b.ensures) in (c.requires.0, record { names = (c.requires.1.0, (c.requires.1.1, file-name q.sound (λ e. backup-named _ (sym q.same ∙ e)))) })
+
+pub returns-in-Is : goal.returns-in-Is
+unfolding step_of
+returns-in-Is c = rw (rw c.in-Is.is at c.backup-b.ensures).same at c.attempt.ensures
+
+pub returns-in-TooLong : goal.returns-in-TooLong
+returns-in-TooLong c = refused c.requires.0 (c.refuse.ensures _ c.args.tree.now c.args.staging.now) _ (long-file _ _ _ _ (rw c.in-TooLong.is at c.backup-b.ensures))

@@ -1,0 +1,22 @@
+-- `restore_directory`: by the directory's name.
+use Rattle.steps.specs.Steps.{step_of}
+use Rattle.recovery.proofs.Follow.{lawful, follows_as, follows_then, rests}
+use Rattle.recovery.proofs.Picks.{restores-dir, restores-files}
+use Rattle.recovery.proofs.restore_directory.Goals as goal
+
+pub returns-then-run : goal.returns-then-run
+returns-then-run c = rests c.if-run.true c.requires.0
+
+pub clear_dir-cleared-requires : goal.clear_dir-cleared-requires
+clear_dir-cleared-requires c = (c.requires.0, (rw c.in-Is.is at c.original-o.ensures).0)
+
+pub advance-requires : goal.advance-requires
+unfolding step_of
+advance-requires c = let o = rw c.in-Is.is at c.original-o.ensures in ((c.clear_dir-cleared.ensures.sound, record { names = (c.requires.1, o.0) }), tt)
+
+pub returns-in-Is : goal.returns-in-Is
+unfolding step_of
+returns-in-Is c = follows_as lawful (follows_then lawful c.clear_dir-cleared.ensures c.advance.ensures) (restores-dir _ _ _ (rw c.in-Is.is at c.original-o.ensures).1)
+
+pub returns-in-NotABackup : goal.returns-in-NotABackup
+returns-in-NotABackup c = follows_as lawful c.restore_bak_files_in_dir.ensures (restores-files _ _ (rw c.in-NotABackup.is at c.original-o.ensures))

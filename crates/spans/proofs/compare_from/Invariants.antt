@@ -1,0 +1,13 @@
+-- `compare_from` walks both names from a place on. The invariant: what is left decides.
+use lib.ListN.{drop}
+use Prim.Native.Nat.{◌-◌}
+use Rattle.basics.specs.Order.{cmp_name}
+use Rattle.spans.specs.Spans.{name_of}
+use Rattle.spans.proofs.Walk.{Walk}
+use Rattle.spans.proofs.compare_from.Given as goal
+
+abbrev pub invariant-loop-i : goal.invariant-loop-i
+invariant-loop-i l = Walk l.src l.a l.b (cmp_name (drop l.at (name_of l.src l.a)) (drop l.at (name_of l.src l.b))) l.i
+
+abbrev pub decreases-loop-i : goal.decreases-loop-i
+decreases-loop-i l = l.n - l.i

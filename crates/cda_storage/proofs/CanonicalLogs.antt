@@ -1,7 +1,7 @@
 -- The one way to write a log that is lent alone, by what was read of it and what was written.
 use mathlib.Core.Path.{◌≡◌, refl, sym, ap, subst, ◌∙◌}
 use mathlib.Core.Bool.{true, false}
-use mathlib.Core.List.{[], ◌++◌}
+use mathlib.Core.List.{[]}
 use Prim.Native.Nat.{ℕ, ◌-◌, ◌≤◌, ◌<◌}
 use native.Mathlib.Omega.{arith}
 use lib.ListN.{length, take, drop, get_or, length-drop}
@@ -10,8 +10,8 @@ use borrow.Author.Tests.{le-leb, lt-leb}
 use Rattle.basics.specs.Limits.{log_limit}
 use Rattle.basics.specs.Base.{Bytes}
 use Rattle.basics.specs.Field.{little_endian}
-use Rattle.model.specs.Log.{Ending, whole, truncated, undecodable, tooMany, header, valid_header, entries, with_status, write_log}
-use Rattle.answers.specs.Answers.{Answer, refusal, overwritten, whole_number, canonical_by, canonical_log}
+use Rattle.model.specs.Log.{Ending, whole, truncated, undecodable, too_many, header, valid_header, entries, with_status, write_log}
+use Rattle.answers.specs.Answers.{Answer, overwritten, whole_number, canonical_by, canonical_log}
 use Rattle.basic_laws.specs.Tests.{All}
 use Rattle.basic_laws.specs.FieldLaws.{Byte}
 use Rattle.laws.specs.CanonicalLaws.{write_same}
@@ -69,7 +69,7 @@ module _ (l out : Bytes) where
               go whole q = absurd (z q)
               go (truncated c) q = left_alone (rw q) (rw q)
               go undecodable q = left_alone (rw q) (rw q)
-              go tooMany q = left_alone (rw q) (rw q)
+              go too_many q = left_alone (rw q) (rw q)
 
           ended-whole : number ≡ 0 → (entries l).end ≡ whole
           ended-whole z = go (entries l).end by-ending
@@ -78,7 +78,7 @@ module _ (l out : Bytes) where
               go whole q = refl
               go (truncated c) q = absurd (omega (arith, z, q))
               go undecodable q = absurd (omega (arith, z, q))
-              go tooMany q = absurd (omega (arith, z, q))
+              go too_many q = absurd (omega (arith, z, q))
 
           pub put_whole : All Byte l → number ≡ 0 → {out' : Bytes} {written : ℕ} → out' ≡ overwritten (with_status (get_or l 1 0) l) out
               → Gives (canonical_log l (length out)) 0 out out' written (length l)

@@ -1,4 +1,5 @@
 -- The key list of an image, by what `list_keys` wrote.
+use Rattle.std.specs.Prelude.{if◌then◌else◌}
 use mathlib.Core.Path.{◌≡◌, refl, sym, ap, subst, ◌∙◌}
 use mathlib.Core.Bool.{Bool, true, false}
 use mathlib.Core.List.{[]}
@@ -9,7 +10,7 @@ use lib.Dec.{leb}
 use borrow.Author.Tests.{leb-true}
 use Rattle.basics.specs.Limits.{keys_room}
 use Rattle.basics.specs.Order.{Name}
-use Rattle.basics.specs.Base.{Bytes, if◌then◌else◌}
+use Rattle.basics.specs.Base.{Bytes}
 use Rattle.basics.specs.Name.{valid_name}
 use Rattle.model.specs.Store as model
 use Rattle.model.specs.Record.{key_list}

@@ -1,15 +1,16 @@
 -- A log that is lent alone, by what `open_wal` and `read_wal` answered.
+use Rattle.std.specs.Prelude.{if◌then◌else◌}
 use mathlib.Core.Path.{◌≡◌, refl, sym, ap, ◌∙◌}
 use mathlib.Core.Bool.{Bool, true, false}
 use Prim.Native.Nat.{ℕ, zero, suc, ◌-◌, ◌≤◌, ◌<◌}
 use native.Mathlib.Omega.{arith}
-use lib.ListN.{length, take, drop, get_or}
+use lib.ListN.{length, take, get_or}
 use lib.Seq.{take-length}
-use lib.Dec.{leb, eqb}
+use lib.Dec.{eqb}
 use borrow.Author.Tests.{le-leb, lt-leb}
 use Rattle.basics.specs.Limits.{log_limit}
-use Rattle.basics.specs.Base.{Bytes, if◌then◌else◌}
-use Rattle.model.specs.Log.{Journal, absent, recording, committing, held, by_status, read_journal, valid_header, Entries, Ending, entries, ending_cause}
+use Rattle.basics.specs.Base.{Bytes}
+use Rattle.model.specs.Log.{Journal, absent, recording, committing, held, by_status, read_journal, valid_header, Entries, entries, ending_cause}
 use Rattle.answers.specs.Answers.{reading_number, log_cause}
 use Rattle.transaction.specs.Operations.{Bounds}
 use Rattle.wal.specs.Logs.{journal_of, ending_of, ReadsLog}

@@ -1,8 +1,9 @@
 -- The pending work, by what `has_pending_work` answered.
+use Rattle.std.specs.Prelude.{if◌then◌else◌}
 use mathlib.Core.Path.{◌≡◌, refl, ◌∙◌}
 use mathlib.Core.Bool.{Bool, true}
 use Prim.Native.Nat.{ℕ}
-use Rattle.basics.specs.Base.{Bytes, if◌then◌else◌}
+use Rattle.basics.specs.Base.{Bytes}
 use Rattle.model.specs.Store.{has_pending_work}
 use Rattle.answers.specs.Answers.{pending}
 use Rattle.store.specs.Words.{Words}

@@ -10,8 +10,8 @@ use Rattle.model.specs.Operation.{Write}
 use Rattle.model.specs.Store.{Store}
 use Rattle.answers.specs.Answers.{Answer, answer, recover, recover_step}
 use Rattle.cut_rule.specs.Demand.{TrulyMarked, Either, cut_at, cut_recoveries, InPlans, expected_files, settled}
-use Rattle.cut_rule.specs.Theorem.{marked_rule, failing_rule}
-use Rattle.cut_rule.specs.Again.{again_rule, either, done-not_4}
+use Rattle.cut_rule.proofs.Theorem.{marked_rule, failing_rule}
+use Rattle.cut_rule.proofs.Again.{again_rule, either, done-not_4}
 use Rattle.cda_storage.specs.Calls.{RecoverCall, CommitStepCall, RecoverStepCall, handed_back, image_at, step-image, recover-step-roomy, step-done}
 use Rattle.cda_storage.specs.CutRule.{Transaction, FailingTransaction, RecoversTo, done-not_2, failed-not_2, conditions, cut-image}
 use Rattle.cda_storage.specs.CutRule.{recovers-to, marked_rule_of-entries}

@@ -4,11 +4,11 @@
 use Rattle.std.specs.Prelude.{◌≡◌, refl, [], ◌∷◌, ℕ, ◌≤◌, length, take, drop, get_or}
 use Rattle.std.proofs.Common.{sym, ap, ◌∙◌}
 use Rattle.basics.specs.Base.{Bytes}
-use Rattle.model.specs.Log.{valid_header, Entries, entries}
+use Rattle.model.specs.Log.{entries}
 use Rattle.answers.specs.Answers.{Answer, canonical_log}
 use Rattle.basic_laws.specs.Tests.{All}
 use Rattle.basic_laws.specs.FieldLaws.{Byte}
-use Rattle.answer_laws.specs.CanonicalLog.{same-header, same_status, same_operations, zeros, same_length, again, equal-written, equal-read}
+use Rattle.answer_laws.specs.CanonicalLog.{same_status, same_operations, zeros, again, equal-written, equal-read}
 use Rattle.handover.specs.Contract.{hands_back}
 use Rattle.cda_storage.specs.Calls.{Call, handed_back, handed}
 

@@ -14,7 +14,7 @@ use Rattle.model.specs.Image.{encode, decode}
 use Rattle.model.specs.Step.{step_field}
 use Rattle.answers.specs.Answers.{Answer, answer, recover}
 use Rattle.cut_rule.specs.Demand.{NoExtension, Distinct, Meets, Renamed, NoneWaits, TrueMarks, Unmarked, TrulyMarked, backup_rename, cut_at, expected_files, settled}
-use Rattle.cut_rule.specs.Theorem.{cut_rule, demand_3, marked_rule, failing-commit, failing_rule}
+use Rattle.cut_rule.proofs.Theorem.{cut_rule, demand_3, marked_rule, failing-commit, failing_rule}
 use Rattle.handover.specs.Contract.{hands_back}
 use Rattle.cda_storage.specs.Calls.{CommitCall, RecoverCall, CommitStepCall, handed_back, image_at, field_at, handed, commit-roomy}
 use Rattle.cda_storage.specs.Calls.{step-image, step_field_lem, zero-not_2, step-roomy, step-done}

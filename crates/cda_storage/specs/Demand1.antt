@@ -1,6 +1,6 @@
 -- Demand 1 over calls of the exported entries, in one statement: whatever a call is lent, it answers with one of the numbers named here, and after a
 -- refusal every lent buffer and counter is as it was. 0, and 14 and 15, which commit and hold alone give, hand back the image that the contract says.
-use Rattle.std.specs.Prelude.{◌≡◌, Bool, true, false, List, [], ◌∷◌, ℕ, length, eqb}
+use Rattle.std.specs.Prelude.{◌≡◌, true, false, List, [], ◌∷◌, ℕ, length, eqb}
 use Rattle.std.proofs.Common.{sym, ap, subst, ◌∙◌}
 use Rattle.basics.specs.Order.{Name}
 use Rattle.basics.specs.Base.{Bytes, In}

@@ -3,13 +3,13 @@
 -- small reader of JSON of crate answer_laws (InventoryReader). So a reader can trust the text, whatever the names are.
 use Rattle.std.specs.Prelude.{◌≡◌, refl, Bool, true, false, ℕ, ◌≤◌, ◌<◌, length, leb}
 use Rattle.std.proofs.Common.{ap, ◌∙◌, arith, le-leb}
-use Rattle.std.proofs.Math.Option.{Option, some}
+use Rattle.std.proofs.Math.Option.{some}
 use Rattle.std.proofs.lemmas.Bool.{lt-leb}
 use Rattle.basics.specs.Base.{Bytes}
 use Rattle.model.specs.Store.{Store}
 use Rattle.model.specs.Image.{decode}
 use Rattle.answers.specs.Answers.{Answer}
-use Rattle.answers.specs.Inventory.{Collection, collections, inventory_text, in_room, inventory}
+use Rattle.answers.specs.Inventory.{collections, inventory_text, in_room, inventory}
 use Rattle.answer_laws.specs.InventoryReader.{read_inventory, inventory-read}
 use Rattle.answer_laws.specs.InventoryRoom.{inventory_room, inventory-length}
 use Rattle.cda_storage.specs.Calls.{Call, handed_back, handed}

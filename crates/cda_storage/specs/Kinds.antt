@@ -1,9 +1,9 @@
 -- The cut rule for operations of every kind, over calls of the exported entries: beyond document 02. Words are those of crate cut_rule, Demand.antt and
 -- Kinds.antt; a call is what its contract says (Calls.antt).
-use Rattle.std.specs.Prelude.{◌≡◌, refl, List, [], ◌∷◌, Bool, true, ◌⊎◌, ℕ, length, leb}
+use Rattle.std.specs.Prelude.{◌≡◌, refl, List, [], ◌∷◌, true, ◌⊎◌, ℕ, length, leb, if◌then◌else◌}
 use Rattle.std.proofs.Common.{sym, ap, subst, ◌∙◌, inl, inr, arith}
 use Rattle.basics.specs.Limits.{image_room, step_room}
-use Rattle.basics.specs.Base.{Bytes, if◌then◌else◌}
+use Rattle.basics.specs.Base.{Bytes}
 use Rattle.basics.specs.Field.{has_tag}
 use Rattle.model.specs.Operation.{Op}
 use Rattle.model.specs.Store.{Store}
@@ -11,10 +11,10 @@ use Rattle.model.specs.Image.{encode}
 use Rattle.answers.specs.Answers.{Answer, begin, write, delete, delete_all, create_collection, delete_collection, copy_collection, commit, recover, recover_step}
 use Rattle.cut_rule.specs.Demand.{settled, cut_at, cut_recoveries, InPlans}
 use Rattle.cut_rule.specs.Kinds.{Suits, AllTrue, Marked, CutGives}
-use Rattle.cut_rule.specs.KindsRule.{kinds_rule, kinds_failing}
-use Rattle.cut_rule.specs.Again.{kinds_again}
-use Rattle.cut_rule.specs.RecordedKinds as Recorded
-use Rattle.cut_rule.specs.RecordedKinds.{call_of, writes, deletes, deletes_all, creates, deletes_collection, copies, recorded_by, AllAnswered, recorded-true, recorded_marked}
+use Rattle.cut_rule.proofs.KindsRule.{kinds_rule, kinds_failing}
+use Rattle.cut_rule.proofs.Again.{kinds_again}
+use Rattle.cut_rule.proofs.RecordedKinds as Recorded
+use Rattle.cut_rule.proofs.RecordedKinds.{call_of, writes, deletes, deletes_all, creates, deletes_collection, copies, recorded_by, AllAnswered, recorded-true, recorded_marked}
 use Rattle.handover.specs.Contract.{hands_back}
 use Rattle.cda_storage.specs.Calls.{Call, CommitCall, CommitStepCall, RecoverStepCall, handed_back, image_at, handed, enough, commit-roomy, step-image}
 use Rattle.cda_storage.specs.Calls.{recover-step-roomy, step-done, zero-not_2}

@@ -1,19 +1,19 @@
 -- Demand 1 over calls of the exported entries: every call is answered with 0 or one of the numbers named here, whatever it was lent, and after a
 -- refusal every lent buffer is as it was; 14 and 15, given by commit alone, hand back the rolled_back image.
-use Rattle.std.specs.Prelude.{◌≡◌, refl, Bool, true, false, List, [], ◌∷◌, ℕ, length, leb}
+use Rattle.std.specs.Prelude.{◌≡◌, refl, Bool, true, false, List, [], ◌∷◌, ℕ, length, leb, if◌then◌else◌}
 use Rattle.std.proofs.Common.{sym, ap, subst, ◌∙◌, inl, inr}
 use Rattle.std.proofs.lemmas.Bool.{false≢true}
 use Rattle.std.proofs.Math.Option.{Option, none, some}
 use Rattle.basics.specs.Limits.{image_room, log_limit}
 use Rattle.basics.specs.Order.{Name}
-use Rattle.basics.specs.Base.{Bytes, case_option, if◌then◌else◌, In}
+use Rattle.basics.specs.Base.{Bytes, case_option, In}
 use Rattle.model.specs.Log.{Journal, absent, recording, committing, held, journal, valid_header, entries}
-use Rattle.model.specs.Log.{Ending, whole, truncated, undecodable, tooMany, headerShort, payloadMissing, checksumWrong, ending_cause}
+use Rattle.model.specs.Log.{Ending, whole, truncated, undecodable, too_many, header_short, payload_missing, checksum_wrong, ending_cause}
 use Rattle.model.specs.Store.{Store, has_pending_work}
 use Rattle.model.specs.Image.{decode}
 use Rattle.model.specs.Step.{Fault, fails, full, commit_number}
 use Rattle.model.specs.Plan.{commit_fault, unheld, discarded_cause}
-use Rattle.answers.specs.Answers.{Answer, Pending, Broke, refusal, answer, outcome, reading_number}
+use Rattle.answers.specs.Answers.{Answer, Pending, Broke, refusal, outcome, reading_number}
 use Rattle.answers.specs.Answers.{begin, write, delete, delete_keys, delete_all, create_collection, delete_collection, copy_collection, rollback, pending, list_keys, find_backup, log_cause, canonical_log}
 use Rattle.answers.specs.Answers.{commit, commit_step, hold, hold_step, keep, keep_step, recover, recover_cause, recover_step, revert, revert_cause, revert_step}
 use Rattle.answers.specs.Inventory.{inventory}
@@ -184,11 +184,11 @@ pub record Told (l : List ℕ) (a : Broke) : Type 0 where
 
 ending-causes : (e : Ending) → In {A = ℕ} (ending_cause e) causes
 ending-causes whole = inl refl
-ending-causes (truncated headerShort) = inr (inl refl)
-ending-causes (truncated payloadMissing) = inr (inr (inl refl))
-ending-causes (truncated checksumWrong) = inr (inr (inr (inl refl)))
+ending-causes (truncated header_short) = inr (inl refl)
+ending-causes (truncated payload_missing) = inr (inr (inl refl))
+ending-causes (truncated checksum_wrong) = inr (inr (inr (inl refl)))
 ending-causes undecodable = inl refl
-ending-causes tooMany = inl refl
+ending-causes too_many = inl refl
 
 by-journal : (j : Journal) → In {A = ℕ} (discarded_cause j) causes
 by-journal absent = inl refl
@@ -217,7 +217,7 @@ log-cause_tells l = go (leb (length l) log_limit) (valid_header l) (entries l).e
     reading whole = inl refl
     reading (truncated c) = inl refl
     reading undecodable = inr (inr (inl refl))
-    reading tooMany = inr (inr (inr (inl refl)))
+    reading too_many = inr (inr (inr (inl refl)))
 
     go : (a b : Bool) (e : Ending) → Told (0 ∷ 1 ∷ 11 ∷ 12 ∷ 21 ∷ [])
         (if a then (if b then record { number = reading_number e; cause = ending_cause e } else record { number = 21; cause = 0 }) else record { number = 1; cause = 0 })

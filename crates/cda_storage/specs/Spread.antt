@@ -1,9 +1,9 @@
 -- One altered file does not spread, over calls of the exported entries: item 14 of document 02. Words and quotes are those of crate answer_laws,
 -- Spread.antt; a call is what its contract says (Calls.antt).
-use Rattle.std.specs.Prelude.{◌≡◌, eqb, ℕ, length}
+use Rattle.std.specs.Prelude.{◌≡◌, eqb, ℕ, length, if◌then◌else◌}
 use Rattle.std.proofs.Common.{sym, ap, ◌∙◌}
 use Rattle.std.proofs.Math.Option.{some}
-use Rattle.basics.specs.Base.{Bytes, if◌then◌else◌}
+use Rattle.basics.specs.Base.{Bytes}
 use Rattle.model.specs.Store.{Store}
 use Rattle.model.specs.Image.{encode, decode}
 use Rattle.answers.specs.Answers.{Answer, Broke, recover, recover_cause, revert, revert_cause, keep}

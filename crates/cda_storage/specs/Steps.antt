@@ -1,14 +1,14 @@
 -- The step count over calls of the exported step entry: item 13 of document 02. Words are those of crate cut_rule, Demand.antt; a call is what its contract
 -- says (Calls.antt).
-use Rattle.std.specs.Prelude.{◌≡◌, List, ℕ, leb}
+use Rattle.std.specs.Prelude.{◌≡◌, List, ℕ, leb, if◌then◌else◌}
 use Rattle.std.proofs.Common.{sym, ap, ◌∙◌}
 use Rattle.basics.specs.Order.{Name}
-use Rattle.basics.specs.Base.{Bytes, if◌then◌else◌}
+use Rattle.basics.specs.Base.{Bytes}
 use Rattle.model.specs.Operation.{Write}
 use Rattle.model.specs.Store.{Store}
 use Rattle.answers.specs.Answers.{Answer}
 use Rattle.cut_rule.specs.Demand.{TrueMarks, ListedOnce, step_count}
-use Rattle.cut_rule.specs.Count.{step-count-at}
+use Rattle.cut_rule.proofs.Count.{step-count-at}
 use Rattle.cda_storage.specs.Calls.{CommitStepCall, step-roomy}
 use Rattle.cda_storage.specs.CutRule.{Transaction, done-not_2, conditions}
 

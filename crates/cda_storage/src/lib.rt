@@ -1,8 +1,10 @@
 // The exported entries: bytes in, a number and bytes out. The contract of each cites crate answers and nothing else: `Returns`,
 // `StepReturns`, `PendingReturns` and `CauseReturns` (crate handover, specs/Contract.antt) say what is in the lent outputs after a call; `lent` is
 // what was lent for a parameter, `room` its length. Entries that record go through crate recording, those that run a plan through crate running.
-ghost use Rattle.std.specs.Prelude.{◌≡◌};
-ghost use Rattle.basics.specs.Base.{if◌then◌else◌};
+// Crate cda_storage_c exports each for C under the same contract.
+#![tactic(auto)]
+
+ghost use Rattle.std.specs.Prelude.{◌≡◌, if◌then◌else◌};
 ghost use Rattle.answers.specs.Answers as answers;
 ghost use Rattle.answers.specs.Answers.{begin, write, delete, delete_keys, delete_all, create_collection, delete_collection, copy_collection, rollback};
 ghost use Rattle.answers.specs.Answers.{commit, commit_step, hold, hold_step, keep, keep_step, recover, recover_cause, recover_step, revert, revert_cause, revert_step};
@@ -24,16 +26,14 @@ fn yes_or_no(b: bool) -> u32
 }
 
 // Opens a transaction. Refusals: 1, 2, 3, 17.
-#[unsafe(no_mangle)]
-pub extern "C" fn cda_storage_begin(image: &[u8], out: &mut [u8], written: &mut usize) -> u32
+pub fn cda_storage_begin(image: &[u8], out: &mut [u8], written: &mut usize) -> u32
     ensures { Returns (begin (lent image) (room out)) result out written }
 {
     recording::ask_unnamed(Asked::Begin, image, out, written)
 }
 
 // Records a Write of the caller's staging file and number. Refusals: 1, 2, 4, 5, 6, 10.
-#[unsafe(no_mangle)]
-pub extern "C" fn cda_storage_write(
+pub fn cda_storage_write(
     image: &[u8],
     collection: &[u8],
     key: &[u8],
@@ -56,8 +56,7 @@ pub extern "C" fn cda_storage_write(
 }
 
 // Records a Delete, after the case rename. Refusals: 1, 2, 4, 5, 6, 8.
-#[unsafe(no_mangle)]
-pub extern "C" fn cda_storage_delete(
+pub fn cda_storage_delete(
     image: &[u8],
     collection: &[u8],
     key: &[u8],
@@ -70,8 +69,7 @@ pub extern "C" fn cda_storage_delete(
 }
 
 // Records a Delete of each key of a set, all or none; the keys are 1 to 32 fields 0x03. Refusals: 1, 2, 4; 6 for bytes that are no such keys; 5, 6, 8.
-#[unsafe(no_mangle)]
-pub extern "C" fn cda_storage_delete_keys(
+pub fn cda_storage_delete_keys(
     image: &[u8],
     collection: &[u8],
     keys: &[u8],
@@ -84,8 +82,7 @@ pub extern "C" fn cda_storage_delete_keys(
 }
 
 // Records a DeleteAll. Refusals: 1, 2, 4, 5, 6.
-#[unsafe(no_mangle)]
-pub extern "C" fn cda_storage_delete_all(
+pub fn cda_storage_delete_all(
     image: &[u8],
     collection: &[u8],
     out: &mut [u8],
@@ -97,8 +94,7 @@ pub extern "C" fn cda_storage_delete_all(
 }
 
 // Records a CreateCollection. Refusals: 1, 2, 4, 5, 6, 9.
-#[unsafe(no_mangle)]
-pub extern "C" fn cda_storage_create_collection(
+pub fn cda_storage_create_collection(
     image: &[u8],
     name: &[u8],
     out: &mut [u8],
@@ -110,8 +106,7 @@ pub extern "C" fn cda_storage_create_collection(
 }
 
 // Records a DeleteCollection. Refusals: 1, 2, 4, 5, 6, 7.
-#[unsafe(no_mangle)]
-pub extern "C" fn cda_storage_delete_collection(
+pub fn cda_storage_delete_collection(
     image: &[u8],
     name: &[u8],
     out: &mut [u8],
@@ -123,8 +118,7 @@ pub extern "C" fn cda_storage_delete_collection(
 }
 
 // Records a CopyCollection. Refusals: 1, 2, 4, 5, 6, 7, and 6 again for the destination.
-#[unsafe(no_mangle)]
-pub extern "C" fn cda_storage_copy_collection(
+pub fn cda_storage_copy_collection(
     image: &[u8],
     source: &[u8],
     dest: &[u8],
@@ -145,16 +139,14 @@ pub extern "C" fn cda_storage_copy_collection(
 }
 
 // Discards the transaction. Refusals: 1, 2, 4.
-#[unsafe(no_mangle)]
-pub extern "C" fn cda_storage_rollback(image: &[u8], out: &mut [u8], written: &mut usize) -> u32
+pub fn cda_storage_rollback(image: &[u8], out: &mut [u8], written: &mut usize) -> u32
     ensures { Returns (rollback (lent image) (room out)) result out written }
 {
     recording::ask_unnamed(Asked::Rollback, image, out, written)
 }
 
 // Commits the transaction. Refusals: 1, 2, 4; 14 and 15 hand back the rolled-back image.
-#[unsafe(no_mangle)]
-pub extern "C" fn cda_storage_commit(image: &[u8], out: &mut [u8], written: &mut usize) -> u32
+pub fn cda_storage_commit(image: &[u8], out: &mut [u8], written: &mut usize) -> u32
     ensures { Returns (commit (lent image) (room out)) result out written }
 {
     let mut cause = 0u32;
@@ -162,8 +154,7 @@ pub extern "C" fn cda_storage_commit(image: &[u8], out: &mut [u8], written: &mut
 }
 
 // The image after n steps of the commit, and the field of step n. Refusals: 1, 2, 4, 16.
-#[unsafe(no_mangle)]
-pub extern "C" fn cda_storage_commit_step(
+pub fn cda_storage_commit_step(
     image: &[u8],
     n: u64,
     out: &mut [u8],
@@ -177,8 +168,7 @@ pub extern "C" fn cda_storage_commit_step(
 }
 
 // Commits and holds: log and backups stay until it is kept or reverted. Refusals: 1, 2, 4; 14 and 15 also hand back the rolled-back image.
-#[unsafe(no_mangle)]
-pub extern "C" fn cda_storage_hold(image: &[u8], out: &mut [u8], written: &mut usize) -> u32
+pub fn cda_storage_hold(image: &[u8], out: &mut [u8], written: &mut usize) -> u32
     ensures { Returns (hold (lent image) (room out)) result out written }
 {
     let mut cause = 0u32;
@@ -186,8 +176,7 @@ pub extern "C" fn cda_storage_hold(image: &[u8], out: &mut [u8], written: &mut u
 }
 
 // The image after n steps of the held commit, and the field of step n. Refusals: 1, 2, 4, 16.
-#[unsafe(no_mangle)]
-pub extern "C" fn cda_storage_hold_step(
+pub fn cda_storage_hold_step(
     image: &[u8],
     n: u64,
     out: &mut [u8],
@@ -201,8 +190,7 @@ pub extern "C" fn cda_storage_hold_step(
 }
 
 // Whether recovery has work to do: `pending` is 1 for yes, 0 for no. Refusal: 1.
-#[unsafe(no_mangle)]
-pub extern "C" fn cda_storage_has_pending_work(image: &[u8], pending: &mut u32) -> u32
+pub fn cda_storage_has_pending_work(image: &[u8], pending: &mut u32) -> u32
     ensures { PendingReturns (answers.pending (lent image)) result pending }
 {
     let mut tree = [[0u32; 3]; store::ROOM];
@@ -217,8 +205,7 @@ pub extern "C" fn cda_storage_has_pending_work(image: &[u8], pending: &mut u32) 
 }
 
 // Recovers the store; where it discards a truncated Committing log, `cause` says how that broke, else it is 0. Refusals: 1, 2, 11, 12, 13.
-#[unsafe(no_mangle)]
-pub extern "C" fn cda_storage_recover(
+pub fn cda_storage_recover(
     image: &[u8],
     out: &mut [u8],
     written: &mut usize,
@@ -230,8 +217,7 @@ pub extern "C" fn cda_storage_recover(
 }
 
 // The image after n steps of the recovery, and the field of step n. Refusals: 1, 2, 11, 12, 13, 16.
-#[unsafe(no_mangle)]
-pub extern "C" fn cda_storage_recover_step(
+pub fn cda_storage_recover_step(
     image: &[u8],
     n: u64,
     out: &mut [u8],
@@ -245,8 +231,7 @@ pub extern "C" fn cda_storage_recover_step(
 }
 
 // Keeps a held commit: the log goes, then every backup. Refusals: 1, 2, 18.
-#[unsafe(no_mangle)]
-pub extern "C" fn cda_storage_keep(image: &[u8], out: &mut [u8], written: &mut usize) -> u32
+pub fn cda_storage_keep(image: &[u8], out: &mut [u8], written: &mut usize) -> u32
     ensures { Returns (keep (lent image) (room out)) result out written }
 {
     let mut cause = 0u32;
@@ -254,8 +239,7 @@ pub extern "C" fn cda_storage_keep(image: &[u8], out: &mut [u8], written: &mut u
 }
 
 // The image after n steps of keep, and the field of step n; at n = 0 whether a Held log stands. Refusals: 1, 2, 18, 16.
-#[unsafe(no_mangle)]
-pub extern "C" fn cda_storage_keep_step(
+pub fn cda_storage_keep_step(
     image: &[u8],
     n: u64,
     out: &mut [u8],
@@ -269,21 +253,14 @@ pub extern "C" fn cda_storage_keep_step(
 }
 
 // Reverts a held commit; `cause` as `cda_storage_recover` says it of a Committing log. Refusals: 1, 2, 18, 11, 12, 13.
-#[unsafe(no_mangle)]
-pub extern "C" fn cda_storage_revert(
-    image: &[u8],
-    out: &mut [u8],
-    written: &mut usize,
-    cause: &mut u32,
-) -> u32
+pub fn cda_storage_revert(image: &[u8], out: &mut [u8], written: &mut usize, cause: &mut u32) -> u32
     ensures { Returns (revert (lent image) (room out)) result out written × CauseReturns (revert_cause (lent image) (room out)) result cause }
 {
     running::run_whole(Planned::Revert, image, out, written, cause)
 }
 
 // The image after n steps of revert, and the field of step n. Refusals: 1, 2, 18, 11, 12, 13, 16.
-#[unsafe(no_mangle)]
-pub extern "C" fn cda_storage_revert_step(
+pub fn cda_storage_revert_step(
     image: &[u8],
     n: u64,
     out: &mut [u8],
@@ -297,8 +274,7 @@ pub extern "C" fn cda_storage_revert_step(
 }
 
 // The keys of a collection, as 0x03 fields. Refusals: 1, 2, 6.
-#[unsafe(no_mangle)]
-pub extern "C" fn cda_storage_list_keys(
+pub fn cda_storage_list_keys(
     image: &[u8],
     collection: &[u8],
     out: &mut [u8],
@@ -310,8 +286,7 @@ pub extern "C" fn cda_storage_list_keys(
 }
 
 // The backup that the search meets first, as fields: 0x10 and 0x11 for a file, 0x10 for a directory, none for no backup. Refusals: 1, 2.
-#[unsafe(no_mangle)]
-pub extern "C" fn cda_storage_find_backup(image: &[u8], out: &mut [u8], written: &mut usize) -> u32
+pub fn cda_storage_find_backup(image: &[u8], out: &mut [u8], written: &mut usize) -> u32
     ensures { Returns (find_backup (lent image) (room out)) result out written }
 {
     let mut tree = [[0u32; 3]; store::ROOM];
@@ -332,24 +307,21 @@ pub extern "C" fn cda_storage_find_backup(image: &[u8], out: &mut [u8], written:
 }
 
 // How a log broke: 1 entry header too short, 2 payload missing, 3 checksum wrong, 0 for a log that is whole. Refusals: 1, 11, 12, 21.
-#[unsafe(no_mangle)]
-pub extern "C" fn cda_storage_log_cause(log: &[u8], cause: &mut u32) -> u32
+pub fn cda_storage_log_cause(log: &[u8], cause: &mut u32) -> u32
     ensures { CauseReturns (log_cause (lent log)) result cause }
 {
     logs::cause_of(log, cause)
 }
 
 // The log with the same status and operations and zeros in bytes 2 and 3. Refusals: 1, 2, which here means an output shorter than the log, 21, 11, 12.
-#[unsafe(no_mangle)]
-pub extern "C" fn cda_storage_canonical_log(log: &[u8], out: &mut [u8], written: &mut usize) -> u32
+pub fn cda_storage_canonical_log(log: &[u8], out: &mut [u8], written: &mut usize) -> u32
     ensures { Returns (canonical_log (lent log) (room out)) result out written }
 {
     logs::canonical(log, out, written)
 }
 
 // The collections, their files and content numbers as JSON. Refusals: 1, 2, which here means that the text is longer than the output.
-#[unsafe(no_mangle)]
-pub extern "C" fn cda_storage_inventory(image: &[u8], out: &mut [u8], written: &mut usize) -> u32
+pub fn cda_storage_inventory(image: &[u8], out: &mut [u8], written: &mut usize) -> u32
     ensures { Returns (inventories.inventory (lent image) (room out)) result out written }
 {
     let mut tree = [[0u32; 3]; store::ROOM];

@@ -3,7 +3,7 @@ ghost use Rattle.std.specs.Prelude.{◌≡◌, ◌≤◌, length, get_or};
 ghost use Rattle.model.specs.Log.{valid_header, with_status};
 ghost use Rattle.wal.specs.Logs.{ending_of};
 ghost use Rattle.answers.specs.Answers.{overwritten, reading_number, log_cause, whole_number, canonical_log};
-ghost use Rattle.handover.specs.Contract.{lent, room, after, Returns, CauseReturns};
+ghost use Rattle.handover.specs.Contract.{lent, before, room, after, Returns, CauseReturns};
 
 use wal::{Ending, Status};
 
@@ -64,7 +64,7 @@ fn whole_number(ending: Ending) -> u32
 // The log under a header made anew for its status: zeros in bytes 2 and 3.
 fn put_log(log: &[u8], out: &mut [u8])
     requires { (8 ≤ length log.now) × (length log.now ≤ length out.old) }
-    ensures { after out ≡ overwritten (with_status (get_or (lent log) 1 0) (lent log)) (lent out) }
+    ensures { after out ≡ overwritten (with_status (get_or (lent log) 1 0) (lent log)) (before out) }
 {
     wal::rewrite_header(log[1], out, 0);
     field::put_bytes(out, 8, &log[8..]);

@@ -4,11 +4,10 @@ use mathlib.Core.Bool.{Bool, true, false, false≢true}
 use Prim.Native.Nat.{ℕ, ◌≤◌}
 use native.Mathlib.Omega.{arith}
 use lib.ListN.{length}
-use lib.Dec.{eqb}
 use borrow.Author.Tests.{ne_eqb}
 use Rattle.basics.specs.Base.{Bytes}
 use Rattle.model.specs.Store as model
-use Rattle.model.specs.Image.{encode, decode}
+use Rattle.model.specs.Image.{encode}
 use Rattle.answers.specs.Answers.{Answer, refusal, answer, outcome}
 use Rattle.laws.specs.ImageLaws.{decode-only}
 use Rattle.basic_laws.specs.ValidNames.{valid_naming}

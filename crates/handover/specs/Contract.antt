@@ -1,8 +1,8 @@
 -- The contracts of the exported entries: what a call answers and what it leaves in the lent outputs, by the model's Answers alone.
-use Rattle.std.specs.Prelude.{◌≡◌, Bool, ◌||◌, ℕ, length, eqb}
-use Rattle.std.specs.Borrow.{Bor}
+use Rattle.std.specs.Prelude.{◌≡◌, Bool, ◌||◌, ℕ, length, eqb, if◌then◌else◌}
+use Rattle.std.specs.Borrow.{Bor, MutBor}
 use denote.Triple.Both.{Both}
-use Rattle.basics.specs.Base.{Bytes, if◌then◌else◌}
+use Rattle.basics.specs.Base.{Bytes}
 use Rattle.answers.specs.Answers.{Answer, Pending, Broke, overwritten}
 
 -- 01, Sixteen numbers: "A refusal gives its number alone; 14 and 15 also hand back the rolled-back image".
@@ -41,34 +41,40 @@ pub record CauseGives (a : Broke) (n cause cause' : ℕ) : Type 0 where
   pub number : n ≡ a.number
   pub told : cause' ≡ (if eqb a.number 0 then a.cause else cause)
 
--- A part that is lent to a call, as it was (`.entry`) and as it is handed back (`.exit`).
-abbrev pub Part : Type 0 → Type 0
-Part X = Both (Bor X) (Bor X)
+-- A part that is lent to a call to be read, and one that is lent to be written: as it was (`.entry`) and as it is handed back (`.exit`).
+abbrev pub Shown : Type 0 → Type 0
+Shown X = Both (Bor X) (Bor X)
 
--- What was lent, how long it is, and what is handed back.
-abbrev pub lent : {X : Type 0} → Part X → X
+abbrev pub Part : Type 0 → Type 0
+Part X = Both (MutBor X) (MutBor X)
+
+-- What was lent to be read; of a part that was lent to be written, what it was, how long it is, and what is handed back.
+abbrev pub lent : {X : Type 0} → Shown X → X
 lent p = p.entry.now
 
+abbrev pub before : {X : Type 0} → Part X → X
+before p = p.entry.now
+
 abbrev pub room : Part Bytes → ℕ
-room p = length (lent p)
+room p = length (before p)
 
 abbrev pub after : {X : Type 0} → Part X → X
 after p = p.exit.now
 
 -- What the contracts say: bytes were written at the front of an output and counted.
 abbrev pub Written : Bytes → Part Bytes → Part ℕ → Type 0
-Written bytes out written = Writes bytes (lent out) (after out) (after written)
+Written bytes out written = Writes bytes (before out) (after out) (after written)
 
 -- The call returns n and leaves the answer `a` in the parts that were lent to it.
 abbrev pub Returns : Answer → ℕ → Part Bytes → Part ℕ → Type 0
-Returns a n out written = Gives a n (lent out) (after out) (lent written) (after written)
+Returns a n out written = Gives a n (before out) (after out) (before written) (after written)
 
 abbrev pub StepReturns : Answer → ℕ → Part Bytes → Part ℕ → Part Bytes → Part ℕ → Type 0
 StepReturns a n out written step step_written =
-    StepGives a n (lent out) (after out) (lent written) (after written) (lent step) (after step) (lent step_written) (after step_written)
+    StepGives a n (before out) (after out) (before written) (after written) (before step) (after step) (before step_written) (after step_written)
 
 abbrev pub PendingReturns : Pending → ℕ → Part ℕ → Type 0
-PendingReturns a n pending = PendingGives a n (lent pending) (after pending)
+PendingReturns a n pending = PendingGives a n (before pending) (after pending)
 
 abbrev pub CauseReturns : Broke → ℕ → Part ℕ → Type 0
-CauseReturns a n cause = CauseGives a n (lent cause) (after cause)
+CauseReturns a n cause = CauseGives a n (before cause) (after cause)

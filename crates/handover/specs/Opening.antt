@@ -1,8 +1,8 @@
 -- What the inner functions of the entries answer.
-use Rattle.std.specs.Prelude.{◌≡◌, Bool, true, false, [], ℕ, ◌≤◌, length, eqb}
+use Rattle.std.specs.Prelude.{◌≡◌, Bool, true, false, [], ℕ, ◌≤◌, length, eqb, if◌then◌else◌}
 use Rattle.std.proofs.Math.Option.{none, some}
 use Rattle.basics.specs.Limits.{image_room}
-use Rattle.basics.specs.Base.{Bytes, if◌then◌else◌}
+use Rattle.basics.specs.Base.{Bytes}
 use Rattle.model.specs.Store as model
 use Rattle.model.specs.Image.{encode, decode}
 use Rattle.model.specs.Step.{step_field}

@@ -1,13 +1,14 @@
 // What every exported entry does before and behind its own work: the image is read, the answer is written into the lent outputs.
-ghost use Rattle.std.specs.Prelude.{◌≡◌, ◌≤◌, eqb, length};
-ghost use Rattle.basics.specs.Base.{if◌then◌else◌};
+#![tactic(auto)]
+
+ghost use Rattle.std.specs.Prelude.{◌≡◌, ◌≤◌, eqb, length, if◌then◌else◌};
 ghost use Rattle.model.specs.Image.{encode};
 ghost use Rattle.answers.specs.Answers.{outcome};
 ghost use Rattle.store.specs.Stores.{store_in, store_of};
 ghost use Rattle.wal.specs.Tails.{with_tail};
 ghost use Rattle.steps.specs.Steps.{SoundStep};
 ghost use Rattle.local_storage.specs.Recording.{outcome_of};
-ghost use Rattle.handover.specs.Contract.{lent, after, Returns, StepReturns, Written};
+ghost use Rattle.handover.specs.Contract.{lent, before, after, Returns, StepReturns, Written};
 ghost use Rattle.handover.specs.Opening.{Opens, ImageStands, AnswerStands, field_of, StepStands, stepped};
 
 use local_storage::Recorded;
@@ -16,7 +17,7 @@ use store::{Nodes, Store};
 use wal::Tail;
 
 // A store image, where it is accepted and the output has room: `number` is 0; else the refusal 1 or 2. The image's tree ends at `tree_end`.
-#[derive(Drop)]
+#[derive(Clone, Copy)]
 pub struct Opened {
     pub number: u32,
     pub store: Store,
@@ -133,7 +134,7 @@ pub fn hand_step(
 
 // 02, item 1: how the log broke, told where the number is 0.
 pub fn hand_cause(number: u32, broke: u32, cause: &mut u32)
-    ensures { after cause ≡ (if eqb number 0 then broke else lent cause) }
+    ensures { after cause ≡ (if eqb number 0 then broke else before cause) }
 {
     if number == 0 {
         *cause = broke;

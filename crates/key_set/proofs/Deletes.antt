@@ -1,15 +1,16 @@
 -- `delete_one` and `delete_each`.
+use Rattle.std.specs.Prelude.{if◌then◌else◌}
 use mathlib.Core.Path.{◌≡◌, refl, sym, ap, subst, ◌∙◌}
 use mathlib.Core.List.{List, [], ◌∷◌}
 use mathlib.Core.Option.{Option, none, some}
 use mathlib.Core.Bool.{Bool, true, false, not, false≢true}
 use Prim.Native.Nat.{ℕ, ◌+◌, ◌≤◌, ◌<◌}
 use native.Mathlib.Omega.{arith}
-use lib.ListN.{length, drop, get_or, drop_of_length-le}
+use lib.ListN.{drop, get_or, drop_of_length-le}
 use types.Run.{OneOf}
 use denote.Enum.Declared.{tag_of}
 use borrow.Author.Tests.{not-true, not-false}
-use Rattle.basics.specs.Base.{Bytes, is_some, if◌then◌else◌}
+use Rattle.basics.specs.Base.{Bytes, is_some}
 use Rattle.basics.specs.Map.{look}
 use Rattle.model.specs.Operation.{Op, write, delete, delete_all, create_collection, delete_collection, copy_collection}
 use Rattle.model.specs.Store as model
@@ -32,7 +33,7 @@ use Rattle.transaction.specs.declared.Operation.TheVariants as code
 use Rattle.transaction.specs.contracts.Operation.{the_type}
 use Rattle.wal.specs.declared.Logged.{Logged}
 use Rattle.wal.specs.declared.WalRead.{WalRead}
-use Rattle.wal.specs.Logs.{ops_read, SoundRead}
+use Rattle.wal.specs.Logs.{ops_read}
 use Rattle.recovery.proofs.Entries.{length-read, op-at, read-rest}
 use Rattle.laws.specs.KeySetLaws.{deletable}
 use Rattle.key_set.specs.Deleting.{Deletes, Reads}

@@ -1,8 +1,7 @@
 -- `put_entry`: a key lent behind the collection, and the entry of its delete.
 use mathlib.Core.Path.{◌≡◌, refl, sym, ap, subst, ◌∙◌}
-use mathlib.Core.Bool.{Bool, true, false, not, ◌&&◌, false≢true}
-use mathlib.Core.List.{◌++◌}
-use Prim.Native.Nat.{ℕ, ◌+◌, ◌≤◌}
+use mathlib.Core.Bool.{Bool, true, false, not, ◌&&◌}
+use Prim.Native.Nat.{ℕ, ◌≤◌}
 use native.Mathlib.Omega.{arith}
 use lib.ListN.{length, length-append}
 use borrow.Author.Tests.{not-true, not-false}
@@ -14,15 +13,14 @@ use Rattle.model.specs.Operation.{delete, field_table, field_tags, kind, values,
 use Rattle.model.specs.Log.{entry}
 use Rattle.basic_laws.specs.ValidNames.{valid-length}
 use Rattle.laws.specs.AppendLaws.{entry_length}
-use Rattle.field.specs.Writing.{written, Writes}
+use Rattle.field.specs.Writing.{Writes}
 use Rattle.field.proofs.Written.{length-written}
-use Rattle.spans.specs.Spans.{name_of, Sound, Names}
-use Rattle.spans.specs.declared.NameRef.{NameRef}
+use Rattle.spans.specs.Spans.{name_of, Names}
 use Rattle.transaction.specs.Operations.{op_of, WritesOp}
 use Rattle.transaction.specs.declared.Operation.TheVariants.{Delete}
 use Rattle.lend.specs.Lending.{Lends}
 use Rattle.lend.specs.declared.Named.{Named}
-use Rattle.recording.proofs.Lent.{Below, below, still, stands}
+use Rattle.recording.proofs.Lent.{below, still, stands}
 use Rattle.key_set.specs.Gathering.{Roomy, PutsEntry}
 
 delete-length : (c k : Name) → valid_name c ≡ true → valid_name k ≡ true → length (encode_payload (delete c k)) ≤ 138

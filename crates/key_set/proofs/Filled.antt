@@ -1,8 +1,8 @@
 -- `fill`: the image, its log once more, and the entries.
-use mathlib.Core.Path.{◌≡◌, refl, sym, ap, subst, ◌∙◌}
-use mathlib.Core.List.{List, ◌++◌}
+use mathlib.Core.Path.{◌≡◌, refl, ap, ◌∙◌}
+use mathlib.Core.List.{◌++◌}
 use mathlib.Core.Bool.{true}
-use Prim.Native.Nat.{ℕ, ◌+◌, ◌*◌, ◌-◌, ◌≤◌}
+use Prim.Native.Nat.{ℕ, ◌+◌, ◌-◌, ◌≤◌}
 use native.Mathlib.Omega.{arith}
 use lib.ListN.{length, take, drop, length-append, length-drop}
 use lib.Seq.{take-append-le, drop-append-le, take_at, drop_at, length-take-le}
@@ -15,9 +15,9 @@ use Rattle.lend.specs.declared.Named.{Named}
 use Rattle.recording.proofs.Lent.{below}
 use Rattle.store.specs.Stores.{SoundLog}
 use Rattle.store.specs.declared.LogRef.{LogRef}
-use Rattle.model.specs.Record.{key_fields, key_set}
+use Rattle.model.specs.Record.{key_set}
 use Rattle.laws.specs.KeySetLaws.{delete_entries, set-length}
-use Rattle.key_set.specs.Gathering.{set_in, Few, Roomy, Lendable, Gathers}
+use Rattle.key_set.specs.Gathering.{set_in, Few, Roomy, Gathers}
 use Rattle.key_set.specs.Deleting.{log_part, Fills}
 use Rattle.key_set.specs.declared.Gathered.{Gathered}
 

@@ -1,19 +1,19 @@
 -- `gather`: the fields before `next` have been met.
 use mathlib.Core.Path.{◌≡◌, refl, sym, ap, subst, ◌∙◌}
-use mathlib.Core.List.{List, [], ◌∷◌, ◌++◌, map}
-use mathlib.Core.Option.{none, some}
-use Prim.Native.Nat.{ℕ, ◌+◌, ◌*◌, ◌≤◌, ◌<◌}
+use mathlib.Core.List.{List}
+use mathlib.Core.Option.{none}
+use Prim.Native.Nat.{ℕ, ◌+◌, ◌≤◌}
 use native.Mathlib.Omega.{arith}
 use lib.ListN.{length, take, drop, length-map}
 use Rattle.basics.specs.Order.{Name}
-use Rattle.basics.specs.Base.{Bytes, case_option}
+use Rattle.basics.specs.Base.{Bytes}
 use Rattle.basics.specs.Name.{lower}
-use Rattle.basics.specs.Field.{Field, fields_from}
+use Rattle.basics.specs.Field.{fields_from}
 use Rattle.model.specs.Plan.{first_namings}
 use Rattle.field.specs.Reading.{field_of, Stands}
 use Rattle.field.specs.declared.Item.{Item}
 use Rattle.lend.specs.declared.Named.{Named}
-use Rattle.model.specs.Record.{key_fields, key_set}
+use Rattle.model.specs.Record.{key_set}
 use Rattle.laws.specs.KeySetLaws.{set_last, set-length}
 use Rattle.key_set.specs.Gathering.{set_in, lowered_in, Few, AreFields, Roomy, Lendable, Gathers, more}
 use Rattle.key_set.specs.declared.Gathered.{Gathered}

@@ -1,8 +1,9 @@
 -- The keys, field by field.
-use mathlib.Core.Path.{◌≡◌, refl, sym, ap, subst, ◌∙◌}
+use Rattle.std.specs.Prelude.{if◌then◌else◌}
+use mathlib.Core.Path.{◌≡◌, refl, sym, ap, ◌∙◌}
 use mathlib.Core.List.{List, [], ◌∷◌, ◌++◌, map, append-nil, append_assoc}
 use mathlib.Core.Option.{Option, none, some}
-use mathlib.Core.Bool.{Bool, true, false, ◌||◌, false≢true}
+use mathlib.Core.Bool.{Bool, true, false, ◌||◌}
 use Prim.Native.Nat.{ℕ, zero, suc, ◌+◌, ◌-◌, ◌≤◌, ◌<◌}
 use native.Mathlib.Omega.{arith}
 use lib.ListN.{length, take, drop, take-append-drop, drop_of_length-le, length-map, length-append, length-drop}
@@ -10,7 +11,7 @@ use lib.Seq.{take-append-le, drop-append-le, take-length, take_at, length-take-l
 use lib.Dec.{eqb}
 use borrow.Author.Tests.{ne_eqb}
 use Rattle.basics.specs.Order.{Name}
-use Rattle.basics.specs.Base.{Bytes, case_option, if◌then◌else◌, is_in, same_bytes, all_of}
+use Rattle.basics.specs.Base.{Bytes, case_option, is_in, same_bytes, all_of}
 use Rattle.basics.specs.Name.{lower}
 use Rattle.basics.specs.Field.{Field, from_little_endian, encode_field, fields_from, decode_fields}
 use Rattle.basic_laws.specs.MapLaws.{none≢some, some_inj}
@@ -18,7 +19,7 @@ use Rattle.basic_laws.specs.FieldLaws.{split-first}
 use Rattle.field.specs.Reading.{field_of, Stands}
 use Rattle.field.specs.declared.Item.{Item}
 use Rattle.field.proofs.Written.{encoded_length}
-use Rattle.model.specs.Record.{key_fields, key_set}
+use Rattle.model.specs.Record.{key_fields}
 use Rattle.key_set.specs.Gathering.{key_count, lowered_in, Few, AreFields}
 
 -- Fields that stand before other bytes.

@@ -1,6 +1,7 @@
 -- `delete_in` and `delete_keys`: the set's outcome, test by test.
+use Rattle.std.specs.Prelude.{if◌then◌else◌}
 use mathlib.Core.Path.{◌≡◌, refl, sym, ap, subst, ◌∙◌}
-use mathlib.Core.List.{List, [], ◌∷◌, ◌++◌, map}
+use mathlib.Core.List.{List, [], ◌∷◌, ◌++◌}
 use mathlib.Core.Option.{Option, none, some}
 use mathlib.Core.Bool.{Bool, true, false, not, ◌&&◌, false≢true}
 use Prim.Native.Nat.{ℕ, ◌+◌, ◌-◌, ◌≤◌, ◌<◌}
@@ -11,29 +12,25 @@ use lib.Dec.{leb}
 use borrow.Author.Tests.{not-true, not-false}
 use Rattle.basics.specs.Limits.{image_room}
 use Rattle.basics.specs.Order.{Name}
-use Rattle.basics.specs.Base.{Bytes, case_option, if◌then◌else◌, is_some, all_of}
+use Rattle.basics.specs.Base.{Bytes, case_option, is_some, all_of}
 use Rattle.basics.specs.Name.{valid_name}
-use Rattle.model.specs.Operation.{Op, delete}
+use Rattle.model.specs.Operation.{Op}
 use Rattle.model.specs.Log.{Entries, entries, Journal, journal, read_journal, recording, whole, ops_of}
 use Rattle.model.specs.Store as model
-use Rattle.model.specs.Image.{encode}
-use Rattle.model.specs.Record.{Outcome, refuse, give, transaction, require}
-use Rattle.basic_laws.specs.MapLaws.{none≢some, some_inj}
+use Rattle.model.specs.Record.{refuse, give, transaction, require}
 use Rattle.basic_laws.specs.Tests.{All, all-of, and_both, le-leb, leb_le}
-use Rattle.basic_laws.specs.ValidNames.{Valid, valid_naming}
-use Rattle.laws.specs.StoreLaws.{Good, LogFits}
+use Rattle.basic_laws.specs.ValidNames.{valid_naming}
+use Rattle.laws.specs.StoreLaws.{LogFits}
 use Rattle.laws.specs.OperationLaws.{ValidOp, journal-valid}
 use Rattle.laws.specs.LogLaws.{found-whole, recorded-stands}
 use Rattle.laws.specs.LengthLaws.{encode-length}
 use Rattle.laws.specs.AppendLaws.{journal-parts}
 use Rattle.laws.specs.RecordLaws.{Gives}
-use Rattle.store.specs.Tables.{map_of}
 use Rattle.store.specs.Kept.{none_kept}
-use Rattle.store.specs.Stores.{LentStore, store_in, store_of, rewritten, log_bytes, SoundLog, SoundStore}
-use Rattle.store.specs.declared.LogRef.{LogRef}
+use Rattle.store.specs.Stores.{LentStore, store_in, store_of, rewritten, log_bytes, SoundLog}
 use Rattle.steps.specs.Steps.{Fits}
-use Rattle.transaction.specs.Operations.{in_bounds, part}
-use Rattle.wal.specs.Logs.{ops_read, entries_of, entries_at, ReadsLog}
+use Rattle.transaction.specs.Operations.{in_bounds}
+use Rattle.wal.specs.Logs.{ops_read, entries_at, ReadsLog}
 use Rattle.wal.specs.declared.WalRead.{WalRead}
 use Rattle.wal.specs.declared.Tail.TheVariants.{Nothing}
 use Rattle.recovery.proofs.Entries.{length-read}

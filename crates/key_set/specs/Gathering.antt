@@ -1,18 +1,15 @@
 -- What the functions answer that read the keys of a set and write the entries of their deletes.
-use Rattle.std.specs.Prelude.{◌≡◌, ℕ, ◌+◌, ◌*◌, ◌-◌, ◌≤◌, List, [], ◌∷◌, ◌++◌, map, Bool, true, false, ◌&&◌, length, take, drop}
-use Rattle.std.proofs.Math.Option.{Option, none, some}
+use Rattle.std.specs.Prelude.{◌≡◌, ℕ, ◌+◌, ◌*◌, ◌≤◌, List, [], ◌∷◌, ◌++◌, map, true, false, ◌&&◌, length, if◌then◌else◌}
+use Rattle.std.proofs.Math.Option.{some}
 use Rattle.basics.specs.Order.{Name}
-use Rattle.basics.specs.Base.{Bytes, case_option, if◌then◌else◌, is_in, all_of}
+use Rattle.basics.specs.Base.{Bytes, case_option, is_in, all_of}
 use Rattle.basics.specs.Name.{valid_name, lower}
 use Rattle.basics.specs.Field.{Field, decode_fields}
 use Rattle.model.specs.Operation.{delete, encode_payload}
 use Rattle.model.specs.Log.{entry}
-use Rattle.model.specs.Store as model
 use Rattle.field.specs.Writing.{written, Writes}
 use Rattle.lend.specs.declared.Named.{Named}
 use Rattle.recording.proofs.Lent.{Below}
-use Rattle.store.specs.Stores.{LentStore, store_of}
-use Rattle.steps.specs.Steps.{Fits}
 use Rattle.model.specs.Record.{key_fields, key_set}
 use Rattle.laws.specs.KeySetLaws.{delete_entries}
 use Rattle.key_set.specs.declared.Gathered.{Gathered}

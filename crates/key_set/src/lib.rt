@@ -1,5 +1,7 @@
 // Deleting a set of keys at once: 02, item 8. The keys are read where they are lent; the entries of their deletes are written behind the log, in a copy
 // of the image, and what is deleted is read off these.
+#![tactic(auto)]
+
 ghost use Rattle.std.specs.Prelude.{◌≡◌, List, [], ◌∷◌, true, ℕ, ◌+◌, ◌-◌, ◌≤◌, ◌<◌, length, drop};
 ghost use Rattle.basics.specs.Order.{Name};
 ghost use Rattle.basics.specs.Base.{Bytes, same_bytes, is_in};
@@ -12,7 +14,7 @@ ghost use Rattle.store.specs.Stores.{store_in, store_of, SoundLog};
 ghost use Rattle.steps.specs.Steps.{Fits};
 ghost use Rattle.transaction.specs.Operations.{op_of, SoundOp};
 ghost use Rattle.wal.specs.Logs.{ops_read};
-ghost use Rattle.handover.specs.Contract.{lent, after, room, Returns};
+ghost use Rattle.handover.specs.Contract.{lent, before, after, room, Returns};
 ghost use Rattle.model.specs.Record.{record_delete_keys};
 ghost use Rattle.answers.specs.Answers.{delete_keys};
 ghost use Rattle.key_set.specs.Deleting.{Deletes, Reads, Fills, Ready};
@@ -31,7 +33,7 @@ const KEY_TAG: u8 = 3;
 const SOURCE_ROOM: usize = basics::IMAGE_ROOM + basics::LOG_LIMIT + 4_672;
 
 // The keys of a set that were met: how many, where the entries of their deletes end, and whether all names are valid.
-#[derive(Drop)]
+#[derive(Clone, Copy)]
 pub struct Gathered {
     pub count: usize,
     pub end: usize,
@@ -39,7 +41,7 @@ pub struct Gathered {
 }
 
 // Whether every key stands, and the store with their case renames made.
-#[derive(Drop)]
+#[derive(Clone, Copy)]
 pub struct Deleted {
     pub all: bool,
     pub store: Store,
@@ -274,7 +276,7 @@ fn delete_in(
     written: &mut usize,
 ) -> u32
     requires { Ready image.now keys.now (store_in tree.old staging.old s) n src.old (length out.old) }
-    ensures { Returns (outcome (record_delete_keys (lent collection) (lent keys) (store_of (lent image) (store_in (lent tree) (lent staging) s)))) result out written }
+    ensures { Returns (outcome (record_delete_keys (lent collection) (lent keys) (store_of (lent image) (store_in (before tree) (before staging) s)))) result out written }
 {
     let l = s.log;
     let g = fill(src, image, l, collection, keys);

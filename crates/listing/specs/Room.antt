@@ -1,12 +1,12 @@
 -- No text of the listing program is longer than 19,113 bytes: "answer 0", at most 16 directories' lines of at most 66 bytes and at most
 -- 128 files' lines of at most 141, line feeds included.
-use Rattle.std.specs.Prelude.{◌≡◌, refl, Bool, true, false, [], ◌∷◌, ◌++◌, ℕ, ◌+◌, ◌*◌, ◌≤◌, length, drop, leb}
+use Rattle.std.specs.Prelude.{◌≡◌, refl, Bool, true, false, [], ◌∷◌, ◌++◌, ℕ, ◌+◌, ◌*◌, ◌≤◌, length, drop, leb, if◌then◌else◌}
 use Rattle.std.proofs.Common.{sym, ap, ◌∙◌, arith, length-append}
 use Rattle.std.proofs.Math.Option.{Option, none, some}
 use Rattle.basics.specs.Limits.{image_room}
 use Rattle.basics.specs.Order.{Name}
 use Rattle.basics.specs.Map.{Map}
-use Rattle.basics.specs.Base.{Bytes, case_option, if◌then◌else◌, if_empty, flat_map}
+use Rattle.basics.specs.Base.{Bytes, case_option, if_empty, flat_map}
 use Rattle.model.specs.Log.{journal}
 use Rattle.model.specs.Store.{Store}
 use Rattle.model.specs.Image.{decode}

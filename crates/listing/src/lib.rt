@@ -1,4 +1,6 @@
 // The text of the listing program, written at the front of the lent output: 01, Listings and file steps.
+#![tactic(auto)]
+
 ghost use Rattle.std.specs.Prelude.{◌≡◌, ◌+◌, ◌≤◌, length};
 ghost use Rattle.answers.specs.Answers.{listing_line, listing};
 ghost use Rattle.field.specs.Writing.{written};

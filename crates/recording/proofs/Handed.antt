@@ -1,4 +1,5 @@
 -- A recording entry from image to image, by what its method answered.
+use Rattle.std.specs.Prelude.{if◌then◌else◌}
 use mathlib.Core.Path.{◌≡◌, refl, sym, ap, subst, ◌∙◌}
 use mathlib.Core.Bool.{Bool, true, false}
 use Prim.Native.Nat.{ℕ, ◌≤◌}
@@ -9,10 +10,10 @@ use lib.Dec.{leb}
 use borrow.Author.Tests.{leb-true}
 use Rattle.basics.specs.Limits.{image_room}
 use Rattle.basics.specs.Order.{Name}
-use Rattle.basics.specs.Base.{Bytes, if◌then◌else◌}
+use Rattle.basics.specs.Base.{Bytes}
 use Rattle.basics.specs.Map.{Map}
 use Rattle.model.specs.Store as model
-use Rattle.model.specs.Record.{Outcome, give}
+use Rattle.model.specs.Record.{give}
 use Rattle.answers.specs.Answers.{Answer, outcome, image_entry}
 use Rattle.store.specs.Words.{Words}
 use Rattle.store.specs.Tables.{table_of, map_of}

@@ -1,8 +1,8 @@
 -- What holds of an outcome, through the tests that come before it: 01, Sixteen numbers.
-use Rattle.std.specs.Prelude.{Bool, true, false, List, ℕ, length, leb}
+use Rattle.std.specs.Prelude.{Bool, true, false, List, ℕ, length, leb, if◌then◌else◌}
 use Rattle.std.proofs.Math.Option.{Option, none, some}
 use Rattle.basics.specs.Limits.{op_limit}
-use Rattle.basics.specs.Base.{case_option, if◌then◌else◌}
+use Rattle.basics.specs.Base.{case_option}
 use Rattle.model.specs.Operation.{Op}
 use Rattle.model.specs.Store.{Store}
 use Rattle.model.specs.Record.{Outcome, refuse, transaction, require, record_into}

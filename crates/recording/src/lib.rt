@@ -1,10 +1,11 @@
 // One road for every entry that records: the image is read, the given names are put behind it into one buffer, the method that is asked for
 // answers, and its answer is handed on.
-ghost use Rattle.std.specs.Prelude.{◌≡◌, [], length};
+#![tactic(auto)]
+
+ghost use Rattle.std.specs.Prelude.{◌≡◌, [], length, if◌then◌else◌};
 ghost use Rattle.basics.specs.Limits.{image_room};
-ghost use Rattle.basics.specs.Base.{if◌then◌else◌};
 ghost use Rattle.store.specs.Stores.{store_in};
-ghost use Rattle.handover.specs.Contract.{lent, after, room, Returns};
+ghost use Rattle.handover.specs.Contract.{lent, before, after, room, Returns};
 ghost use Rattle.recording.specs.Asking.{entry_of, leaves_tree, Asks, Performs};
 ghost use Rattle.recording.specs.Buffers.{Buffered};
 
@@ -14,7 +15,7 @@ use local_storage::{LocalStorage, Recorded};
 use store::{Nodes, Store};
 
 // What is asked for: an operation to record, or begin or rollback.
-#[derive(Drop)]
+#[derive(Clone, Copy)]
 pub enum Asked {
     Begin,
     Write(u32),
@@ -66,7 +67,7 @@ fn answer(
     other: &[u8],
 ) -> Recorded
     requires { Asks src.now (store_in tree.old staging.old s) a b d collection.now key.now other.now }
-    ensures { Performs op (lent src) s (lent tree) (lent staging) (lent collection) (lent key) (lent other) (after tree) (after staging) result }
+    ensures { Performs op (lent src) s (before tree) (before staging) (lent collection) (lent key) (lent other) (after tree) (after staging) result }
 {
     let storage = LocalStorage { store: s };
     let keyed = decode::both(a.valid, b.valid);

@@ -2,14 +2,10 @@
 use mathlib.Core.Path.{◌≡◌, refl, sym, ap, ◌∙◌}
 use mathlib.Core.Bool.{Bool, true, false, not}
 use mathlib.Core.List.{List, [], ◌∷◌}
-use mathlib.Core.Option.{none}
-use lib.Dec.{leb}
 use Rattle.basics.specs.Order.{Name}
-use Rattle.basics.specs.Map.{Map}
 use Rattle.basics.specs.Base.{Bytes, if_empty}
 use Rattle.model.specs.Store as model
 use Rattle.model.specs.Store.{files}
-use Rattle.model.specs.Image.{decode}
 use Rattle.spans.specs.Spans.{name_of, Sound}
 use Rattle.spans.specs.declared.NameRef.{NameRef}
 use Rattle.store.specs.Words.{Words}

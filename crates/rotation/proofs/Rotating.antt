@@ -1,6 +1,6 @@
 -- A rotation, by what its calls handed back.
 use mathlib.Core.Path.{◌≡◌, refl, sym, ap, subst, ◌∙◌}
-use mathlib.Core.Bool.{Bool, true, false, false≢true}
+use mathlib.Core.Bool.{Bool, true, false}
 use mathlib.Core.List.{◌++◌}
 use mathlib.Core.Option.{some}
 use Prim.Native.Nat.{ℕ, ◌≤◌, ◌<◌}
@@ -17,10 +17,10 @@ use Rattle.model.specs.Image.{decode}
 use Rattle.model.specs.Record.{has_dir}
 use Rattle.answers.specs.Answers.{Answer, begin, copy_collection, delete_collection, commit}
 use Rattle.basic_laws.specs.Tests.{and_both}
-use Rattle.handover.specs.Contract.{hands_back, Gives}
+use Rattle.handover.specs.Contract.{Gives}
 use Rattle.handover.proofs.Outputs.{left_alone}
 use Rattle.rotation.specs.Asking.{has_file}
-use Rattle.answers.specs.Rotate.{current, next, backup, holds_file, rotation, rotate}
+use Rattle.answers.specs.Rotate.{current, next, backup, holds_file, rotate}
 use Rattle.rotation.specs.Recorded.{missing-refused, first-copied, second-copied, deleted}
 use Rattle.rotation.specs.Refusals.{read, turned_1, turned_2, turned-begun, turned_19, turned_20, carried_out, begun-alone, holds_same}
 

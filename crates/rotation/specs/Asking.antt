@@ -1,7 +1,7 @@
 -- Whether a collection of an image has a file, of any name.
-use Rattle.std.specs.Prelude.{Bool, true, false}
+use Rattle.std.specs.Prelude.{Bool, true, false, if◌then◌else◌}
 use Rattle.basics.specs.Order.{Name}
-use Rattle.basics.specs.Base.{Bytes, case_option, if◌then◌else◌, if_empty}
+use Rattle.basics.specs.Base.{Bytes, case_option, if_empty}
 use Rattle.basics.specs.Name.{valid_name}
 use Rattle.model.specs.Store.{Store, files}
 use Rattle.model.specs.Image.{decode}

@@ -1,35 +1,35 @@
 -- What the steps of a copy make of a tree, and when one of them fails: for a destination whose backup's name is free.
-use Rattle.std.specs.Prelude.{◌≡◌, Bool, ◌&&◌, ◌⊎◌}
+use Rattle.std.specs.Prelude.{◌≡◌, Bool, ◌&&◌, if◌then◌else◌}
 use Rattle.std.proofs.Math.Path.{refl, sym, ap}
 use Rattle.std.proofs.Common.{◌∙◌, subst, inl, inr}
-use Prim.Native.Nat.{ℕ, suc, ◌+◌, ◌≤◌, ◌<◌}
+use Prim.Native.Nat.{ℕ, suc, ◌+◌, ◌≤◌}
 use native.Mathlib.Omega.{arith}
 use mathlib.Core.List.{List, [], ◌∷◌, ◌++◌, map}
 use Rattle.std.proofs.Math.Option.{Option, none, some}
 use Rattle.std.proofs.Math.Bool.{true, false}
 use Rattle.std.proofs.Math.ListN.{length}
 use Rattle.std.proofs.Math.Dec.{leb, ltb, nltb→le}
-use Rattle.basics.specs.Limits.{name_limit, dir_limit, file_limit}
+use Rattle.basics.specs.Limits.{name_limit}
 use Rattle.basics.specs.Order.{Name, Key}
 use Rattle.basics.specs.Map.{Map, look, put, Has}
-use Rattle.basics.specs.Base.{In, case_option, if_present, if_empty, if◌then◌else◌}
+use Rattle.basics.specs.Base.{In, case_option, if_present}
 use Rattle.basics.specs.Name.{backup_name}
-use Rattle.model.specs.Operation.{copy_collection, delete_collection}
-use Rattle.model.specs.Store.{Store, dirs, files, file_count}
-use Rattle.model.specs.Step.{Step, make_directory, rename_directory, copy_file, rename_dir, apply, apply_all, Fault, fails, full, new_file, step_fault}
+use Rattle.model.specs.Operation.{copy_collection}
+use Rattle.model.specs.Store.{Store, files}
+use Rattle.model.specs.Step.{Step, make_directory, rename_directory, copy_file, rename_dir, apply, apply_all, Fault, full, step_fault}
 use Rattle.model.specs.Plan.{op_steps, first_fault}
-use Rattle.basic_laws.specs.MapLaws.{Sorted, key_dec, none≢some, some_inj, look-put-same, look-put-other, sorted-put, ext}
-use Rattle.basic_laws.specs.Tests.{leb_le, le-leb, nil≢cons}
+use Rattle.basic_laws.specs.MapLaws.{Sorted, none≢some, look-put-same, look-put-other, sorted-put, ext}
+use Rattle.basic_laws.specs.Tests.{leb_le, le-leb}
 use Rattle.basic_laws.specs.ValidNames.{backup-apart}
 use Rattle.laws.specs.TreeLaws.{size, is_file, is_dir, file-size, dir-size, size-put-light, size-put-new}
 use Rattle.laws.specs.StoreLaws.{name_dec, size-rename_le, sorted-move, look-move-other}
 use Rattle.laws.specs.StepLaws.{file_weight}
 use Rattle.laws.specs.Listings.{Once, files_in, files-has, files-named, files-once}
-use Rattle.laws.specs.Runs.{apply_all_append, fault_append}
-use Rattle.cut_rule.specs.StoreRule.{Within}
-use Rattle.cut_rule.specs.Files.{dir-eq, file-eq}
-use Rattle.cut_rule.specs.Directories.{Empty, within-empty, within-put, within-move, move-to, move-from}
-use Rattle.cut_rule.specs.Count.{once_le}
+use Rattle.laws.specs.Runs.{apply_all_append}
+use Rattle.cut_rule.proofs.StoreRule.{Within}
+use Rattle.cut_rule.proofs.Files.{dir-eq, file-eq}
+use Rattle.cut_rule.proofs.Directories.{Empty, within-empty, within-put, within-move, move-to, move-from}
+use Rattle.cut_rule.proofs.Count.{once_le}
 
 -- A directory renamed to a free name: nothing comes and nothing goes, since renamed back it is the tree as it was.
 size-rename : (w : Key → ℕ) → ((c d f : Name) → w (c, f) ≡ w (d, f)) → (a b : Name) → (a ≡ b → ⊥) → (t : Map) → Sorted t → Empty b t →

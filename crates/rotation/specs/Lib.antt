@@ -3,5 +3,4 @@ pub mod Copies
 pub mod Recorded
 pub mod Rotation
 pub mod Rule
-pub mod Done
 pub mod Refusals

@@ -1,5 +1,5 @@
 -- What a rotation records: each of its calls answers 0 where current and next stand, and the image that is committed holds the three operations.
-use Rattle.std.specs.Prelude.{◌≡◌, ℕ, ◌<◌, Bool, false, length, leb, eqb}
+use Rattle.std.specs.Prelude.{◌≡◌, ◌<◌, Bool, false, length, leb, if◌then◌else◌}
 use Rattle.std.proofs.Math.Path.{refl}
 use Rattle.std.proofs.Common.{sym, ◌∙◌, ap, subst, arith}
 use mathlib.Core.List.{List, [], ◌∷◌, ◌++◌}
@@ -8,14 +8,14 @@ use Rattle.std.proofs.Math.Bool.{true}
 use Rattle.std.proofs.lemmas.Bool.{false≢true}
 use Rattle.basics.specs.Limits.{op_limit, image_room}
 use Rattle.basics.specs.Order.{Name}
-use Rattle.basics.specs.Base.{Bytes, case_option, if◌then◌else◌}
+use Rattle.basics.specs.Base.{Bytes, case_option}
 use Rattle.basics.specs.Name.{is_name_byte, refused_names, valid_name}
 use Rattle.basics.specs.Crc32.{crc32, register, feed_byte, shifts, shift, add_polynomial}
 use Rattle.basics.specs.Field.{little_endian}
 use Rattle.model.specs.Operation.{Op, copy_collection, delete_collection}
 use Rattle.model.specs.Log.{recording, whole, journal, is_held, header, valid_header, walk, entries, read_journal, append_operation}
 use Rattle.model.specs.Store.{Store}
-use Rattle.model.specs.Image.{encode, decode}
+use Rattle.model.specs.Image.{decode}
 use Rattle.model.specs.Record.{Outcome, refuse, give, transaction, begin_transaction, appended, has_dir, record_copy, record_delete_collection}
 use Rattle.answers.specs.Answers as Answers
 use Rattle.answers.specs.Answers.{Answer, answer, refusal, outcome, image_entry, begin}

@@ -1,6 +1,6 @@
 -- A rotation case by case; demand 1 over calls of it: each is answered with 0 or one of the numbers named here, and after a refusal the lent output and its
 -- counter are as they were; 14 and 15 hand back the commit's image.
-use Rattle.std.specs.Prelude.{◌≡◌, Bool, true, false, ◌&&◌, List, [], ◌∷◌, ◌⊎◌, ℕ, length, leb, eqb}
+use Rattle.std.specs.Prelude.{◌≡◌, Bool, true, false, ◌&&◌, List, [], ◌∷◌, ℕ, length, leb, eqb, if◌then◌else◌}
 use Rattle.std.proofs.Math.Path.{refl}
 use Rattle.std.proofs.Common.{sym, ap, subst, ◌∙◌, inl, inr, arith}
 use Rattle.std.proofs.lemmas.Bool.{false≢true}
@@ -8,21 +8,20 @@ use Rattle.std.proofs.Math.Option.{Option, none, some}
 use borrow.Author.Tests.{eqb-true, ne_eqb}
 use Rattle.basics.specs.Limits.{image_room}
 use Rattle.basics.specs.Order.{Name}
-use Rattle.basics.specs.Map.{Has}
-use Rattle.basics.specs.Base.{Bytes, In, case_option, if◌then◌else◌, if_empty, is_some}
+use Rattle.basics.specs.Base.{Bytes, In, case_option, if_empty, is_some}
 use Rattle.model.specs.Log.{journal, is_held}
 use Rattle.model.specs.Store.{Store, files}
 use Rattle.model.specs.Image.{decode}
-use Rattle.model.specs.Record.{Outcome, refuse, give, begin_transaction, has_dir}
+use Rattle.model.specs.Record.{refuse, give, begin_transaction, has_dir}
 use Rattle.model.specs.Step.{Fault, fails, full, commit_number}
 use Rattle.model.specs.Plan.{commit_fault}
 use Rattle.answers.specs.Answers.{Answer, refusal, outcome, begin, ending_store, commit}
 use Rattle.basic_laws.specs.Tests.{and_both}
 use Rattle.laws.specs.Listings.{files_in}
 use Rattle.answer_laws.specs.EntryLaws.{lent-good}
-use Rattle.cut_rule.specs.OverImages.{inside}
-use Rattle.handover.specs.Contract.{hands_back, Gives}
-use Rattle.cda_storage.specs.Refusals.{Answered, untouched, begin-answers, commit-answers}
+use Rattle.cut_rule.proofs.OverImages.{inside}
+use Rattle.handover.specs.Contract.{hands_back}
+use Rattle.cda_storage.specs.Refusals.{Answered, untouched, begin-answers}
 use Rattle.cda_storage.specs.Demand1.{Refuses}
 use Rattle.rotation.specs.Asking.{has_file}
 use Rattle.answers.specs.Rotate.{current, next, holds_file, rotation, rotate}

@@ -1,10 +1,10 @@
 -- The update rotation, 02's item 7: what it leaves, when it is refused, and that it is cut as every transaction under the rule for all kinds is.
-use Rattle.std.specs.Prelude.{◌≡◌, ℕ, ◌+◌, List, [], ◌∷◌, Bool, true, ◌&&◌, ◌⊎◌, length, leb}
+use Rattle.std.specs.Prelude.{◌≡◌, ℕ, ◌+◌, List, [], Bool, true, ◌&&◌, ◌⊎◌, length, leb, if◌then◌else◌}
 use Rattle.std.proofs.Math.Option.{none, some}
 use Rattle.basics.specs.Limits.{image_room, step_room}
 use Rattle.basics.specs.Order.{Name}
 use Rattle.basics.specs.Map.{Map, look, Has}
-use Rattle.basics.specs.Base.{Bytes, if◌then◌else◌}
+use Rattle.basics.specs.Base.{Bytes}
 use Rattle.basics.specs.Name.{backup_extension}
 use Rattle.basics.specs.Field.{has_tag}
 use Rattle.model.specs.Store.{Store, dirs, files, file_count}

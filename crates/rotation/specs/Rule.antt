@@ -1,27 +1,27 @@
 -- A rotation under the rule for operations of every kind.
 use Rattle.std.proofs.Math.Path.{◌≡◌, refl, ap, subst}
 use Rattle.std.proofs.Common.{sym, ◌∙◌, inl, inr, eqb-true}
-use Rattle.std.specs.Prelude.{ℕ, List, [], ◌∷◌, ◌++◌, Bool, true, false, ◌||◌, ◌⊎◌, length, eqb}
+use Rattle.std.specs.Prelude.{ℕ, List, [], ◌∷◌, ◌++◌, Bool, true, false, ◌||◌, ◌⊎◌, length, eqb, if◌then◌else◌}
 use native.Mathlib.Omega.{arith}
 use Rattle.std.proofs.Math.Option.{some}
 use Rattle.std.proofs.lemmas.Bool.{false≢true}
 use Rattle.basics.specs.Limits.{image_room, step_room}
 use Rattle.basics.specs.Order.{Name}
-use Rattle.basics.specs.Map.{Map, look, Has}
-use Rattle.basics.specs.Base.{Bytes, In, case_option, if◌then◌else◌, if_empty, any_of}
+use Rattle.basics.specs.Map.{Map, Has}
+use Rattle.basics.specs.Base.{Bytes, In, if_empty, any_of}
 use Rattle.basics.specs.Name.{backup_extension, staging_extension}
 use Rattle.basics.specs.Field.{has_tag}
 use Rattle.model.specs.Operation.{Op, Write, write, copy_collection, delete_collection}
-use Rattle.model.specs.Log.{journal, ops_of}
+use Rattle.model.specs.Log.{ops_of}
 use Rattle.model.specs.Store.{Store, files}
 use Rattle.model.specs.Image.{encode, decode}
 use Rattle.model.specs.Record.{has_dir}
-use Rattle.answers.specs.Answers.{Answer, answer, refusal, begin, commit, commit_step, recover}
+use Rattle.answers.specs.Answers.{Answer, refusal, begin, commit, commit_step, recover}
 use Rattle.basic_laws.specs.Tests.{and_both}
 use Rattle.cut_rule.specs.Demand.{NoExtension, settled, cut_at, cut_recoveries, InPlans}
-use Rattle.cut_rule.specs.Kinds.{place_of, Apart, PlainPlace, Suits, TrueOf, AllTrue, Marked, CutGives}
-use Rattle.cut_rule.specs.KindsRule.{kinds_rule, kinds_failing}
-use Rattle.cut_rule.specs.Again.{kinds_again}
+use Rattle.cut_rule.specs.Kinds.{place_of, Apart, PlainPlace, Suits, AllTrue, Marked, CutGives}
+use Rattle.cut_rule.proofs.KindsRule.{kinds_rule, kinds_failing}
+use Rattle.cut_rule.proofs.Again.{kinds_again}
 use Rattle.handover.specs.Contract.{hands_back}
 use Rattle.cda_storage.specs.Refusals.{begin-answers, commit-answers}
 use Rattle.answers.specs.Rotate.{current, next, backup, holds_file, rotation, rotate}

@@ -1,5 +1,7 @@
 // The update rotation: 02, item 7. It is written over the promises of the exported entries: begin, the two copies, the deletion and the commit are calls of
 // them, each on what the one before handed back. `Returns` (crate handover, specs/Contract.antt) says what is in the lent outputs after a call.
+#![tactic(auto)]
+
 ghost use Rattle.std.specs.Prelude.{◌≡◌};
 ghost use Rattle.answers.specs.Rotate.{rotate};
 ghost use Rattle.rotation.specs.Asking.{has_file};
@@ -47,8 +49,7 @@ fn has_file(image: &[u8], name: &[u8]) -> bool
 }
 
 // Copies current to backup and next to current, and deletes next, as one transaction. Refusals: 1, 2, 3, 17, 19, 20; 14 and 15 hand back the commit's image.
-#[unsafe(no_mangle)]
-pub extern "C" fn cda_storage_rotate(image: &[u8], out: &mut [u8], written: &mut usize) -> u32
+pub fn cda_storage_rotate(image: &[u8], out: &mut [u8], written: &mut usize) -> u32
     ensures { Returns (rotate (lent image) (room out)) result out written }
 {
     let mut a = [0u8; basics::IMAGE_ROOM];

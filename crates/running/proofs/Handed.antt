@@ -1,4 +1,5 @@
 -- An entry that runs a plan, by what `run` left.
+use Rattle.std.specs.Prelude.{if◌then◌else◌}
 use mathlib.Core.Path.{◌≡◌, refl, sym, ap, subst, ◌∙◌}
 use mathlib.Core.Bool.{Bool, true, false, false≢true, ◌&&◌}
 use mathlib.Core.Option.{some}
@@ -8,7 +9,7 @@ use lib.ListN.{length}
 use lib.Dec.{leb, eqb}
 use borrow.Author.Tests.{leb-true, ne_eqb}
 use Rattle.basics.specs.Limits.{image_room, step_room}
-use Rattle.basics.specs.Base.{Bytes, if◌then◌else◌}
+use Rattle.basics.specs.Base.{Bytes}
 use Rattle.model.specs.Store as model
 use Rattle.model.specs.Image.{encode, decode}
 use Rattle.answers.specs.Answers.{Answer, answer, refusal, on_image, commit, hold, recover, recover_cause, revert, revert_cause, keep}

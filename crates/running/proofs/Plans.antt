@@ -1,4 +1,5 @@
 -- What `run` leaves, by what a commit, recovery, revert and keep answered.
+use Rattle.std.specs.Prelude.{if◌then◌else◌}
 use mathlib.Core.Path.{◌≡◌, refl, sym, ap, subst, ◌∙◌}
 use mathlib.Core.Bool.{Bool, true, false, false≢true}
 use mathlib.Core.List.{List, [], ◌∷◌}
@@ -9,7 +10,7 @@ use lib.ListN.{length, take}
 use lib.Dec.{leb, eqb}
 use borrow.Author.Tests.{leb-true, eqb-true, eq-eqb, ne_eqb}
 use Rattle.basics.specs.Map.{Map}
-use Rattle.basics.specs.Base.{Bytes, if◌then◌else◌, case_option, is_some}
+use Rattle.basics.specs.Base.{Bytes, case_option, is_some}
 use Rattle.model.specs.Operation.{Op}
 use Rattle.model.specs.Log.{Journal, is_held, journal}
 use Rattle.model.specs.Store as model
@@ -24,7 +25,7 @@ use Rattle.basic_laws.specs.MapLaws.{none≢some, some_inj}
 use Rattle.basic_laws.specs.Tests.{all_in}
 use Rattle.store.specs.Words.{Words}
 use Rattle.store.specs.Stores.{LentStore, store_in, store_of}
-use Rattle.plans.specs.Budget.{past, not-past}
+use Rattle.plans.proofs.Budget.{past, not-past}
 use Rattle.steps.specs.Steps.{step_of, Fits, Within}
 use Rattle.steps.specs.declared.Step.{Step}
 use Rattle.steps.proofs.Room.{of-good}

@@ -1,6 +1,6 @@
 -- What an entry answers that runs a plan, by the plan that it names.
-use Rattle.std.specs.Prelude.{◌≡◌, Bool, true, false, ℕ, eqb}
-use Rattle.basics.specs.Base.{Bytes, case_option, if◌then◌else◌}
+use Rattle.std.specs.Prelude.{◌≡◌, Bool, true, false, ℕ, eqb, if◌then◌else◌}
+use Rattle.basics.specs.Base.{Bytes, case_option}
 use Rattle.model.specs.Log.{journal}
 use Rattle.model.specs.Store as model
 use Rattle.model.specs.Plan.{commit_end, hold_end, unheld, recover_fault, discarded_cause, recover_plan, recovered_at, revert_plan, reverted_at, keep_plan, kept_at, without_mark}

@@ -1,7 +1,9 @@
 // One road for every entry that runs a plan: the image is read, the plan is run, wholly or by its first n steps, and what it leaves is handed back.
+#![tactic(auto)]
+
 ghost use Rattle.std.specs.Prelude.{◌≡◌};
 ghost use Rattle.store.specs.Stores.{store_in};
-ghost use Rattle.handover.specs.Contract.{lent, after, room, Returns, StepReturns, CauseReturns};
+ghost use Rattle.handover.specs.Contract.{lent, before, after, room, Returns, StepReturns, CauseReturns};
 ghost use Rattle.handover.specs.Opening.{Held};
 ghost use Rattle.running.specs.Planning.{plan_entry, plan_broke, plan_step_entry, commit_of, ran_of, Runs};
 
@@ -12,7 +14,7 @@ use store::{Nodes, Store};
 use wal::Tail;
 
 // The plan that is meant.
-#[derive(Drop)]
+#[derive(Clone, Copy)]
 pub enum Planned {
     Commit,
     Hold,
@@ -23,7 +25,7 @@ pub enum Planned {
 
 // What a plan leaves: a number; how the log broke that it discards, 0 for none; whether a store is handed back; that store; what is left of the budget;
 // the step that was done last.
-#[derive(Drop)]
+#[derive(Clone, Copy)]
 pub struct Ran {
     pub number: u32,
     pub cause: u32,
@@ -44,7 +46,7 @@ fn run_commit(
     n: u64,
 ) -> Ran
     requires { Held image.now (store_in tree.old staging.old s) }
-    ensures { Runs (commit_of holds) (lent image) (store_in (lent tree) (lent staging) s) limited n (after tree) (after staging) result }
+    ensures { Runs (commit_of holds) (lent image) (store_in (before tree) (before staging) s) limited n (after tree) (after staging) result }
 {
     let storage = LocalStorage { store: s };
     let r = storage.commit(image, tree, staging, holds, limited, n);
@@ -89,7 +91,7 @@ fn run(
     n: u64,
 ) -> Ran
     requires { Held image.now (store_in tree.old staging.old s) }
-    ensures { Runs p (lent image) (store_in (lent tree) (lent staging) s) limited n (after tree) (after staging) result }
+    ensures { Runs p (lent image) (store_in (before tree) (before staging) s) limited n (after tree) (after staging) result }
 {
     match p {
         Planned::Commit => run_commit(image, tree, staging, s, false, limited, n),

@@ -1,16 +1,15 @@
 -- One byte more of a trace, in each way that it can go.
-use mathlib.Core.Path.{◌≡◌, refl, sym, ap, subst, ◌∙◌}
+use Rattle.std.specs.Prelude.{if◌then◌else◌}
+use mathlib.Core.Path.{◌≡◌, refl, sym, ap, ◌∙◌}
 use mathlib.Core.Bool.{Bool, true, false}
-use mathlib.Core.List.{List, [], ◌∷◌, ◌++◌, append_assoc}
-use Prim.Native.Nat.{ℕ, zero, suc, ◌+◌, ◌≤◌, ◌<◌}
+use mathlib.Core.List.{[], ◌∷◌, ◌++◌, append_assoc}
+use Prim.Native.Nat.{ℕ, suc, ◌+◌, ◌≤◌, ◌<◌}
 use native.Mathlib.Omega.{arith}
 use lib.ListN.{length, take, drop, get_or}
 use lib.Seq.{length-take-le, take-suc, take-append_seam, drop-append_seam, get_or-take}
-use Rattle.basics.specs.Limits.{step_room}
-use Rattle.basics.specs.Base.{Bytes, if◌then◌else◌, if_empty, same_bytes}
-use Rattle.answers.specs.Answers.{Answer}
+use Rattle.basics.specs.Base.{Bytes, if_empty, same_bytes}
 use Rattle.basic_laws.specs.Tests.{same-eq, same_refl}
-use Rattle.trace.specs.Line.{steps_line, differs_line, answer_line, line_from}
+use Rattle.trace.specs.Line.{steps_line, differs_line, line_from}
 use Rattle.trace.specs.Tracking.{step_behind, Behind, told, Tracks, Steady}
 use Rattle.trace.specs.declared.Trace.{Trace}
 use Rattle.trace.proofs.Next.{Next, refused, ended, ahead, next}

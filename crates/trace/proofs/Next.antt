@@ -1,4 +1,5 @@
 -- What the step behind n says of the line, by what the commit's step entry answers of it.
+use Rattle.std.specs.Prelude.{if◌then◌else◌}
 use mathlib.Core.Path.{◌≡◌, refl, sym, ap, subst, ◌∙◌}
 use mathlib.Core.Bool.{Bool, true, false}
 use mathlib.Core.List.{List, [], ◌∷◌}
@@ -8,9 +9,8 @@ use native.Mathlib.Omega.{arith}
 use lib.ListN.{length, take, drop, get_elem?}
 use lib.Dec.{leb}
 use borrow.Author.Tests.{leb-true, leb-false}
-use Rattle.basics.specs.Limits.{image_room, step_room}
-use Rattle.basics.specs.Base.{Bytes, case_option, if◌then◌else◌, if_empty, same_bytes}
-use Rattle.basics.specs.Field.{little_endian, encode_field}
+use Rattle.basics.specs.Base.{Bytes, case_option, if_empty, same_bytes}
+use Rattle.basics.specs.Field.{encode_field}
 use Rattle.model.specs.Operation.{Op}
 use Rattle.model.specs.Store as model
 use Rattle.model.specs.Image.{encode, decode}

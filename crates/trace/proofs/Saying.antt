@@ -1,14 +1,15 @@
 -- The line, where no byte follows, and how it is written.
+use Rattle.std.specs.Prelude.{if◌then◌else◌}
 use mathlib.Core.Path.{◌≡◌, refl, sym, ap, ◌∙◌}
 use mathlib.Core.Bool.{Bool, true, false}
 use mathlib.Core.List.{[], ◌∷◌, ◌++◌, append_assoc, append-nil}
-use Prim.Native.Nat.{ℕ, zero, suc, ◌+◌, ◌≤◌, ◌<◌}
+use Prim.Native.Nat.{ℕ, suc, ◌+◌, ◌≤◌, ◌<◌}
 use native.Mathlib.Omega.{arith}
 use lib.ListN.{length, take, drop, length-append}
 use lib.Seq.{take_all, length-take-le}
 use lib.Dec.{leb}
 use borrow.Author.Tests.{le-leb, lt-leb, leb-true}
-use Rattle.basics.specs.Base.{Bytes, if◌then◌else◌, if_empty, same_bytes}
+use Rattle.basics.specs.Base.{Bytes, same_bytes}
 use Rattle.answers.specs.Answers.{decimal}
 use Rattle.basic_laws.specs.Tests.{same-eq}
 use Rattle.field.specs.Writing.{written}

@@ -1,7 +1,7 @@
 -- The line that the program step_trace writes for any input. 02, item 10: "A program reads a store image and, straight after it, step fields 0x20 to 0x2E,
 -- and writes one line."
-use Rattle.std.specs.Prelude.{List, [], ◌∷◌, ◌++◌, ℕ, zero, suc, ◌+◌, length, take, drop, leb}
-use Rattle.basics.specs.Base.{Bytes, case_option, if◌then◌else◌, if_empty, same_bytes}
+use Rattle.std.specs.Prelude.{List, [], ◌∷◌, ◌++◌, ℕ, zero, suc, ◌+◌, length, take, drop, leb, if◌then◌else◌}
+use Rattle.basics.specs.Base.{Bytes, case_option, if_empty, same_bytes}
 use Rattle.basics.specs.Field.{from_little_endian}
 use Rattle.model.specs.Image.{decode}
 use Rattle.model.specs.Step.{Step, step_field}

@@ -1,7 +1,7 @@
 -- What the library knows of a trace, some bytes in.
-use Rattle.std.specs.Prelude.{◌≡◌, Bool, false, ◌++◌, ℕ, suc, ◌+◌, ◌≤◌, ◌<◌, length, take}
+use Rattle.std.specs.Prelude.{◌≡◌, false, ◌++◌, ℕ, suc, ◌+◌, ◌≤◌, ◌<◌, length, take, if◌then◌else◌}
 use Rattle.basics.specs.Limits.{image_room, step_room}
-use Rattle.basics.specs.Base.{Bytes, if◌then◌else◌}
+use Rattle.basics.specs.Base.{Bytes}
 use Rattle.answers.specs.Answers.{Answer, commit_step}
 use Rattle.trace.specs.Line.{differs_line, line_from}
 use Rattle.trace.specs.declared.Trace.{Trace}

@@ -1,5 +1,7 @@
 // The trace that a box kept of a commit, held to the commit's plan: 02, item 10. An image and the bytes behind it are met piece by piece, so a trace
 // may be of any length. Each step's field comes of a run of the plan up to it.
+#![tactic(auto)]
+
 ghost use Rattle.std.specs.Prelude.{◌≡◌, true, [], ◌∷◌, ◌+◌, ◌≤◌, ◌<◌, length};
 ghost use Rattle.basics.specs.Base.{Bytes};
 ghost use Rattle.text.specs.Writing.{Writes};
@@ -10,7 +12,7 @@ use running::Planned;
 
 // How far a trace is the plan's. `number`: 0; or 16 past the plan's end; or what the commit is refused with, 1 or 4. `steps` were met, and behind them
 // `met` bytes of the next step's field, which has `len`; where it `differs`, they were not.
-#[derive(Drop)]
+#[derive(Clone, Copy)]
 pub struct Trace {
     pub number: u32,
     pub steps: u32,

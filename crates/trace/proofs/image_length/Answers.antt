@@ -1,0 +1,23 @@
+use Rattle.trace.proofs.Lengths.{walked, walked-other, walked-headless, walked-valueless, walked_on, walked_end}
+use Rattle.trace.proofs.image_length.Goals as goal
+
+pub loop-at-init : goal.loop-at-init
+loop-at-init c = walked c.args.s.now
+
+pub returns-then-s-at-gt20 : goal.returns-then-s-at-gt20
+returns-then-s-at-gt20 c = walked-other c.loop-at.invariant c.loop-at-test.true c.if-s-at-gt20.true
+
+pub returns-then-left-lt3 : goal.returns-then-left-lt3
+returns-then-left-lt3 c =
+    walked-headless c.loop-at.invariant c.loop-at-test.true c.if-s-at-gt20.false c.if-left-lt3.true
+
+pub returns-then-left-n : goal.returns-then-left-n
+returns-then-left-n c =
+    walked-valueless c.loop-at.invariant c.loop-at-test.true c.if-s-at-gt20.false c.if-left-lt3.false c.le16-n.ensures c.if-left-n.true
+
+pub loop-at-preserved : goal.loop-at-preserved
+loop-at-preserved c =
+    walked_on c.loop-at.invariant c.loop-at-test.true c.if-s-at-gt20.false c.if-left-lt3.false c.le16-n.ensures c.if-left-n.false
+
+pub returns : goal.returns
+returns c = walked_end c.loop-at.invariant c.loop-at-test.false

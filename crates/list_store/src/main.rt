@@ -1,6 +1,10 @@
 // The listing program: 01, Listings and file steps, "reads an image from standard input, recovers it and writes" its listing. Where a read
-// fails it writes a message to standard error and no listing; where a write fails, a message. A program here has no exit status but 0.
+// fails it writes a message to standard error and no listing; where a write fails, a message. Its exit status is 0 in each case.
+#![tactic(auto)]
+
 ghost use Rattle.std.specs.Prelude.{◌≤◌, length};
+
+use std::io;
 
 // One byte more than an image may have, so that a longer input is seen to be one: it is refused with 1.
 const INPUT_ROOM: usize = basics::IMAGE_ROOM + 1;
@@ -9,24 +13,21 @@ const INPUT_ROOM: usize = basics::IMAGE_ROOM + 1;
 const LISTING_ROOM: usize = 19_113;
 
 // How many bytes were read, and whether every read went well.
-#[derive(Drop)]
+#[derive(Clone, Copy)]
 struct Input {
     len: usize,
     ok: bool,
 }
 
 // Reads until the input ends or the buffer is full; a read may give fewer bytes than there is room for.
-fn read_input(buf: &mut [u8]) -> Input
+fn read_input<R: io::Read>(reader: &mut R, buf: &mut [u8]) -> Input
     ensures { result.len ≤ length buf.new }
 {
     let mut n: usize = 0;
     while n < buf.len() {
-        let part = &mut buf[n..];
-        let got = libc::read(libc::STDIN_FILENO, part);
-        if got < 0 {
+        let Ok(more) = reader.read(&mut buf[n..]) else {
             return Input { len: n, ok: false };
-        }
-        let more = io::count(got, part);
+        };
         if more == 0 {
             return Input { len: n, ok: true };
         }
@@ -35,27 +36,21 @@ fn read_input(buf: &mut [u8]) -> Input
     Input { len: n, ok: true }
 }
 
-fn list(image: &[u8]) {
+fn list(rt: &(impl Print + Eprint), image: &[u8]) {
     let mut out = [0u8; LISTING_ROOM];
     let n = listing::listing(image, &mut out);
-    if !io::write_all(libc::STDOUT_FILENO, &out[..n]) {
-        io::write_all(
-            libc::STDERR_FILENO,
-            b"list_store: the listing could not be written\n",
-        );
+    if rt.write_all(&out[..n]).is_err() {
+        let _ = eprintln!(rt; "list_store: the listing could not be written");
     }
 }
 
-fn main() {
+fn main(rt: HostRuntime) {
     let mut buf = [0u8; INPUT_ROOM];
-    let input = read_input(&mut buf);
+    let input = read_input(&mut rt.reader(), &mut buf);
     let n = input.len;
     if input.ok {
-        list(&buf[..n]);
+        list(&rt, &buf[..n]);
     } else {
-        io::write_all(
-            libc::STDERR_FILENO,
-            b"list_store: the image could not be read\n",
-        );
+        let _ = eprintln!(&rt; "list_store: the image could not be read");
     }
 }

@@ -18,9 +18,13 @@
 //     0x09  the number, one byte
 //     0x0A  what was written to the output, 0x0B to the step's, absent where nothing was; 0x0C the pending word and 0x0D the cause, one byte
 //           each, likewise
+#![tactic(auto)]
+
 ghost use Rattle.std.specs.Prelude.{◌≡◌, ◌≤◌, ◌<◌, length};
 
 use field::Read;
+use std::rt::Files;
+use std::{fs, io};
 
 pub const TEXT: u8 = 0x40;
 
@@ -67,7 +71,7 @@ pub const UNTOUCHED_WORD: u32 = 0x5A5A_5A5A;
 pub const NO_ENTRY: u32 = 99;
 
 // A field's tag and the bounds of its value; without one the rest of the bytes is passed over.
-#[derive(Drop)]
+#[derive(Clone, Copy)]
 pub struct Part {
     pub there: bool,
     pub tag: u8,
@@ -86,7 +90,7 @@ const NOTHING: Part = Part {
 pub const MOST: u32 = 65_536;
 
 // The number, what the counters, the pending word and the cause hold, and whether every byte behind the written ones is as it was.
-#[derive(Drop)]
+#[derive(Clone, Copy)]
 pub struct Answer {
     pub number: u32,
     pub written: usize,
@@ -295,38 +299,55 @@ pub fn ask(q: &[u8], out: &mut [u8], step: &mut [u8]) -> Answer {
     }
 }
 
-// Opens a list; without it the message says so, and `read_next` reads nothing.
-pub fn open_list(path: &[u8]) -> i32 {
-    let fd = os::open_read(path);
-    if fd < 0 {
-        os::fail(path);
+// Opens a list; without it the message says so.
+pub fn open_list<R: Files + Eprint>(rt: &R, path: &str) -> Option<R::File> {
+    match fs::open(rt, path) {
+        Ok(list) => Some(list),
+        Err(e) => {
+            let _ = eprintln!(rt; "{path}: {e}");
+            None
+        }
     }
-    fd
 }
 
-fn broken() -> Part {
-    io::write_all(libc::STDERR_FILENO, b"the list breaks off\n");
+fn broken(rt: &impl Eprint) -> Part {
+    let _ = eprintln!(rt; "the list breaks off");
     NOTHING
 }
 
-fn read_value(fd: i32, buf: &mut [u8], n: usize) -> usize {
+// Reads until the buffer is full, the list ends or a read fails; how many bytes stand at the front of the buffer then.
+fn read_full<R: io::Read>(list: &mut R, buf: &mut [u8]) -> usize
+    ensures { result ≤ length buf.new }
+{
+    let mut n: usize = 0;
+    while n < buf.len() {
+        let more = list.read(&mut buf[n..]).unwrap_or(0);
+        if more == 0 {
+            return n;
+        }
+        n += more;
+    }
+    n
+}
+
+fn read_value<R: io::Read>(list: &mut R, buf: &mut [u8], n: usize) -> usize {
     let m = least(n, buf.len());
-    io::read_full(fd, &mut buf[..m])
+    read_full(list, &mut buf[..m])
 }
 
 // The next field of an open list. Its value stands at the start of the buffer.
-pub fn read_next(fd: i32, buf: &mut [u8; 65536]) -> Part {
+pub fn read_next<R: io::Read>(rt: &impl Eprint, list: &mut R, buf: &mut [u8; 65536]) -> Part {
     let mut head = [0u8; 3];
-    let got = io::read_full(fd, &mut head);
+    let got = read_full(list, &mut head);
     if got == 0 {
         return NOTHING;
     }
     if got < 3 {
-        return broken();
+        return broken(rt);
     }
     let n = field::le16(head[1], head[2]) as usize;
-    if read_value(fd, buf, n) < n {
-        return broken();
+    if read_value(list, buf, n) < n {
+        return broken(rt);
     }
     Part {
         there: true,

@@ -1,8 +1,11 @@
 // Asks the exported entries the questions of data/answers and compares each answer whole: number, output, step field, pending word, cause,
 // every byte behind. Prints how many are equal by entry and number, and which question differs first. data/README.md says how the list was made.
+#![tactic(auto)]
+
 mod tally;
 
 use questions::Answer;
+use std::io;
 use tally::Tally;
 
 // The fields of an answer.
@@ -27,10 +30,7 @@ fn is_written(q: &[u8], tag: u8, out: &[u8], written: usize) -> bool {
         if out.len() < written {
             return false;
         }
-        return check::same(
-            wal::payload(q, p.start, p.end),
-            wal::payload(out, 0, written),
-        );
+        return wal::payload(q, p.start, p.end) == wal::payload(out, 0, written);
     }
     written == questions::UNTOUCHED
 }
@@ -81,11 +81,11 @@ fn counted(t: Tally, tag: u8, buf: &[u8; 65536], len: usize) -> Tally {
     }
 }
 
-fn run(list: i32) -> Tally {
+fn run<R: io::Read>(rt: &impl Eprint, list: &mut R) -> Tally {
     let mut t = tally::empty();
-    let mut buf = io::large_buffer();
-    for k in 0..questions::MOST {
-        let p = questions::read_next(list, &mut buf);
+    let mut buf = [0u8; 65536];
+    for _ in 0..questions::MOST {
+        let p = questions::read_next(rt, list, &mut buf);
         if !p.there {
             return t;
         }
@@ -94,6 +94,10 @@ fn run(list: i32) -> Tally {
     t
 }
 
-fn main() {
-    tally::print(run(questions::open_list(b"answers")));
+fn main(rt: HostRuntime) -> io::Result<()> {
+    let t = match questions::open_list(&rt, "answers") {
+        Some(mut list) => run(&rt, &mut list),
+        None => tally::empty(),
+    };
+    tally::print(&rt, t)
 }

@@ -1,5 +1,5 @@
-//! Writes the declarations and the header, and links the static library: the one that CDA_LIB names, else the one that `rt
-//! staticlib cda_storage` writes; and `librotation.a` beside it, which `rt staticlib rotation` writes.
+//! Writes the declarations and the header, and links the static library: the one that CDA_LIB names, else the one that
+//! `tools/staticlib cda_storage` writes; and `librotation.a` beside it, which `tools/staticlib rotation` writes.
 mod list;
 #[path = "src/rooms.rs"]
 mod rooms;
@@ -32,7 +32,7 @@ fn main() {
         Ok(library) => link(&library),
         Err(error) if env::var_os("CARGO_FEATURE_REQUIRED").is_some() || named.is_some() => {
             println!(
-                "cargo::error={}: {error}. `rt staticlib cda_storage` makes the static library; CDA_LIB names another.",
+                "cargo::error={}: {error}. `tools/staticlib cda_storage` makes the static library; CDA_LIB names another.",
                 library.display()
             );
         }
@@ -60,7 +60,7 @@ fn link(library: &Path) {
     match rotation.canonicalize() {
         Ok(_) => println!("cargo::rustc-link-lib=static:+verbatim={ROTATION}"),
         Err(error) if env::var_os("CARGO_FEATURE_REQUIRED").is_some() => {
-            println!("cargo::error={}: {error}. `rt staticlib rotation` makes this library.", rotation.display());
+            println!("cargo::error={}: {error}. `tools/staticlib rotation` makes this library.", rotation.display());
         }
         Err(_) => {}
     }

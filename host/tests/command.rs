@@ -505,9 +505,9 @@ fn a_log_is_written_in_one_way() {
     place.fails(64, "log --restore store", "log has no --restore");
 }
 
-/// The program that step traces are run through, where it was built: `rt check step_trace` makes it.
+/// The program that step traces are run through, where it was built: `rt run` in its crate's folder makes it.
 fn step_trace(trace: &[u8]) -> Option<String> {
-    let program = PathBuf::from(env!("CARGO_MANIFEST_DIR")).join("../target/bin/step_trace");
+    let program = PathBuf::from(env!("CARGO_MANIFEST_DIR")).join("../crates/step_trace/out/step_trace");
     let mut run = Command::new(program).stdin(Stdio::piped()).stdout(Stdio::piped()).spawn().ok()?;
     run.stdin.take().unwrap().write_all(trace).unwrap();
     Some(String::from_utf8(run.wait_with_output().unwrap().stdout).unwrap())

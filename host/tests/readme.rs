@@ -39,7 +39,7 @@ const LEAVE: &str = "cd \"$(mktemp -d)\"";
 
 /// What the test does itself: one folder is the clone, another the page's own, and `run` has the shell's settings.
 fn is_given(command: &str) -> bool {
-    let built = command.starts_with("rt staticlib ") && library().exists();
+    let built = command.starts_with("tools/staticlib ") && library().exists();
     built || ["git clone ", "cd ", "export "].iter().any(|start| command.starts_with(start))
 }
 

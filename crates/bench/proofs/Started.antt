@@ -8,8 +8,7 @@ use lib.ListN.{length, length-append}
 use Rattle.basics.specs.Name.{backup_extension, backup_name}
 use Rattle.spans.specs.Spans.{name_of, length_of, Sound, Names, Backup}
 use Rattle.spans.specs.declared.NameRef.{NameRef}
-use Rattle.spans.specs.declared.BackupName.{BackupName}
-use Rattle.spans.specs.declared.BackupName.TheVariants.{Is}
+use Rattle.std.specs.Prelude.{Option, Some}
 use Rattle.spans.proofs.Parts.{length-name}
 use Rattle.basics.specs.Limits.{image_room}
 use Rattle.basics.specs.Base.{Bytes}
@@ -48,10 +47,10 @@ image-room src tree staging d h e = let s = store_of src (store_in tree staging 
 pub file-name : (src : Bytes) (r : NameRef) → Sound src r → (n : ℕ) → n ≡ length_of r → 0 < n → FileName src r
 file-name src r s n e h = record { sound = s; some = omega arith }
 
-pub backup-name : (src : Bytes) (r q : NameRef) (b : BackupName) → Backup src r b → b ≡ Is q → FileName src q
+pub backup-name : (src : Bytes) (r q : NameRef) (b : Option NameRef) → Backup src r b → b ≡ Some q → FileName src q
 unfolding backup_name
 backup-name src r q b k e =
-    let n : Names src q (backup_name (name_of src r)) = subst (λ (x : BackupName). Backup src r x) e k in
+    let n : Names src q (backup_name (name_of src r)) = subst (λ (x : Option NameRef). Backup src r x) e k in
     let l = length-name n.sound in
     let m = ap length n.same in
     let a = length-append (name_of src r) (0x2E ∷ backup_extension) in

@@ -5,7 +5,7 @@ ghost use Rattle.spans.specs.Spans.{Sound};
 ghost use Rattle.store.specs.Stores.{store_in};
 ghost use Rattle.steps.specs.Steps.{Fits, SoundStep, FileName};
 
-use spans::{BackupName, NameRef};
+use spans::NameRef;
 use steps::Step;
 use store::{Nodes, Store};
 use wal::Tail;
@@ -93,7 +93,7 @@ pub extern "C" fn bench_rename(image: &[u8], at: usize, rounds: u32) -> u64 {
             if 0 < spans::length_of(file) {
                 let b = spans::backup(image, file);
                 match b {
-                    BackupName::Is(backup) => renames(
+                    Some(backup) => renames(
                         image,
                         &mut tree,
                         &mut staging,
@@ -103,7 +103,7 @@ pub extern "C" fn bench_rename(image: &[u8], at: usize, rounds: u32) -> u64 {
                         backup,
                         rounds,
                     ),
-                    BackupName::TooLong => 0,
+                    None => 0,
                 }
             } else {
                 0
@@ -192,7 +192,7 @@ pub extern "C" fn bench_rename_dir(image: &[u8], at: usize, rounds: u32) -> u64 
     }
     let x = store::node_at(&tree, at);
     let a = x.dir;
-    let BackupName::Is(b) = spans::backup(image, a) else {
+    let Some(b) = spans::backup(image, a) else {
         return 0;
     };
     attempts(

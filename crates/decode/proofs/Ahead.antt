@@ -2,23 +2,20 @@
 use mathlib.Core.Path.{◌≡◌, refl, sym, ◌∙◌}
 use mathlib.Core.List.{List, [], ◌∷◌}
 use mathlib.Core.Option.{Option, none, some}
-use mathlib.Core.Logic.{inl, inr}
+use Rattle.std.specs.Prelude.{Result, Err}
 use Prim.Native.Nat.{ℕ, ◌+◌, ◌-◌, ◌≤◌}
 use native.Mathlib.Omega.{arith}
 use native.Mathlib.Decide.{dec_le}
 use lib.ListN.{length, take, drop, length-drop}
-use types.Run.{OneOf}
-use denote.Enum.Declared.{tag_of}
 use Rattle.basics.specs.Base.{Bytes, case_option}
 use Rattle.basics.specs.Field.{Field, from_little_endian, fields_from}
 use Rattle.basic_laws.specs.ListLaws.{part_length}
 use Rattle.basic_laws.specs.Tests.{nil≢cons}
 use Rattle.basic_laws.specs.MapLaws.{none≢some, some_inj}
 use Rattle.field.specs.declared.Item.{Item}
-use Rattle.field.specs.declared.Read.{Read}
-use Rattle.field.specs.declared.Read.TheVariants.{Is, NoHeader, NoValue}
-use Rattle.field.specs.contracts.Read.{the_type}
-use Rattle.field.specs.Reading.{field_of, Stands, Reads}
+use Rattle.field.specs.declared.Broken.{Broken}
+use Rattle.field.specs.declared.Broken.TheVariants.{NoHeader, NoValue}
+use Rattle.field.specs.Reading.{field_of, Stands, Headless, Reads}
 use Rattle.decode.specs.Reading.{Ahead}
 
 -- The value of the field whose bounds an item holds.
@@ -42,16 +39,13 @@ pub first : {src : Bytes} {at : ℕ} {x : Item} {fs : List Field} → Stands src
 first {src} {at} {x} s a = one_more (fields_from 0 (drop x.end src)) (field_of src x) (sym s.fields ∙ a)
 
 -- None does: either the bytes end there, or they are no fields.
-pub nothing : (src : Bytes) (at : ℕ) (r : Read) {fs : List Field} → Reads src at r → OneOf (1 ∷ 2 ∷ []) (tag_of the_type r) → Ahead src at fs → fs ≡ []
-unfolding Reads
-nothing src at (Is x) h (inl e) a = absurd (omega arith)
-nothing src at (Is x) h (inr e) a = absurd (omega arith)
-nothing src at NoHeader {fs} h k a = go (dec_le (length src) at)
+pub nothing : (src : Bytes) (at : ℕ) (r : Result Item Broken) {fs : List Field} → Reads src at r → (b : Broken) → r ≡ Err b → Ahead src at fs → fs ≡ []
+nothing src at r {fs} h NoHeader e a = go (rw e at h) (dec_le (length src) at)
   where
-    go : Dec (length src ≤ at) → fs ≡ []
-    go (yes l) = some_inj (sym a ∙ h.ended l)
-    go (no l) = none≢some (sym (h.fields (omega arith)) ∙ a)
-nothing src at NoValue h k a = none≢some (sym h.fields ∙ a)
+    go : Headless src at → Dec (length src ≤ at) → fs ≡ []
+    go s (yes l) = some_inj (sym a ∙ s.ended l)
+    go s (no l) = none≢some (sym (s.fields (omega arith)) ∙ a)
+nothing src at r h NoValue e a = none≢some (sym (rw e at h).fields ∙ a)
 
 -- No field is left only at the end.
 none_left : (l : Bytes) → fields_from 0 l ≡ some [] → length l ≡ 0

@@ -1,19 +1,16 @@
 -- What stands behind the last node of a listing, by the field's tag.
+use Rattle.std.specs.Prelude.{Result, Ok, Err}
 use mathlib.Core.Path.{◌≡◌, refl, sym, ap, subst, ◌∙◌}
 use mathlib.Core.Bool.{Bool, true, false}
 use mathlib.Core.List.{[], ◌∷◌}
 use Prim.Native.Nat.{ℕ, ◌≤◌}
 use lib.ListN.{length}
-use types.Run.{OneOf}
-use denote.Enum.Declared.{tag_of}
 use borrow.Author.Tests.{ne_eqb}
 use Rattle.basics.specs.Limits.{image_room}
 use Rattle.basics.specs.Base.{Bytes}
 use Rattle.laws.specs.ImageLaws.{node-parts}
 use Rattle.field.specs.declared.Item.{Item}
-use Rattle.field.specs.declared.Read.{Read}
-use Rattle.field.specs.declared.Read.TheVariants.{Is}
-use Rattle.field.specs.contracts.Read.{the_type}
+use Rattle.field.specs.declared.Broken.{Broken}
 use Rattle.field.specs.Reading.{Reads}
 use Rattle.field.proofs.Fields.{is_field}
 use Rattle.spans.specs.Spans.{name_of, length_of}
@@ -27,10 +24,10 @@ use Rattle.decode.proofs.Nodes.{tree-filed}
 use Rattle.decode.proofs.Steps.{broken}
 
 -- No field stands there.
-pub no_field : {staged : Bool} {src : Bytes} {p : Spot} (r : Read) → Reads src p.next r → OneOf (1 ∷ 2 ∷ []) (tag_of the_type r) → Stops staged src p
-no_field {staged} {src} {p} r h k = record { here = λ fs a. rw (nothing src p.next r h k a) }
+pub no_field : {staged : Bool} {src : Bytes} {p : Spot} (r : Result Item Broken) → Reads src p.next r → (b : Broken) → r ≡ Err b → Stops staged src p
+no_field {staged} {src} {p} r h b e = record { here = λ fs a. rw (nothing src p.next r h b e a) }
 
-module _ {staged : Bool} {src : Bytes} {p : Spot} {r : Read} {x : Item} (short : length src ≤ image_room) (s : SoundSpot staged src p) (h : Reads src p.next r) (e : r ≡ Is x) where
+module _ {staged : Bool} {src : Bytes} {p : Spot} {r : Result Item Broken} {x : Item} (short : length src ≤ image_room) (s : SoundSpot staged src p) (h : Reads src p.next r) (e : r ≡ Ok x) where
   pub at_field : {b : Bool} {t : ℕ} → staged ≡ b → x.tag ≡ t → AtField b src p x t
   at_field {b} w z = record { short = short; spot = subst (λ (y : Bool). SoundSpot y src p) w s; stands = is_field src p.next r h x e; tag = z }
 

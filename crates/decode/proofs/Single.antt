@@ -1,4 +1,5 @@
 -- The parts of an image that are one field or none: the log and the open mark.
+use Rattle.std.specs.Prelude.{Result, Err}
 use mathlib.Core.Path.{◌≡◌, refl, sym, ap, ◌∙◌}
 use mathlib.Core.Bool.{Bool, true, false, false≢true}
 use mathlib.Core.List.{List, [], ◌∷◌, ◌++◌, append-nil}
@@ -8,8 +9,6 @@ use Prim.Native.Nat.{ℕ, ◌-◌, ◌≤◌, ◌<◌}
 use native.Mathlib.Omega.{arith}
 use lib.Dec.{eqb}
 use lib.ListN.{length, drop}
-use types.Run.{OneOf}
-use denote.Enum.Declared.{tag_of}
 use borrow.Author.Tests.{eq-eqb, ne_eqb}
 use Rattle.basics.specs.Limits.{log_limit}
 use Rattle.basics.specs.Base.{Bytes}
@@ -17,8 +16,7 @@ use Rattle.basics.specs.Field.{Field, encode_field, encode_fields}
 use Rattle.model.specs.Image.{log_field, mark_field}
 use Rattle.laws.specs.StoreLaws.{LogFits}
 use Rattle.field.specs.declared.Item.{Item}
-use Rattle.field.specs.declared.Read.{Read}
-use Rattle.field.specs.contracts.Read.{the_type}
+use Rattle.field.specs.declared.Broken.{Broken}
 use Rattle.field.specs.Reading.{field_of, Stands}
 use Rattle.field.specs.Reading as reading
 use Rattle.field.specs.Writing.{field}
@@ -70,8 +68,8 @@ module _ {X : Type 0} {fields : X → List Field} {tag : ℕ} {no : X} (i : Sing
       go y fs a (inl e) = (refl, (e, rw (e, i.absent) at a))
       go y fs a (inr v) = absurd (false≢true (sym (h (field tag v.0 ∷ fs) (rw v.1 at a)) ∙ eq-eqb tag tag refl))
 
-  pub ended : (r : Read) → reading.Reads src at r → OneOf (1 ∷ 2 ∷ []) (tag_of the_type r) → Formed no → Reads fields Formed (λ t. eqb t tag) src at true no at
-  ended r h k f = missing f (λ fs a. rw (nothing src at r h k a))
+  pub ended : (r : Result Item Broken) → reading.Reads src at r → (b : Broken) → r ≡ Err b → Formed no → Reads fields Formed (λ t. eqb t tag) src at true no at
+  ended r h b e f = missing f (λ fs a. rw (nothing src at r h b e a))
 
   module _ {x : Item} (s : Stands src at x) where
     pub other : (x.tag ≡ tag → ⊥) → Formed no → Reads fields Formed (λ t. eqb t tag) src at true no at

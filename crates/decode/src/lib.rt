@@ -8,8 +8,8 @@ ghost use Rattle.decode.specs.Listing.{file_tag, files_of, is_below};
 ghost use Rattle.decode.specs.Spots.{SoundSpot, Comes, AtField, InDir};
 ghost use Rattle.decode.specs.Decoding.{ReadsNodes, ReadsLog, ReadsMark, Decodes};
 
-use field::{Item, Read};
-use spans::{NameRef, Order};
+use field::Item;
+use spans::NameRef;
 use store::{LogRef, Node, Nodes, Store};
 
 const NO_LOG: LogRef = LogRef {
@@ -80,12 +80,7 @@ fn is_below(src: &[u8], a: NameRef, b: NameRef) -> bool
     requires { Sound src.now a × Sound src.now b }
     ensures { result ≡ is_below (name_of src.now a) (name_of src.now b) }
 {
-    let o = spans::compare(src, a, b);
-    match o {
-        Order::Less => true,
-        Order::Equal => false,
-        Order::Greater => false,
-    }
+    spans::compare(src, a, b).is_lt()
 }
 
 // A directory: "0x10 (name)".
@@ -103,7 +98,7 @@ fn dir_at(src: &[u8], last: Spot, x: Item) -> Next
         return Next::Broken;
     }
     let name = spans::span(src, start, end - start);
-    let none = spans::empty();
+    let none = spans::EMPTY;
     let node = last.node;
     let dir = node.dir;
     if !is_below(src, dir, name) {
@@ -169,7 +164,7 @@ fn next_node(src: &[u8], last: Spot, staged: bool) -> Next
 {
     let at = last.next;
     let r = field::read_field(src, at);
-    let Read::Is(x) = r else {
+    let Ok(x) = r else {
         return Next::Other;
     };
     let tag = x.tag;
@@ -200,7 +195,7 @@ fn read_nodes(src: &[u8], at: usize, staged: bool, t: &mut Nodes) -> NodesPart
     ensures { ReadsNodes staged src.now at t.new result }
 {
     *t = [[0u32; 3]; store::ROOM];
-    let none = spans::empty();
+    let none = spans::EMPTY;
     let mut last = Spot {
         node: Node {
             dir: none,
@@ -245,7 +240,7 @@ fn read_log(src: &[u8], at: usize) -> LogPart
     ensures { ReadsLog src.now at result }
 {
     let r = field::read_field(src, at);
-    let Read::Is(x) = r else {
+    let Ok(x) = r else {
         return LogPart {
             ok: true,
             log: NO_LOG,
@@ -287,7 +282,7 @@ fn read_mark(src: &[u8], at: usize) -> MarkPart
     ensures { ReadsMark src.now at result }
 {
     let r = field::read_field(src, at);
-    let Read::Is(x) = r else {
+    let Ok(x) = r else {
         return MarkPart {
             ok: true,
             mark: false,

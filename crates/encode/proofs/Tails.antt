@@ -2,7 +2,7 @@
 use mathlib.Core.Path.{◌≡◌, refl, sym, ap, subst, ◌∙◌}
 use mathlib.Core.Bool.{true, false}
 use mathlib.Core.List.{◌++◌}
-use Prim.Native.Nat.{ℕ, ◌+◌, ◌%◌, ◌≤◌}
+use Prim.Native.Nat.{ℕ, ◌+◌, ◌/◌, ◌%◌, ◌≤◌}
 use native.Mathlib.Omega.{arith}
 use lib.ListN.{length, take, length-append}
 use Rattle.basics.specs.Base.{Bytes}
@@ -11,7 +11,6 @@ use Rattle.model.specs.Operation.{encode_payload}
 use Rattle.model.specs.Log.{header, entry, append_operation}
 use Rattle.field.specs.Writing.{written, Writes, field, written_field}
 use Rattle.field.proofs.Written.{written-nil, written-before, field-short}
-use Rattle.field.proofs.Numbers.{four_bytes}
 use Rattle.store.specs.declared.LogRef.{LogRef}
 use Rattle.store.specs.Stores.{log_bytes, SoundLog}
 use Rattle.transaction.specs.declared.Operation.{Operation}
@@ -27,7 +26,10 @@ use Rattle.encode.proofs.Shapes.{header-length, log-absent, log_value, log-stand
 -- Two bytes hold no more of a number.
 pub low-bytes : (n : ℕ) → little_endian 2 (n % 0x1_0000) ≡ little_endian 2 n
 unfolding little_endian
-low-bytes n = ap (take 2) (four_bytes n)
+low-bytes n =
+    let low : n % 0x1_0000 % 0x100 ≡ n % 0x100 = omega arith in
+    let high : n % 0x1_0000 / 0x100 % 0x100 ≡ n / 0x100 % 0x100 = omega arith in
+    rw (low, high)
 
 -- The header of a new log.
 pub new-header : (at : ℕ) (out : Bytes) {h end : Bytes} → h ≡ header 0 → end ≡ written_field at (field 0x13 h) out → end ≡ written at (encode_field (field 0x13 (header 0))) out

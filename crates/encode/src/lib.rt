@@ -26,12 +26,6 @@ use store::{LogRef, Node, Nodes, Store};
 use transaction::Operation;
 use wal::Tail;
 
-fn wide(x: u16) -> usize
-    ensures { (result ≡ x) × (result < 65536) }
-{
-    x as usize
-}
-
 // How much of a log of `len` bytes its header is (wal.rs, `WAL_FILE_HEADER_SIZE`).
 fn header_of(len: usize) -> usize
     ensures { (result ≤ 8) × ((result ≤ len) × (len - result ≡ len - 8)) }
@@ -68,7 +62,7 @@ fn log_size(l: LogRef) -> usize
     if !l.stands {
         return 0;
     }
-    let n = wide(l.len);
+    let n = usize::from(l.len);
     if l.status != 0 {
         return 11 + (n - header_of(n));
     }
@@ -81,7 +75,7 @@ fn put_numbered(src: &[u8], name: NameRef, number: u32, out: &mut [u8], at: usiz
     ensures { out.new ≡ written at (encode_field (field tag (little_endian 4 number ++ name_of src.now name))) out.old }
 {
     let n = spans::length_of(name);
-    if 7 + n <= field::left(out.len(), at) {
+    if 7 + n <= out.len().saturating_sub(at) {
         field::put_field_head(out, at, tag, (4 + n) as u16);
         field::put_u32(out, at + 3, number);
         names::put_name(src, name, out, at + 7);
@@ -151,7 +145,7 @@ fn put_marked(
     let n = len - h;
     let rest = start + h;
     let end = start + len;
-    if 11 + n <= field::left(out.len(), at) {
+    if 11 + n <= out.len().saturating_sub(at) {
         field::put_field_head(out, at, 0x13, low(8 + n + more));
         wal::rewrite_header(status, out, at + 3);
         field::put_bytes(out, at + 11, &src[rest..end]);
@@ -166,15 +160,15 @@ fn put_log(src: &[u8], l: LogRef, more: usize, out: &mut [u8], at: usize)
     if !l.stands {
         return;
     }
-    let start = wide(l.start);
-    let len = wide(l.len);
+    let start = usize::from(l.start);
+    let len = usize::from(l.len);
     let status = l.status;
     if status != 0 {
         put_marked(src, start, len, status, more, out, at);
         return;
     }
     let end = start + len;
-    if 3 + len <= field::left(out.len(), at) {
+    if 3 + len <= out.len().saturating_sub(at) {
         field::put_field_head(out, at, 0x13, low(len + more));
         field::put_bytes(out, at + 3, &src[start..end]);
     }

@@ -9,16 +9,14 @@ use native.Mathlib.Numerals.{add-one}
 use lib.ListN.{length, take, drop, get_or, length-drop, drop_of_length-le, take-append-drop}
 use lib.Seq.{drop-cons, drop-drop, length-take-le}
 use borrow.Author.Tests.{le-leb, lt-leb}
-use types.Run.{OneOf}
-use denote.Enum.Declared.{tag_of}
+use Rattle.std.specs.Prelude.{Result, Ok, Err}
 use Rattle.basics.specs.Base.{Bytes}
 use Rattle.basics.specs.Field.{little_endian, from_little_endian, encode_field, fields_from}
 use Rattle.basic_laws.specs.FieldLaws.{Byte, split-first, bytes-again}
 use Rattle.field.specs.Reading.{u32_at, field_of, Reads, Stands, Headless, Valueless}
 use Rattle.field.specs.declared.Item.{Item}
-use Rattle.field.specs.declared.Read.{Read}
-use Rattle.field.specs.declared.Read.TheVariants.{Is, NoHeader, NoValue}
-use Rattle.field.specs.contracts.Read.{the_type}
+use Rattle.field.specs.declared.Broken.{Broken}
+use Rattle.field.specs.declared.Broken.TheVariants.{NoHeader, NoValue}
 
 -- One byte and those behind it.
 next : (s : Bytes) (at k : ℕ) → k ≡ at + 1 → at < length s → drop at s ≡ get_or s at 0 ∷ drop k s
@@ -94,23 +92,11 @@ module _ {s : Bytes} {at : ℕ} where
           fields = rw bytes (split-first (field_of s x) (drop (at + 3 + n) s) (rw (k, size) (rw k at short)));
         }
 
--- What the arms of a `match` on the answer learn, and the `else` of a `let Read::Is(x) = ..` where bytes are left.
-module _ (s : Bytes) (at : ℕ) (r : Read) (h : Reads s at r) where
-  pub is_field : (x : Item) → r ≡ Is x → Stands s at x
-  unfolding Reads
+-- What the arms of a `match` on the answer learn, where bytes are left.
+module _ (s : Bytes) (at : ℕ) (r : Result Item Broken) (h : Reads s at r) where
+  pub is_field : (x : Item) → r ≡ Ok x → Stands s at x
   is_field x e = rw e at h
 
-  pub no_header : r ≡ NoHeader → Headless s at
-  unfolding Reads
-  no_header e = rw e at h
-
-  pub no_value : r ≡ NoValue → Valueless s at
-  unfolding Reads
-  no_value e = rw e at h
-
-pub no_field : (s : Bytes) (at : ℕ) (r : Read) → Reads s at r → OneOf (1 ∷ 2 ∷ []) (tag_of the_type r) → at < length s → fields_from 0 (drop at s) ≡ none
-unfolding Reads
-no_field s at (Is x) h (inl e) l = absurd (omega arith)
-no_field s at (Is x) h (inr e) l = absurd (omega arith)
-no_field s at NoHeader h k l = h.fields l
-no_field s at NoValue h k l = h.fields
+  pub no_field : (b : Broken) → r ≡ Err b → at < length s → fields_from 0 (drop at s) ≡ none
+  no_field NoHeader e l = (rw e at h).fields l
+  no_field NoValue e l = (rw e at h).fields

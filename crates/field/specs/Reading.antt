@@ -1,12 +1,12 @@
 -- What stands at a place. 01, How a store is handed over: "A field is a tag (1 byte), a length (2 bytes, little-endian) and that many
 -- value bytes."
-use Rattle.std.specs.Prelude.{◌≡◌, ℕ, ◌+◌, ◌-◌, ◌≤◌, ◌<◌, [], ◌∷◌, ◌++◌, length, take, drop, leb, if◌then◌else◌}
+use Rattle.std.specs.Prelude.{◌≡◌, ℕ, ◌+◌, ◌-◌, ◌≤◌, ◌<◌, [], ◌∷◌, ◌++◌, length, take, drop, leb, if◌then◌else◌, Result, Ok, Err}
 use Rattle.std.proofs.Math.Option.{none, some}
 use Rattle.basics.specs.Base.{Bytes, case_option}
 use Rattle.basics.specs.Field.{Field, from_little_endian, encode_field, fields_from}
 use Rattle.field.specs.declared.Item.{Item}
-use Rattle.field.specs.declared.Read.{Read}
-use Rattle.field.specs.declared.Read.TheVariants.{Is, NoHeader, NoValue}
+use Rattle.field.specs.declared.Broken.{Broken}
+use Rattle.field.specs.declared.Broken.TheVariants.{NoHeader, NoValue}
 
 -- The number of the four bytes at a place, little-endian; 0 where they are not all there.
 unfoldable pub u32_at : Bytes → ℕ → ℕ
@@ -38,7 +38,7 @@ pub record Valueless (s : Bytes) (at : ℕ) : Type 0 where
   pub fields : fields_from 0 (drop at s) ≡ none
 
 -- What an answer of `read_field` says.
-unfoldable pub Reads : Bytes → ℕ → Read → Type 0
-Reads s at (Is x) = Stands s at x
-Reads s at NoHeader = Headless s at
-Reads s at NoValue = Valueless s at
+abbrev pub Reads : Bytes → ℕ → Result Item Broken → Type 0
+Reads s at (Ok x) = Stands s at x
+Reads s at (Err NoHeader) = Headless s at
+Reads s at (Err NoValue) = Valueless s at

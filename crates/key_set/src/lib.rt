@@ -20,7 +20,6 @@ ghost use Rattle.answers.specs.Answers.{delete_keys};
 ghost use Rattle.key_set.specs.Deleting.{Deletes, Reads, Fills, Ready};
 ghost use Rattle.key_set.specs.Gathering.{key_count, set_in, lowered_in, Few, AreFields, Roomy, Lendable, PutsEntry, Gathers, more};
 
-use field::Read;
 use lend::Named;
 use store::{LogRef, Nodes, Store};
 use transaction::Operation;
@@ -47,12 +46,6 @@ pub struct Deleted {
     pub store: Store,
 }
 
-fn wide(x: u16) -> usize
-    ensures { (result ≡ x) × (result < 65536) }
-{
-    x as usize
-}
-
 // Whether two keys are the same in lower case. Names that are much alike differ at their ends, so this goes from behind.
 fn same_key(a: &[u8], b: &[u8]) -> bool
     ensures { result ≡ same_bytes (lower a.now) (lower b.now) }
@@ -63,7 +56,7 @@ fn same_key(a: &[u8], b: &[u8]) -> bool
     }
     let mut i: usize = n;
     while 0 < i {
-        if paths::lower_byte(a[i - 1]) != paths::lower_byte(b[i - 1]) {
+        if a[i - 1].to_ascii_lowercase() != b[i - 1].to_ascii_lowercase() {
             return false;
         }
         i -= 1;
@@ -78,7 +71,7 @@ fn count_keys(keys: &[u8]) -> usize
     let mut at: usize = 0;
     let mut n: usize = 0;
     while at < keys.len() {
-        let Read::Is(x) = field::read_field(keys, at) else {
+        let Ok(x) = field::read_field(keys, at) else {
             return 0;
         };
         if x.tag != KEY_TAG {
@@ -97,7 +90,7 @@ fn is_repeated(before: &[u8], key: &[u8]) -> bool
 {
     let mut at: usize = 0;
     while at < before.len() {
-        let Read::Is(x) = field::read_field(before, at) else {
+        let Ok(x) = field::read_field(before, at) else {
             return false;
         };
         let from = x.start;
@@ -169,7 +162,7 @@ fn gather(keys: &[u8], names: &mut [u8], c: Named, out: &mut [u8], at: usize) ->
     };
     let mut next: usize = 0;
     while next < keys.len() {
-        let Read::Is(x) = field::read_field(keys, next) else {
+        let Ok(x) = field::read_field(keys, next) else {
             return g;
         };
         let from = x.start;
@@ -235,8 +228,8 @@ fn fill(src: &mut [u8], image: &[u8], l: LogRef, collection: &[u8], keys: &[u8])
     requires { (Few keys.now × SoundLog image.now l) × ((length image.now + l.len + 4672 ≤ length src.old) × (length src.old ≤ 0xFFFF)) }
     ensures { Fills image.now l collection.now keys.now src.old src.new result }
 {
-    let start = wide(l.start);
-    let len = wide(l.len);
+    let start = usize::from(l.start);
+    let len = usize::from(l.len);
     let end = start + len;
     let at = image.len();
     field::put_bytes(src, 0, image);

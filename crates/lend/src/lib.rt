@@ -22,7 +22,7 @@ pub fn not_valid(at: usize) -> Named
 {
     Named {
         valid: false,
-        name: spans::empty(),
+        name: spans::EMPTY,
         end: at,
     }
 }

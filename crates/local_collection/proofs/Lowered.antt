@@ -4,15 +4,15 @@ use mathlib.Core.List.{◌∷◌}
 use mathlib.Core.Bool.{Bool, true, false}
 use Prim.Native.Nat.{ℕ, ◌+◌, ◌-◌, ◌≤◌, ◌<◌}
 use native.Mathlib.Omega.{arith}
+use native.Mathlib.Numerals.{add-one}
 use lib.ListN.{length, get_or, take}
-use lib.Seq.{take-length}
+use lib.Seq.{take-length, take-suc}
 use Rattle.basics.specs.Base.{Bytes, same_bytes}
 use Rattle.basics.specs.Name.{lower_byte, lower}
 use Rattle.basics.specs.Field.{little_endian, encode_field}
 use Rattle.basic_laws.specs.Tests.{same-eq, same_refl}
 use Rattle.field.specs.Writing.{written, field}
 use Rattle.field.proofs.Written.{written_none, encoded_length, field-short, field-written}
-use Rattle.paths.proofs.Prefix.{Agree, agree, next}
 use Rattle.paths.proofs.Lower.{length-lower, lower-at}
 use Rattle.spans.specs.Spans.{name_of, length_of, Sound}
 use Rattle.spans.specs.declared.NameRef.{NameRef}
@@ -37,14 +37,14 @@ pub record Matching (src : Bytes) (file key : NameRef) (n i : ℕ) : Type 0 wher
   pub long : n ≡ length_of file
   pub alike : n ≡ length_of key
   pub within : i ≤ n
-  pub same : Agree (lower (name_of src file)) (name_of src key) i
+  pub same : take i (lower (name_of src file)) ≡ take i (name_of src key)
 
 module _ {src : Bytes} {file key : NameRef} (f : Sound src file) (k : Sound src key) {n m : ℕ} (e : n ≡ length_of file) (q : m ≡ length_of key) where
   pub other_length : (n ≡ m → ⊥) → false ≡ same_bytes (lower (name_of src file)) (name_of src key)
   other_length h = apart (lower (name_of src file)) (name_of src key) (λ p. h (e ∙ sym (length-lowered f) ∙ ap length p ∙ length-name k ∙ sym q))
 
   pub matching : n ≡ m → Matching src file key n 0
-  matching h = record { file-sound = f; key-sound = k; long = e; alike = h ∙ q; within = omega arith; same = agree _ _ }
+  matching h = record { file-sound = f; key-sound = k; long = e; alike = h ∙ q; within = omega arith; same = refl }
 
 module _ {src : Bytes} {file key : NameRef} {n i : ℕ} (w : Matching src file key n i) where
   module _ {a b x : ℕ} (h : i < n) (p : a ≡ get_or (name_of src file) i 0) (l : x ≡ lower_byte a) (q : b ≡ get_or (name_of src key) i 0) where
@@ -61,7 +61,10 @@ module _ {src : Bytes} {file key : NameRef} {n i : ℕ} (w : Matching src file k
       long = w.long;
       alike = w.alike;
       within = omega arith;
-      same = next w.same (omega (arith, length-lowered w.file-sound, w.long)) (omega (arith, length-name w.key-sound, w.alike)) (sym low ∙ e ∙ q);
+      same =
+          let l : i < length (lower (name_of src file)) = omega (arith, length-lowered w.file-sound, w.long) in
+          let r : i < length (name_of src key) = omega (arith, length-name w.key-sound, w.alike) in
+          rw (add-one, take-suc (lower (name_of src file)) i 0 l, take-suc (name_of src key) i 0 r, w.same, ← low, e, q);
     }
 
   pub all_same : n ≤ i → true ≡ same_bytes (lower (name_of src file)) (name_of src key)
@@ -70,7 +73,7 @@ module _ {src : Bytes} {file key : NameRef} {n i : ℕ} (w : Matching src file k
       let b : i ≡ length (name_of src key) = omega (arith, length-name w.key-sound, w.alike, w.within) in
       let e : lower (name_of src file) ≡ name_of src key
       = sym (ap (λ (k : ℕ). take k (lower (name_of src file))) a ∙ take-length (lower (name_of src file)))
-      ∙ w.same.same
+      ∙ w.same
       ∙ ap (λ (k : ℕ). take k (name_of src key)) b
       ∙ take-length (name_of src key) in
       sym (rw e (same_refl (name_of src key)))

@@ -39,7 +39,7 @@ fn lowers_to(src: &[u8], file: NameRef, key: NameRef) -> bool
     let mut i: usize = 0;
     while i < n {
         let raw = spans::byte_at(src, file, i);
-        let low = paths::lower_byte(raw);
+        let low = raw.to_ascii_lowercase();
         if low != spans::byte_at(src, key, i) {
             return false;
         }
@@ -114,10 +114,10 @@ fn put_lower(src: &[u8], file: NameRef, out: &mut [u8], at: usize)
     ensures { out.new ≡ written at (lower (name_of src.now file)) out.old }
 {
     let n = spans::length_of(file);
-    if n <= field::left(out.len(), at) {
+    if n <= out.len().saturating_sub(at) {
         let mut i: usize = 0;
         while i < n {
-            out[at + i] = paths::lower_byte(spans::byte_at(src, file, i));
+            out[at + i] = spans::byte_at(src, file, i).to_ascii_lowercase();
             i += 1;
         }
     }
@@ -129,7 +129,7 @@ fn put_key(src: &[u8], file: NameRef, out: &mut [u8], at: usize) -> usize
     ensures { Puts (lower (name_of src.now file)) at out.old out.new result }
 {
     let n = spans::length_of(file);
-    if field::left(out.len(), at) < 3 + n {
+    if out.len().saturating_sub(at) < 3 + n {
         return 3 + n;
     }
     field::put_field_head(out, at, KEY_TAG, n as u16);

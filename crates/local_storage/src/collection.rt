@@ -19,7 +19,7 @@ fn can_stage(src: &[u8], t: &Nodes, n: usize, staged: NameRef, number: u32) -> b
     requires { SoundTable src.now (table_of t.now n) × Sound src.now staged }
     ensures { result ≡ can_stage (name_of src.now staged) number (map_of src.now (table_of t.now n)) }
 {
-    if store::exists(src, t, n, spans::empty(), staged) {
+    if store::exists(src, t, n, spans::EMPTY, staged) {
         return false;
     }
     if basics::STAGING_LIMIT <= n {
@@ -42,7 +42,7 @@ fn stage(src: &[u8], staging: &mut Nodes, s: Store, staged: NameRef, number: u32
         staging,
         s.staging,
         Node {
-            dir: spans::empty(),
+            dir: spans::EMPTY,
             file: staged,
             number: number,
         },

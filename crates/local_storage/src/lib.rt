@@ -54,12 +54,6 @@ pub struct Transaction {
     pub read: WalRead,
 }
 
-fn wide(x: u16) -> usize
-    ensures { (result ≡ x) × (result < 65536) }
-{
-    x as usize
-}
-
 // Whether the mark of an open transaction stands, with a log that is Recording.
 fn is_recording(src: &[u8], s: Store) -> bool
     requires { Readable src.now s.log }
@@ -117,8 +111,8 @@ pub fn open_transaction(src: &[u8], s: Store) -> Transaction
         };
     }
     let l = s.log;
-    let start = wide(l.start);
-    let end = start + wide(l.len);
+    let start = usize::from(l.start);
+    let end = start + usize::from(l.len);
     let read = wal::read_wal(src, start, end);
     let ending = read.ending;
     Transaction {

@@ -19,7 +19,7 @@ ghost use Rattle.transaction.specs.Operations.{op_of, SoundOp};
 ghost use Rattle.wal.specs.Logs.{ops_read, SoundRead};
 ghost use Rattle.operations.specs.Parts.{back_up_standing, back_up_standing_dir, make_missing, back_up_all, copy_all};
 
-use spans::{BackupName, NameRef};
+use spans::NameRef;
 use steps::{Run, Step};
 use store::Nodes;
 use transaction::Operation;
@@ -39,14 +39,8 @@ fn back_up(
 {
     let b = spans::backup(src, file);
     match b {
-        BackupName::Is(q) => steps::attempt(
-            src,
-            tree,
-            staging,
-            run,
-            Step::RenameFile(dir, file, q),
-        ),
-        BackupName::TooLong => steps::refuse(run),
+        Some(q) => steps::attempt(src, tree, staging, run, Step::RenameFile(dir, file, q)),
+        None => steps::refuse(run),
     }
 }
 
@@ -57,8 +51,8 @@ fn back_up_dir(src: &[u8], tree: &mut Nodes, staging: &mut Nodes, run: Run, dir:
 {
     let b = spans::backup(src, dir);
     match b {
-        BackupName::Is(q) => steps::attempt(src, tree, staging, run, Step::RenameDirectory(dir, q)),
-        BackupName::TooLong => steps::refuse(run),
+        Some(q) => steps::attempt(src, tree, staging, run, Step::RenameDirectory(dir, q)),
+        None => steps::refuse(run),
     }
 }
 

@@ -1,4 +1,3 @@
-pub mod Prefix
-pub mod Checks
-pub mod Endings
+pub mod Order
+pub mod Same
 pub mod Lower

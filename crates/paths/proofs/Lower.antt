@@ -1,9 +1,19 @@
 -- A key's bytes in lower case.
-use mathlib.Core.Path.{◌≡◌, sym}
+use mathlib.Core.Path.{◌≡◌, sym, ◌∙◌}
+use mathlib.Core.Bool.{Bool, true, false}
 use Prim.Native.Nat.{ℕ}
+use native.Mathlib.Omega.{arith}
+use lib.Dec.{ltb}
 use lib.ListN.{length, get_or, length-map, get_or-map}
+use Rattle.std.specs.Char.{to_ascii_lowercase}
+use Rattle.std.proofs.lemmas.Bool.Decides.{nat_tests}
 use Rattle.basics.specs.Base.{Bytes}
 use Rattle.basics.specs.Name.{lower_byte, lower}
+
+-- The library's byte in lower case.
+pub lowered : (b : ℕ) → to_ascii_lowercase b ≡ lower_byte b
+unfolding lower_byte
+lowered b = grind (arith, nat_tests)
 
 pub length-lower : (s : Bytes) → length (lower s) ≡ length s
 unfolding lower

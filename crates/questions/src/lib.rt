@@ -22,7 +22,6 @@
 
 ghost use Rattle.std.specs.Prelude.{◌≡◌, ◌≤◌, ◌<◌, length};
 
-use field::Read;
 use std::rt::Files;
 use std::{fs, io};
 
@@ -104,7 +103,7 @@ pub struct Answer {
 pub fn next(s: &[u8], at: usize) -> Part
     ensures { at < length s.now → at < result.end }
 {
-    let Read::Is(x) = field::read_field(s, at) else {
+    let Ok(x) = field::read_field(s, at) else {
         return Part {
             there: false,
             tag: 0,
@@ -345,7 +344,7 @@ pub fn read_next<R: io::Read>(rt: &impl Eprint, list: &mut R, buf: &mut [u8; 655
     if got < 3 {
         return broken(rt);
     }
-    let n = field::le16(head[1], head[2]) as usize;
+    let n = usize::from(u16::from_le_bytes([head[1], head[2]]));
     if read_value(list, buf, n) < n {
         return broken(rt);
     }

@@ -23,7 +23,7 @@ ghost use Rattle.recovery.specs.Recoveries.{log_part, refusal_of, recovery_from,
 
 pub mod search;
 
-use spans::{BackupName, NameRef, OriginalName};
+use spans::NameRef;
 use steps::{Run, Step};
 use store::{LogRef, Nodes, Store};
 use transaction::Operation;
@@ -36,8 +36,8 @@ fn has_backup(src: &[u8], t: &Nodes, n: usize, dir: NameRef, file: NameRef) -> b
 {
     let b = spans::backup(src, file);
     match b {
-        BackupName::Is(q) => store::exists(src, t, n, dir, q),
-        BackupName::TooLong => false,
+        Some(q) => store::exists(src, t, n, dir, q),
+        None => false,
     }
 }
 
@@ -48,8 +48,8 @@ fn has_backup_dir(src: &[u8], t: &Nodes, n: usize, dir: NameRef) -> bool
 {
     let b = spans::backup(src, dir);
     match b {
-        BackupName::Is(q) => store::dir_exists(src, t, n, q),
-        BackupName::TooLong => false,
+        Some(q) => store::dir_exists(src, t, n, q),
+        None => false,
     }
 }
 
@@ -282,7 +282,7 @@ fn restore_file(
 {
     let o = spans::original(src, file);
     match o {
-        OriginalName::Is(original) => {
+        Some(original) => {
             let cleared = clear_file(src, tree, staging, run, dir, original);
             steps::advance(
                 src,
@@ -292,7 +292,7 @@ fn restore_file(
                 Step::RenameFile(dir, file, original),
             )
         }
-        OriginalName::NotABackup => {
+        None => {
             if spans::is_tmp(src, file) {
                 return steps::advance(src, tree, staging, run, Step::RemoveFile(dir, file));
             }
@@ -341,7 +341,7 @@ fn restore_directory(
     }
     let o = spans::original(src, dir);
     match o {
-        OriginalName::Is(original) => {
+        Some(original) => {
             let cleared = clear_dir(src, tree, staging, run, original);
             steps::advance(
                 src,
@@ -351,7 +351,7 @@ fn restore_directory(
                 Step::RenameDirectory(dir, original),
             )
         }
-        OriginalName::NotABackup => restore_bak_files_in_dir(src, tree, staging, run, dir),
+        None => restore_bak_files_in_dir(src, tree, staging, run, dir),
     }
 }
 

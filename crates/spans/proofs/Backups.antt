@@ -1,4 +1,5 @@
 -- Backup names of spans, and their originals.
+use Rattle.std.specs.Prelude.{Some}
 use mathlib.Core.Path.{◌≡◌, refl, sym, ap, ◌∙◌}
 use mathlib.Core.List.{[], ◌∷◌}
 use mathlib.Core.Bool.{Bool, true, false, ◌&&◌}
@@ -18,7 +19,6 @@ use Rattle.basic_laws.specs.NameLaws.{ends_in, backup-test, backup-ends}
 use Rattle.basic_laws.specs.Tests.{and_both}
 use Rattle.spans.specs.Spans.{backups, name_of, length_of, Sound, Names, Original}
 use Rattle.spans.specs.declared.NameRef.{NameRef}
-use Rattle.spans.specs.declared.OriginalName.TheVariants as original
 use Rattle.spans.proofs.Parts.{dot_bak, length-backup, length-name}
 
 module _ {src : Bytes} {r : NameRef} (s : Sound src r) where
@@ -90,7 +90,7 @@ take-backup n =
 
 module _ {src : Bytes} {r : NameRef} (s : Sound src r) (h : is_backup (name_of src r) ≡ true) where
   -- One ".bak" less.
-  pub one_less : 0 < r.baks → Original src r (original.Is (record { start = r.start; len = r.len; baks = r.baks - 1 }))
+  pub one_less : 0 < r.baks → Original src r (Some (record { start = r.start; len = r.len; baks = r.baks - 1 }))
   unfolding name_of
   one_less b =
       let e : r.baks ≡ suc (r.baks - 1) = omega arith in (
@@ -102,11 +102,11 @@ module _ {src : Bytes} {r : NameRef} (s : Sound src r) (h : is_backup (name_of s
   enough e = omega (arith, backup-long (name_of src r) h, length-name s)
 
   -- Four bytes of the span less.
-  pub shorter : r.baks ≡ 0 → Original src r (original.Is (record { start = r.start; len = r.len - 4; baks = 0 }))
+  pub shorter : r.baks ≡ 0 → Original src r (Some (record { start = r.start; len = r.len - 4; baks = r.baks }))
   unfolding name_of
   shorter e =
       let l : length (name_of src r) ≡ r.len = length-name s ∙ omega arith in
       let part : name_of src r ≡ take r.len (drop r.start src) = rw e in (
         record { inside = omega (arith, s.inside); room = omega (arith, s.room) },
-        original-take (name_of src r) h ∙ ap some (rw (l, part) (take-take (r.len - 4) r.len (drop r.start src) (omega arith))),
+        original-take (name_of src r) h ∙ ap some (rw (l, part, e) (take-take (r.len - 4) r.len (drop r.start src) (omega arith))),
       )

@@ -10,15 +10,15 @@ use lib.Seq.{take-add, drop-drop}
 use borrow.Author.Tests.{ltb-true, ltb-false}
 use Rattle.basics.specs.Order.{then_cmp, cmp_nat, cmp_name}
 use Rattle.basics.specs.Base.{Bytes}
-use Rattle.basics.specs.Field.{from_little_endian}
+use Rattle.std.specs.Int.{w32, from_be_bytes}
 use Rattle.basic_laws.specs.OrderLaws.{nat_laws, cmp_less, cmp_greater}
 use Rattle.basic_laws.specs.Tests.{All}
 use Rattle.basic_laws.specs.FieldLaws.{Byte}
 use Rattle.field.proofs.Fields.{four}
 use Rattle.spans.specs.Spans.{onto, from_big_endian}
 
-pub four-there : (s : Bytes) (at : ℕ) → at + 4 ≤ length s → from_little_endian (get_or s (at + 3) 0 ∷ get_or s (at + 2) 0 ∷ get_or s (at + 1) 0 ∷ get_or s at 0 ∷ []) ≡ from_big_endian (take 4 (drop at s))
-unfolding from_little_endian from_big_endian onto
+pub four-there : (s : Bytes) (at : ℕ) → at + 4 ≤ length s → from_be_bytes w32 (get_or s at 0 ∷ get_or s (at + 1) 0 ∷ get_or s (at + 2) 0 ∷ get_or s (at + 3) 0 ∷ []) ≡ from_big_endian (take 4 (drop at s))
+unfolding from_big_endian onto
 four-there s at h = rw (four s at h) (omega arith)
 
 -- Two numbers of four bytes are one of eight.

@@ -1,19 +1,19 @@
 -- The length and the bytes of what a `NameRef` stands for.
 use mathlib.Core.Path.{◌≡◌, refl, sym, ap, ◌∙◌}
 use mathlib.Core.List.{[], ◌∷◌, ◌++◌}
-use mathlib.Core.Bool.{Bool, true, false}
+use mathlib.Core.Bool.{Bool, true, false, ◌&&◌}
 use Prim.Native.Nat.{ℕ, zero, suc, ◌+◌, ◌*◌, ◌-◌, ◌%◌, ◌≤◌, ◌<◌}
 use native.Mathlib.Omega.{arith}
 use lib.ListN.{length, take, drop, get_or, length-append, length-drop, get_or-append}
-use lib.Dec.{ltb}
+use lib.Dec.{ltb, eqb}
 use lib.Seq.{length-take-le, take-take, take-append-le, get_or-take, get_or-drop, get_or-append-add, drop-drop}
-use borrow.Author.Tests.{ltb-true, ltb-false}
+use borrow.Author.Tests.{ltb-true, ltb-false, eqb-true}
 use Rattle.basics.specs.Order.{Name}
 use Rattle.basics.specs.Base.{Bytes, same_bytes}
 use Rattle.basics.specs.Name.{backup_name, backup_extension}
 use Rattle.basic_laws.specs.ListLaws.{drop-take}
-use Rattle.basic_laws.specs.Tests.{same_refl}
-use Rattle.spans.specs.Spans.{backups, name_of, length_of, Sound}
+use Rattle.basic_laws.specs.Tests.{and_both, same_refl}
+use Rattle.spans.specs.Spans.{backups, name_of, length_of, Sound, Names}
 use Rattle.spans.specs.declared.NameRef.{NameRef}
 
 abbrev pub dot_bak : Name
@@ -90,7 +90,14 @@ module _ {src : Bytes} {r : NameRef} (s : Sound src r) where
       rw (e, ← (drop-drop i r.start src)) (sym (cut (name_of src r)) ∙ ap (drop i) (front (i + k) h) ∙ cut (drop r.start src))
 
 -- What stands at one place is the same name.
-pub same_place : (src : Bytes) (a b : NameRef) → a.start ≡ b.start → a.len ≡ b.len → a.baks ≡ b.baks
-    → true ≡ same_bytes (name_of src a) (name_of src b)
+pub same_place : (src : Bytes) (a b : NameRef) → (eqb a.start b.start && (eqb a.len b.len && eqb a.baks b.baks)) ≡ true → same_bytes (name_of src a) (name_of src b) ≡ true
 unfolding name_of
-same_place src a b s l k = rw (s, l, k) (sym (same_refl (name_of src b)))
+same_place src a b h =
+    let p = and_both (eqb a.start b.start) (eqb a.len b.len && eqb a.baks b.baks) h in
+    let q = and_both (eqb a.len b.len) (eqb a.baks b.baks) p.1 in
+    rw (eqb-true a.start b.start p.0, eqb-true a.len b.len q.0, eqb-true a.baks b.baks q.1) (same_refl (name_of src b))
+
+-- The empty name, at any bytes.
+pub empty-name : (src : Bytes) → Names src (record { start = 0; len = 0; baks = 0 }) []
+unfolding name_of
+empty-name src = record { sound = record { inside = omega arith; room = omega arith }; same = refl }

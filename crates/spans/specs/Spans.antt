@@ -1,17 +1,11 @@
 -- What a `NameRef` stands for: a part of the lent bytes with ".bak" behind it some times.
-use Rattle.std.specs.Prelude.{◌≡◌, [], ◌∷◌, ℕ, zero, suc, ◌+◌, ◌*◌, ◌≤◌, ◌<◌, Bool, true, false, length, take, drop}
+use Rattle.std.specs.Prelude.{◌≡◌, [], ◌∷◌, ℕ, zero, suc, ◌+◌, ◌*◌, ◌≤◌, ◌<◌, Bool, true, false, length, take, drop, Option, Some, None}
 use Rattle.std.proofs.Math.Option.{none, some}
 use Rattle.basics.specs.Limits.{name_limit}
-use Rattle.basics.specs.Order.{Cmp, lt, eq, gt, Name}
+use Rattle.basics.specs.Order.{Name}
 use Rattle.basics.specs.Base.{Bytes}
 use Rattle.basics.specs.Name.{backup_name, original_name}
 use Rattle.spans.specs.declared.NameRef.{NameRef}
-use Rattle.spans.specs.declared.Order.{Order}
-use Rattle.spans.specs.declared.Order.TheVariants.{Less, Equal, Greater}
-use Rattle.spans.specs.declared.BackupName.{BackupName}
-use Rattle.spans.specs.declared.BackupName.TheVariants as backup
-use Rattle.spans.specs.declared.OriginalName.{OriginalName}
-use Rattle.spans.specs.declared.OriginalName.TheVariants as original
 
 -- So many times the backup name of a name.
 abbrev pub backups : ℕ → Name → Name
@@ -39,11 +33,6 @@ pub record Names (src : Bytes) (r : NameRef) (n : Name) : Type 0 where
   pub sound : Sound src r
   pub same : name_of src r ≡ n
 
-abbrev pub order_of : Order → Cmp
-order_of Less = lt
-order_of Equal = eq
-order_of Greater = gt
-
 -- The number of some bytes, the most significant first, where n is the number of those before them.
 unfoldable pub onto : ℕ → Bytes → ℕ
 onto n [] = n
@@ -53,11 +42,11 @@ unfoldable pub from_big_endian : Bytes → ℕ
 from_big_endian s = onto 0 s
 
 -- 01, Sixteen numbers, 14: "backup name over 64 bytes".
-abbrev pub Backup : Bytes → NameRef → BackupName → Type 0
-Backup src r (backup.Is q) = Names src q (backup_name (name_of src r))
-Backup src r backup.TooLong = name_limit < length (backup_name (name_of src r))
+abbrev pub Backup : Bytes → NameRef → Option NameRef → Type 0
+Backup src r (Some q) = Names src q (backup_name (name_of src r))
+Backup src r None = name_limit < length (backup_name (name_of src r))
 
 -- 01, Corners, paths.rs: the name whose backup it is, if it is one.
-abbrev pub Original : Bytes → NameRef → OriginalName → Type 0
-Original src r (original.Is q) = Sound src q × (original_name (name_of src r) ≡ some (name_of src q))
-Original src r original.NotABackup = original_name (name_of src r) ≡ none
+abbrev pub Original : Bytes → NameRef → Option NameRef → Type 0
+Original src r (Some q) = Sound src q × (original_name (name_of src r) ≡ some (name_of src q))
+Original src r None = original_name (name_of src r) ≡ none

@@ -6,55 +6,20 @@ ghost use Rattle.basics.specs.Order.{cmp_name};
 ghost use Rattle.basics.specs.Base.{same_bytes};
 ghost use Rattle.basics.specs.Name.{is_backup, is_tmp};
 ghost use Rattle.basic_laws.specs.NameLaws.{ends_in};
-ghost use Rattle.spans.specs.Spans.{name_of, length_of, order_of, from_big_endian, Sound, Decides, Names, Backup, Original};
+ghost use Rattle.paths.specs.Compare.{order_of};
+ghost use Rattle.spans.specs.Spans.{name_of, length_of, from_big_endian, Sound, Decides, Names, Backup, Original};
+
+use std::cmp::Ordering;
 
 // A name that stands in the lent bytes, with ".bak" behind it some times: `name_of` (specs/Spans.antt).
-#[derive(Clone, Copy)]
+#[derive(Clone, Copy, Debug, Default, PartialEq, Eq)]
 pub struct NameRef {
     pub start: u16,
     pub len: u8,
     pub baks: u8,
 }
 
-#[derive(Clone, Copy)]
-pub enum Order {
-    Less,
-    Equal,
-    Greater,
-}
-
-#[derive(Clone, Copy)]
-pub enum BackupName {
-    Is(NameRef),
-    TooLong,
-}
-
-#[derive(Clone, Copy)]
-pub enum OriginalName {
-    Is(NameRef),
-    NotABackup,
-}
-
-// ".bak"
-const DOT_BAK: [u8; 4] = [0x2E, 0x62, 0x61, 0x6B];
-
-fn wide(x: u8) -> usize
-    ensures { (result ≡ x) × (result < 256) }
-{
-    x as usize
-}
-
-fn wider(x: u16) -> usize
-    ensures { (result ≡ x) × (result < 65536) }
-{
-    x as usize
-}
-
-fn fewer(a: usize, b: usize) -> usize
-    ensures { (result ≤ a) × (result ≤ b) }
-{
-    if a < b { a } else { b }
-}
+const DOT_BAK: [u8; 4] = *b".bak";
 
 // The empty name: a directory's own file name, and the directory name of a staging file.
 pub const EMPTY: NameRef = NameRef {
@@ -62,12 +27,6 @@ pub const EMPTY: NameRef = NameRef {
     len: 0,
     baks: 0,
 };
-
-pub fn empty() -> NameRef
-    ensures { (s : List ℕ) → Names s result [] }
-{
-    EMPTY
-}
 
 // A part of the bytes as a name.
 pub fn span(src: &[u8], start: usize, len: usize) -> NameRef
@@ -85,16 +44,14 @@ pub fn span(src: &[u8], start: usize, len: usize) -> NameRef
 pub fn length_of(r: NameRef) -> usize
     ensures { (result ≡ length_of r) × (result < 2048) }
 {
-    let len = wide(r.len);
-    let baks = wide(r.baks);
-    len + baks * 4
+    usize::from(r.len) + usize::from(r.baks) * 4
 }
 
 // Whether a name lies in the bytes and has at most 64 bytes.
 pub fn is_sound(src: &[u8], r: NameRef) -> bool
     ensures { Decides (Sound src.now r) result }
 {
-    let end = wider(r.start) + wide(r.len);
+    let end = usize::from(r.start) + usize::from(r.len);
     if src.len() < end {
         return false;
     }
@@ -106,9 +63,9 @@ pub fn byte_at(src: &[u8], r: NameRef, i: usize) -> u8
     requires { Sound src.now r × (i < length_of r) }
     ensures { result ≡ get_or (name_of src.now r) i 0 }
 {
-    let len = wide(r.len);
+    let len = usize::from(r.len);
     if i < len {
-        let at = wider(r.start) + i;
+        let at = usize::from(r.start) + i;
         src[at]
     } else {
         let k = (i - len) % 4;
@@ -121,7 +78,7 @@ fn four_at(src: &[u8], at: usize) -> u32
     requires { at + 4 ≤ length src.now }
     ensures { result ≡ from_big_endian (take 4 (drop at src.now)) }
 {
-    field::le32(src[at + 3], src[at + 2], src[at + 1], src[at])
+    u32::from_be_bytes([src[at], src[at + 1], src[at + 2], src[at + 3]])
 }
 
 fn eight_at(src: &[u8], at: usize) -> u64
@@ -132,22 +89,22 @@ fn eight_at(src: &[u8], at: usize) -> u64
 }
 
 // 01, Listings and file steps: "in ascending byte order, a shorter name before a longer one that begins with it". First the bytes that both have in their spans, by eights, by four and one by one, then those behind.
-pub fn compare(src: &[u8], a: NameRef, b: NameRef) -> Order
+pub fn compare(src: &[u8], a: NameRef, b: NameRef) -> Ordering
     requires { Sound src.now a × Sound src.now b }
     ensures { order_of result ≡ cmp_name (name_of src.now a) (name_of src.now b) }
 {
-    let p = wider(a.start);
-    let q = wider(b.start);
-    let m = fewer(wide(a.len), wide(b.len));
+    let p = usize::from(a.start);
+    let q = usize::from(b.start);
+    let m = usize::from(a.len.min(b.len));
     let mut i: usize = 0;
     while i + 8 <= m {
         let x = eight_at(src, p + i);
         let y = eight_at(src, q + i);
         if x != y {
             if x < y {
-                return Order::Less;
+                return Ordering::Less;
             }
-            return Order::Greater;
+            return Ordering::Greater;
         }
         i += 8;
     }
@@ -155,22 +112,22 @@ pub fn compare(src: &[u8], a: NameRef, b: NameRef) -> Order
 }
 
 // The order of two names whose bytes before `at` are equal, where both spans have these.
-fn compare_spans(src: &[u8], a: NameRef, b: NameRef, at: usize) -> Order
+fn compare_spans(src: &[u8], a: NameRef, b: NameRef, at: usize) -> Ordering
     requires { (Sound src.now a × Sound src.now b) × ((at ≤ a.len) × (at ≤ b.len)) }
     ensures { order_of result ≡ cmp_name (drop at (name_of src.now a)) (drop at (name_of src.now b)) }
 {
-    let p = wider(a.start);
-    let q = wider(b.start);
-    let m = fewer(wide(a.len), wide(b.len));
+    let p = usize::from(a.start);
+    let q = usize::from(b.start);
+    let m = usize::from(a.len.min(b.len));
     let mut i = at;
     if i + 4 <= m {
         let x = four_at(src, p + i);
         let y = four_at(src, q + i);
         if x != y {
             if x < y {
-                return Order::Less;
+                return Ordering::Less;
             }
-            return Order::Greater;
+            return Ordering::Greater;
         }
         i += 4;
     }
@@ -178,10 +135,10 @@ fn compare_spans(src: &[u8], a: NameRef, b: NameRef, at: usize) -> Order
         let x = src[p + i];
         let y = src[q + i];
         if x < y {
-            return Order::Less;
+            return Ordering::Less;
         }
         if y < x {
-            return Order::Greater;
+            return Ordering::Greater;
         }
         i += 1;
     }
@@ -189,7 +146,7 @@ fn compare_spans(src: &[u8], a: NameRef, b: NameRef, at: usize) -> Order
 }
 
 // The order of two names whose bytes before `at` are equal.
-fn compare_from(src: &[u8], a: NameRef, b: NameRef, at: usize) -> Order
+fn compare_from(src: &[u8], a: NameRef, b: NameRef, at: usize) -> Ordering
     requires { (Sound src.now a × Sound src.now b) × ((at ≤ length_of a) × (at ≤ length_of b)) }
     ensures { order_of result ≡ cmp_name (drop at (name_of src.now a)) (drop at (name_of src.now b)) }
 {
@@ -198,19 +155,23 @@ fn compare_from(src: &[u8], a: NameRef, b: NameRef, at: usize) -> Order
     let mut i = at;
     while i < n {
         if m <= i {
-            return Order::Greater;
+            return Ordering::Greater;
         }
         let x = byte_at(src, a, i);
         let y = byte_at(src, b, i);
         if x < y {
-            return Order::Less;
+            return Ordering::Less;
         }
         if y < x {
-            return Order::Greater;
+            return Ordering::Greater;
         }
         i += 1;
     }
-    if i < m { Order::Less } else { Order::Equal }
+    if i < m {
+        Ordering::Less
+    } else {
+        Ordering::Equal
+    }
 }
 
 // Whether two names are the same. Names at one place are, and their bytes are not looked at.
@@ -218,15 +179,7 @@ pub fn same(src: &[u8], a: NameRef, b: NameRef) -> bool
     requires { Sound src.now a × Sound src.now b }
     ensures { result ≡ same_bytes (name_of src.now a) (name_of src.now b) }
 {
-    if a.start == b.start && (a.len == b.len && a.baks == b.baks) {
-        return true;
-    }
-    let o = compare(src, a, b);
-    match o {
-        Order::Equal => true,
-        Order::Less => false,
-        Order::Greater => false,
-    }
+    a == b || compare(src, a, b).is_eq()
 }
 
 // Whether a name ends in a dot and three given bytes, behind at least one byte.
@@ -262,43 +215,38 @@ pub fn is_tmp(src: &[u8], r: NameRef) -> bool
 }
 
 // The backup name of a name, where that has at most 64 bytes. 01, Sixteen numbers, 14: "backup name over 64 bytes".
-pub fn backup(src: &[u8], r: NameRef) -> BackupName
+pub fn backup(src: &[u8], r: NameRef) -> Option<NameRef>
     requires { Sound src.now r }
     ensures { Backup src.now r result }
 {
     let n = length_of(r);
     if n + 4 <= basics::NAME_LIMIT {
-        BackupName::Is(NameRef {
-            start: r.start,
-            len: r.len,
+        Some(NameRef {
             baks: r.baks + 1,
+            ..r
         })
     } else {
-        BackupName::TooLong
+        None
     }
 }
 
 // The name whose backup name it is, if it is one. 01, Corners, paths.rs: ""a.bak" is a backup; ".bak" has no extension".
-pub fn original(src: &[u8], r: NameRef) -> OriginalName
+pub fn original(src: &[u8], r: NameRef) -> Option<NameRef>
     requires { Sound src.now r }
     ensures { Original src.now r result }
 {
     if !is_backup(src, r) {
-        return OriginalName::NotABackup;
+        return None;
     }
-    let n = r.baks;
-    let k = r.len;
-    if n > 0 {
-        OriginalName::Is(NameRef {
-            start: r.start,
-            len: k,
-            baks: n - 1,
-        })
+    Some(if r.baks > 0 {
+        NameRef {
+            baks: r.baks - 1,
+            ..r
+        }
     } else {
-        OriginalName::Is(NameRef {
-            start: r.start,
-            len: k - 4,
-            baks: 0,
-        })
-    }
+        NameRef {
+            len: r.len - 4,
+            ..r
+        }
+    })
 }

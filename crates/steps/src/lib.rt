@@ -160,12 +160,12 @@ pub fn apply(src: &[u8], tree: &mut Nodes, staging: &mut Nodes, s: Store, x: Ste
         Step::RewriteHeader => with_log(s, rewritten(s.log, COMMITTING)),
         Step::HoldHeader => with_log(s, rewritten(s.log, HELD)),
         Step::RemoveLog => with_log(s, removed(s.log)),
-        Step::MakeDirectory(d) => { with_tree(s, put_in(src, tree, s.tree, d, spans::empty(), 0)) }
+        Step::MakeDirectory(d) => { with_tree(s, put_in(src, tree, s.tree, d, spans::EMPTY, 0)) }
         Step::RenameFile(d, a, b) => with_tree(s, rename_file(src, tree, s.tree, d, a, b)),
         Step::MoveStaged(f, d, k) => {
-            let h = store::look(src, staging, s.staging, spans::empty(), f);
+            let h = store::look(src, staging, s.staging, spans::EMPTY, f);
             let r = with_tree(s, put_held(src, tree, s.tree, h, d, k));
-            with_staging(r, store::del(src, staging, s.staging, spans::empty(), f))
+            with_staging(r, store::del(src, staging, s.staging, spans::EMPTY, f))
         }
         Step::RenameDirectory(a, b) => with_tree(s, store::rename_dir(src, tree, s.tree, a, b)),
         Step::CopyFile(a, b, f) => {
@@ -175,7 +175,7 @@ pub fn apply(src: &[u8], tree: &mut Nodes, staging: &mut Nodes, s: Store, x: Ste
         Step::RemoveFile(d, f) => with_tree(s, store::del(src, tree, s.tree, d, f)),
         Step::RemoveDirectory(d) => with_tree(s, store::remove_dir(src, tree, s.tree, d)),
         Step::RemoveStaging(f) => {
-            with_staging(s, store::del(src, staging, s.staging, spans::empty(), f))
+            with_staging(s, store::del(src, staging, s.staging, spans::EMPTY, f))
         }
         _ => s,
     }
@@ -222,7 +222,7 @@ pub fn fault(src: &[u8], tree: &Nodes, staging: &Nodes, s: Store, x: Step) -> u3
             if n.dirs < basics::DIR_LIMIT { 0 } else { FULL }
         }
         Step::MoveStaged(f, d, k) => {
-            let h = store::look(src, staging, s.staging, spans::empty(), f);
+            let h = store::look(src, staging, s.staging, spans::EMPTY, f);
             from_held(src, tree, s.tree, h, d, k)
         }
         Step::RenameDirectory(_, b) => {

@@ -11,10 +11,11 @@ use Rattle.basics.specs.Map as model
 use Rattle.basics.specs.Map.{look}
 use Rattle.basics.specs.Base.{Bytes}
 use Rattle.basic_laws.specs.Tests.{All}
-use Rattle.spans.specs.Spans.{Sound, order_of}
+use Rattle.paths.specs.Compare.{order_of}
+use Rattle.spans.specs.Spans.{Sound}
 use Rattle.spans.specs.declared.NameRef.{NameRef}
-use Rattle.spans.specs.declared.Order.{Order}
-use Rattle.spans.specs.declared.Order.TheVariants.{Less, Equal, Greater}
+use Rattle.std.specs.declared.cmp.Ordering.{Ordering}
+use Rattle.std.specs.declared.cmp.Ordering.TheVariants.{Less, Equal, Greater}
 use Rattle.store.specs.declared.Node.{Node}
 use Rattle.store.specs.declared.Found.{Found}
 use Rattle.store.specs.declared.Found.TheVariants.{At, Missing}
@@ -59,7 +60,7 @@ start {src} {t} {dir} {file} s d f = record {
 
 -- The node x at i is compared.
 module _ {src : Bytes} {t : Table} {dir file : NameRef} {lo hi : ℕ} (w : Search src t dir file lo hi) {i : ℕ} {x : Node} (r : x ≡ get_or t.nodes i blank) (l : lo ≤ i) (h : i < hi) where
-  abbrev Told : Order → Type 0
+  abbrev Told : Ordering → Type 0
   Told o = order_of o ≡ cmp_key (key_of src dir file) (key_of src x.dir x.file)
 
   inside : i < t.len
@@ -68,13 +69,13 @@ module _ {src : Bytes} {t : Table} {dir file : NameRef} {lo hi : ℕ} (w : Searc
   short : i < length (map_of src t)
   short = omega (arith, length-table src w.sound.sized, inside)
 
-  told : {o p : Order} → o ≡ p → Told o → cmp_key (key_of src dir file) (get_or (map_of src t) i (node_of src blank)).0 ≡ order_of p
+  told : {o p : Ordering} → o ≡ p → Told o → cmp_key (key_of src dir file) (get_or (map_of src t) i (node_of src blank)).0 ≡ order_of p
   told e c = ap (λ (n : model.Node). cmp_key (key_of src dir file) n.0) (node_at_lem src w.sound.sized i blank inside ∙ ap (node_of src) (sym r)) ∙ sym c ∙ ap order_of e
 
   pub read : SoundNode src x
   read = rw r (sound-at i blank w.sound inside)
 
-  pub up : {o : Order} {a b : ℕ} → o ≡ Greater → Told o → a ≡ i + 1 → b ≡ hi → Search src t dir file a b
+  pub up : {o : Ordering} {a b : ℕ} → o ≡ Greater → Told o → a ≡ i + 1 → b ≡ hi → Search src t dir file a b
   up e c p q = record {
     sound = w.sound;
     sound-dir = w.sound-dir;
@@ -85,7 +86,7 @@ module _ {src : Bytes} {t : Table} {dir file : NameRef} {lo hi : ℕ} (w : Searc
     over = rw q w.over;
   }
 
-  pub down : {o : Order} {a b : ℕ} → o ≡ Less → Told o → a ≡ lo → b ≡ i → Search src t dir file a b
+  pub down : {o : Ordering} {a b : ℕ} → o ≡ Less → Told o → a ≡ lo → b ≡ i → Search src t dir file a b
   down e c p q = record {
     sound = w.sound;
     sound-dir = w.sound-dir;
@@ -96,7 +97,7 @@ module _ {src : Bytes} {t : Table} {dir file : NameRef} {lo hi : ℕ} (w : Searc
     over = rw q (lower (key_of src dir file) (map_of src t) i (node_of src blank) w.sound.sorted short (told e c));
   }
 
-  pub hit : {o : Order} → o ≡ Equal → Told o → Finds (key_of src dir file) (map_of src t) (At i)
+  pub hit : {o : Ordering} → o ≡ Equal → Told o → Finds (key_of src dir file) (map_of src t) (At i)
   hit e c = found_at (hit-at (key_of src dir file) (map_of src t) i (node_of src blank) w.sound.sorted short (told e c))
 
 pub none_left : {src : Bytes} {t : Table} {dir file : NameRef} {lo hi : ℕ} → Search src t dir file lo hi → hi ≤ lo → Finds (key_of src dir file) (map_of src t) (Missing lo)

@@ -7,13 +7,15 @@ ghost use Rattle.basics.specs.Map.{look, del};
 ghost use Rattle.basics.specs.Base.{Bytes, is_some, if_empty};
 ghost use Rattle.model.specs.Store.{dirs, files, staging_names};
 ghost use Rattle.model.specs.Step.{remove_dir, rename_dir};
-ghost use Rattle.spans.specs.Spans.{name_of, order_of, Sound};
+ghost use Rattle.paths.specs.Compare.{order_of};
+ghost use Rattle.spans.specs.Spans.{name_of, Sound};
 ghost use Rattle.store.specs.Places.{table_room, put_in};
 ghost use Rattle.store.specs.Nodes.{is_dir};
 ghost use Rattle.store.specs.Words.{word, name_at, nodes_of, blank};
 ghost use Rattle.store.specs.Tables.{key_of, node_of, table_of, live, map_of, SoundNode, Sized, SoundTable, Holds, Finds, held_of, Counted, FilesFrom, Lists};
 
-use spans::{NameRef, Order};
+use spans::NameRef;
+use std::cmp::Ordering;
 
 // 01, How a store is handed over: "At most 16 directories, 128 files"; and one node more, so that a put within these limits has room.
 pub const ROOM: usize = 145;
@@ -130,15 +132,15 @@ fn copy_nodes(t: &Nodes, n: usize, to: &mut Nodes)
 }
 
 // The order of two keys: by directory, then by file.
-fn compare_keys(src: &[u8], d: NameRef, f: NameRef, e: NameRef, g: NameRef) -> Order
+fn compare_keys(src: &[u8], d: NameRef, f: NameRef, e: NameRef, g: NameRef) -> Ordering
     requires { (Sound src.now d × Sound src.now f) × (Sound src.now e × Sound src.now g) }
     ensures { order_of result ≡ cmp_key (key_of src.now d f) (key_of src.now e g) }
 {
     let o = spans::compare(src, d, e);
     match o {
-        Order::Less => Order::Less,
-        Order::Greater => Order::Greater,
-        Order::Equal => spans::compare(src, f, g),
+        Ordering::Less => Ordering::Less,
+        Ordering::Greater => Ordering::Greater,
+        Ordering::Equal => spans::compare(src, f, g),
     }
 }
 
@@ -161,13 +163,13 @@ pub fn find(src: &[u8], t: &Nodes, n: usize, dir: NameRef, file: NameRef) -> Fou
         let x = node_at(t, mid);
         let o = compare_keys(src, dir, file, x.dir, x.file);
         match o {
-            Order::Less => {
+            Ordering::Less => {
                 hi = mid;
             }
-            Order::Equal => {
+            Ordering::Equal => {
                 return Found::At(mid);
             }
-            Order::Greater => {
+            Ordering::Greater => {
                 lo = mid + 1;
             }
         }
@@ -207,7 +209,7 @@ pub fn dir_exists(src: &[u8], t: &Nodes, n: usize, dir: NameRef) -> bool
     requires { SoundTable src.now (table_of t.now n) × Sound src.now dir }
     ensures { result ≡ is_some (look (name_of src.now dir, []) (map_of src.now (table_of t.now n))) }
 {
-    exists(src, t, n, dir, spans::empty())
+    exists(src, t, n, dir, spans::EMPTY)
 }
 
 // A node put in at a place of a table of n nodes; how many it has then.
@@ -330,7 +332,7 @@ fn files_from(src: &[u8], t: &Nodes, n: usize, dir: NameRef) -> usize
     requires { SoundTable src.now (table_of t.now n) × Sound src.now dir }
     ensures { FilesFrom (name_of src.now dir) (map_of src.now (table_of t.now n)) result }
 {
-    let f = find(src, t, n, dir, spans::empty());
+    let f = find(src, t, n, dir, spans::EMPTY);
     match f {
         Found::At(i) => i + 1,
         Found::Missing(i) => i,

@@ -35,7 +35,7 @@ pub fn image_length(s: &[u8]) -> usize
         if left < 3 {
             return s.len();
         }
-        let n = field::le16(s[at + 1], s[at + 2]) as usize;
+        let n = usize::from(u16::from_le_bytes([s[at + 1], s[at + 2]]));
         if left - 3 < n {
             return s.len();
         }

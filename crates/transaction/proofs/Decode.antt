@@ -1,5 +1,5 @@
 -- A payload read field by field against the row of its kind.
-use Rattle.std.specs.Prelude.{if◌then◌else◌}
+use Rattle.std.specs.Prelude.{if◌then◌else◌, Result, Err}
 use mathlib.Core.Path.{◌≡◌, refl, sym, ap, ◌∙◌}
 use mathlib.Core.List.{List, [], ◌∷◌, ◌++◌, map, append-nil, append_assoc}
 use mathlib.Core.Bool.{Bool, true, false, ◌&&◌}
@@ -11,8 +11,6 @@ use lib.Dec.{leb, eqb}
 use lib.ListN.{length, take, drop, set, get_or, length-drop, length-set, drop_of_length-le}
 use lib.Seq.{drop-cons, length-take-le, get_or-take, take-suc-set}
 use borrow.Author.Tests.{leb-true, leb-false, eqb-true, eqb-false}
-use types.Run.{OneOf}
-use denote.Enum.Declared.{tag_of}
 use Rattle.basics.specs.Base.{Bytes, case_option, same_bytes, all_of}
 use Rattle.basics.specs.Field.{Field, from_little_endian, fields_from, decode_fields}
 use Rattle.model.specs.Operation.{valid_value}
@@ -22,8 +20,7 @@ use Rattle.spans.specs.declared.NameRef.{NameRef}
 use Rattle.field.specs.Reading.{field_of, Reads, Stands}
 use Rattle.field.proofs.Fields.{no_field}
 use Rattle.field.specs.declared.Item.{Item}
-use Rattle.field.specs.declared.Read.{Read}
-use Rattle.field.specs.contracts.Read.{the_type}
+use Rattle.field.specs.declared.Broken.{Broken}
 use Rattle.transaction.specs.Rows.{tags_in, match_row, SoundParts, Matches}
 use Rattle.transaction.proofs.Lists.{map-append, all_set}
 use Rattle.transaction.proofs.Same.{not_same}
@@ -100,13 +97,13 @@ unfolding matched
 more-fields f fs = refl
 
 -- No field stands there, or none is to come.
-pub row-missing : (s : Bytes) (at : ℕ) (r : Read) (t : ℕ) (ts : List ℕ) → Reads s at r → OneOf (1 ∷ 2 ∷ []) (tag_of the_type r) → match_row (t ∷ ts) (drop at s) ≡ none
+pub row-missing : (s : Bytes) (at : ℕ) (r : Result Item Broken) (t : ℕ) (ts : List ℕ) → Reads s at r → (b : Broken) → r ≡ Err b → match_row (t ∷ ts) (drop at s) ≡ none
 unfolding fields_from
-row-missing s at r t ts h k = row-of-bytes (t ∷ ts) (drop at s) ∙ go (leb (length s) at) refl
+row-missing s at r t ts h b k = row-of-bytes (t ∷ ts) (drop at s) ∙ go (leb (length s) at) refl
   where
     go : (b : Bool) → leb (length s) at ≡ b → case_option (fields_from 0 (drop at s)) none (matched (t ∷ ts)) ≡ none
     go true e = rw (drop_of_length-le s (leb-true (length s) at e)) (no_tags t ts)
-    go false e = rw (no_field s at r h k (leb-false (length s) at e))
+    go false e = rw (no_field s at r h b k (leb-false (length s) at e))
 
 more_bytes : (y : ℕ) (r : Bytes) → case_option (fields_from 0 (y ∷ r)) none (matched []) ≡ none
 unfolding fields_from

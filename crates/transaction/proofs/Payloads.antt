@@ -1,5 +1,5 @@
 -- What a payload decodes to, by the row of its kind, and in which bytes its names lie.
-use Rattle.std.specs.Prelude.{if◌then◌else◌}
+use Rattle.std.specs.Prelude.{if◌then◌else◌, Result, Err}
 use mathlib.Core.Path.{◌≡◌, refl, sym, ap, subst, ◌∙◌}
 use mathlib.Core.List.{List, [], ◌∷◌, map}
 use mathlib.Core.Bool.{Bool, true, false, ◌&&◌}
@@ -9,8 +9,6 @@ use native.Mathlib.Omega.{arith}
 use lib.Dec.{leb}
 use lib.ListN.{length, take, drop, get_or, get_elem?, take-append-drop, drop_of_length-le}
 use borrow.Author.Tests.{leb-true, leb-false, le-leb, lt-leb}
-use types.Run.{OneOf}
-use denote.Enum.Declared.{tag_of}
 use Rattle.basics.specs.Base.{Bytes, case_option, same_bytes, all_of}
 use Rattle.basics.specs.Field.{Field, fields_from, decode_fields}
 use Rattle.model.specs.Operation.{field_tags, makers, valid_value, op_of_fields, decode_payload}
@@ -21,8 +19,7 @@ use Rattle.spans.proofs.Prefix.{prefix_sound, prefix_name, map_same}
 use Rattle.field.specs.Reading.{field_of, Reads, Stands}
 use Rattle.field.proofs.Fields.{no_field}
 use Rattle.field.specs.declared.Item.{Item}
-use Rattle.field.specs.declared.Read.{Read}
-use Rattle.field.specs.contracts.Read.{the_type}
+use Rattle.field.specs.declared.Broken.{Broken}
 use Rattle.transaction.specs.Operations.{Bounds, in_bounds, part, decoded_at, Decodes}
 use Rattle.transaction.specs.Rows.{match_row, SoundParts, Matches, made, Makes}
 use Rattle.transaction.specs.declared.Decoded.{Decoded}
@@ -53,13 +50,13 @@ by_row {s} {at} {x} k w e = rw (row-of-bytes (field_tags k) (drop at s), w.field
     go none = refl
     go (some fs) = of-kind k (field_of s x) fs (sym e)
 
-pub no-kind-field : (s : Bytes) (at : ℕ) (r : Read) → Reads s at r → OneOf (1 ∷ 2 ∷ []) (tag_of the_type r) → decode_payload (drop at s) ≡ none
+pub no-kind-field : (s : Bytes) (at : ℕ) (r : Result Item Broken) → Reads s at r → (b : Broken) → r ≡ Err b → decode_payload (drop at s) ≡ none
 unfolding decode_payload decode_fields fields_from op_of_fields
-no-kind-field s at r h k = go (leb (length s) at) refl
+no-kind-field s at r h b k = go (leb (length s) at) refl
   where
     go : (b : Bool) → leb (length s) at ≡ b → case_option (fields_from 0 (drop at s)) none op_of_fields ≡ none
     go true e = rw (drop_of_length-le s (leb-true (length s) at e))
-    go false e = rw (no_field s at r h k (leb-false (length s) at e))
+    go false e = rw (no_field s at r h b k (leb-false (length s) at e))
 
 -- A part between two places.
 pub part-drop : (start end : ℕ) (l : Bytes) → start ≤ end → part l start end ≡ drop start (take end l)

@@ -9,7 +9,6 @@ ghost use Rattle.spans.specs.Spans.{name_of, Sound, Decides};
 ghost use Rattle.transaction.specs.Operations.{op_of, SoundOp, in_bounds, Decodes, Fields, Encodes, WritesOp};
 ghost use Rattle.transaction.specs.Rows.{tags_in, SoundParts, Matches, Makes, SoundColumn, Columns, Puts};
 
-use field::Read;
 use spans::NameRef;
 
 // A recorded operation. Its names are parts of the lent bytes.
@@ -66,12 +65,6 @@ const FIELD_TABLE: [[u8; 5]; 7] = [
     [1, 2, 5, 6, 0],
     [1, 2, 3, 4, 7],
 ];
-
-const NO_NAME: NameRef = NameRef {
-    start: 0,
-    len: 0,
-    baks: 0,
-};
 
 // The row of a kind, counted from 1; an empty one for what is no kind.
 fn row_of(kind: u8) -> [u8; 5]
@@ -152,12 +145,12 @@ fn read_row(s: &[u8], start: usize, row: [u8; 5]) -> Values
     requires { (start ≤ length s.now) × (length s.now ≤ 0xFFFF) }
     ensures { Matches s.now (tags_in row) start result }
 {
-    let mut parts = [NO_NAME; 5];
+    let mut parts = [spans::EMPTY; 5];
     let n = count_fields(row);
     let mut at = start;
     let mut i: usize = 0;
     while i < n {
-        let Read::Is(x) = field::read_field(s, at) else {
+        let Ok(x) = field::read_field(s, at) else {
             return Values {
                 fit: false,
                 parts: parts,
@@ -240,7 +233,7 @@ pub fn decode_operation(src: &[u8], start: usize, end: usize) -> Decoded
         return Decoded::Undecodable;
     }
     let s = &src[..end];
-    let Read::Is(x) = field::read_field(s, start) else {
+    let Ok(x) = field::read_field(s, start) else {
         return Decoded::Undecodable;
     };
     let from = x.start;

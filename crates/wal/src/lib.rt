@@ -110,19 +110,13 @@ pub enum Tail {
     Entry(Operation),
 }
 
-const NO_NAME: NameRef = NameRef {
-    start: 0,
-    len: 0,
-    baks: 0,
-};
-
 const UNKNOWN: Ahead = Ahead {
     known: false,
     sum: 0,
 };
 
 const NO_OPERATION: Logged = Logged {
-    op: Operation::DeleteAll(NO_NAME),
+    op: Operation::DeleteAll(spans::EMPTY),
 };
 
 // The checksum of a header's first two bytes.
@@ -193,7 +187,7 @@ pub fn payload(log: &[u8], start: usize, end: usize) -> &[u8]
 pub fn entry_at(log: &[u8], at: usize) -> Entry
     ensures { HeadAt log.now at result }
 {
-    if field::left(log.len(), at) < ENTRY_HEADER_SIZE {
+    if log.len().saturating_sub(at) < ENTRY_HEADER_SIZE {
         return Entry::Truncated(Cause::HeaderShort);
     }
     let start = at + ENTRY_HEADER_SIZE;
@@ -201,7 +195,7 @@ pub fn entry_at(log: &[u8], at: usize) -> Entry
     if len == 0 {
         return Entry::Truncated(Cause::PayloadMissing);
     }
-    if field::left(log.len(), start) < len {
+    if log.len().saturating_sub(start) < len {
         return Entry::Truncated(Cause::PayloadMissing);
     }
     let end = start + len;
@@ -420,7 +414,7 @@ pub fn append_operation(src: &[u8], op: Operation, out: &mut [u8], at: usize) ->
         return 0;
     }
     let len = ENTRY_HEADER_SIZE + n;
-    if len <= field::left(out.len(), at) {
+    if len <= out.len().saturating_sub(at) {
         field::put_u32(out, at, crc32::hash(&bytes[..n]));
         field::put_u32(out, at + 4, n as u32);
         field::put_bytes(out, at + ENTRY_HEADER_SIZE, &bytes[..n]);

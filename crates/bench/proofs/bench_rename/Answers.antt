@@ -12,5 +12,5 @@ renames-requires c =
     let d = c.decode-d.ensures in
     let x = sound-read d.sound.tree (omega arith) c.node_at-x.ensures in (
       started _ _ _ _ d c.if-ok.true,
-      (x.dir, (file-name _ _ x.file _ c.length_of.ensures.0 (omega arith), backup-name _ _ _ _ c.backup-b.ensures c.in-Is.is)),
+      (x.dir, (file-name _ _ x.file _ c.length_of.ensures.0 (omega arith), backup-name _ _ _ _ c.backup-b.ensures c.in-Some.is)),
     )

@@ -11,5 +11,5 @@ pub attempts-requires : goal.attempts-requires
 attempts-requires c =
     let d = c.decode-d.ensures in
     let x = sound-read d.sound.tree (omega arith) c.node_at-x.ensures in
-    let b = backup-name _ _ _ _ c.backup.ensures c.in-Is.is in
+    let b = backup-name _ _ _ _ c.backup.ensures c.in-Some.is in
     (started _ _ _ _ d (c.if-not-ok.false), (record { names = (x.dir, b.sound) }, record { names = (b.sound, x.dir) }))

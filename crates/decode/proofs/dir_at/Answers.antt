@@ -4,6 +4,7 @@ use mathlib.Core.Bool.{false≢true}
 use native.Mathlib.Omega.{arith}
 use borrow.Author.Rules.{rules}
 use Rattle.decode.proofs.Steps.{name-fits, dir-broken, dir-ordered, dir-followed}
+use Rattle.spans.proofs.Parts.{empty-name}
 use Rattle.decode.proofs.dir_at.Goals as goal
 
 pub returns-then-dirs-ge-DIR_LIMIT : goal.returns-then-dirs-ge-DIR_LIMIT
@@ -26,4 +27,4 @@ returns c =
       valid = sym c.sanitize_path_segment.ensures ∙ c.if-not-sanitize_path_segment.false;
       above = (dir-ordered c.requires c.span-name.ensures c.is_below.ensures).0 (c.if-not-is_below.false);
     }
-    c.span-name.ensures (c.empty-none.ensures _)
+    c.span-name.ensures (empty-name _)

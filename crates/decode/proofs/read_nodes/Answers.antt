@@ -2,10 +2,11 @@ use mathlib.Core.Path.{refl}
 use native.Mathlib.Omega.{arith}
 use borrow.Author.Rules.{rules}
 use Rattle.decode.proofs.Progress.{begin, room, goes_on, stops, breaks, is-node, is-other, is-broken}
+use Rattle.spans.proofs.Parts.{empty-name}
 use Rattle.decode.proofs.read_nodes.Goals as goal
 
 pub loop-p-init : goal.loop-p-init
-loop-p-init c = begin refl (c.empty-none.ensures _) c.requires.1
+loop-p-init c = begin refl (empty-name _) c.requires.1
 
 pub next_node-n-requires : goal.next_node-n-requires
 next_node-n-requires c = (c.requires.0, c.loop-p.invariant.spot)

@@ -5,10 +5,10 @@ use Rattle.basics.specs.Field.{little_endian}
 use Rattle.field.proofs.Written.{written_then, written_none}
 use Rattle.field.proofs.put_field_head.Goals as goal
 
-pub returns-then-left-ge3 : goal.returns-then-left-ge3
+pub returns-then-saturating_sub-ge3 : goal.returns-then-saturating_sub-ge3
 unfolding little_endian
-returns-then-left-ge3 c = written_then _ _ _ _ _ c.put_u8.ensures c.put_u16.ensures refl (omega arith)
+returns-then-saturating_sub-ge3 c = written_then _ _ _ _ _ c.put_u8.ensures c.put_u16.ensures refl (omega arith)
 
-pub returns-else-left-ge3 : goal.returns-else-left-ge3
+pub returns-else-saturating_sub-ge3 : goal.returns-else-saturating_sub-ge3
 unfolding little_endian
-returns-else-left-ge3 c = written_none _ _ _ (omega arith)
+returns-else-saturating_sub-ge3 c = written_none _ _ _ (omega arith)

@@ -1,15 +1,6 @@
--- `field::put_u32` meets its contract: the lower half, and the higher one behind it.
-use mathlib.Core.Path.{refl}
-use native.Mathlib.Omega.{arith}
-use Rattle.basics.specs.Field.{little_endian}
-use Rattle.field.proofs.Numbers.{four_bytes}
-use Rattle.field.proofs.Written.{written_then, written_none}
+-- `field::put_u32` meets its contract: the library's bytes of a number are the definition's.
+use Rattle.field.proofs.Numbers.{bytes-four}
 use Rattle.field.proofs.put_u32.Goals as goal
 
-pub returns-then-left-ge4 : goal.returns-then-left-ge4
-unfolding little_endian
-returns-then-left-ge4 c = rw (← four_bytes c.args.n) (written_then _ _ _ _ _ c.put_u16.ensures c.put_u16-then-left-ge4.ensures refl (omega arith))
-
-pub returns-else-left-ge4 : goal.returns-else-left-ge4
-unfolding little_endian
-returns-else-left-ge4 c = written_none _ _ _ (omega arith)
+pub returns : goal.returns
+returns c = rw (← bytes-four c.args.n, ← c.to_le_bytes.ensures) c.put_bytes.ensures

@@ -1,17 +1,15 @@
 -- `field::read_field` meets its contract, one lemma for each answer. The length is right since a slice's elements are bytes.
+use mathlib.Core.Path.{◌∙◌}
 use native.Mathlib.Omega.{arith}
-use Rattle.field.specs.Reading.{Reads}
 use Rattle.field.proofs.Fields.{headless, valueless, stands}
+use Rattle.field.proofs.Numbers.{number-two}
 use Rattle.field.proofs.read_field.Goals as goal
 
-pub returns-then-left-lt3 : goal.returns-then-left-lt3
-unfolding Reads
-returns-then-left-lt3 c = headless (omega arith)
+pub returns-then-saturating_sub-lt3 : goal.returns-then-saturating_sub-lt3
+returns-then-saturating_sub-lt3 c = headless (omega arith)
 
-pub returns-then-left-len : goal.returns-then-left-len
-unfolding Reads
-returns-then-left-len c = valueless (omega arith) c.le16-len.ensures (omega arith)
+pub returns-then-s-start : goal.returns-then-s-start
+returns-then-s-start c = valueless (omega arith) (c.from-len.ensures ∙ c.from_le_bytes.ensures ∙ number-two _ _) (omega arith)
 
 pub returns : goal.returns
-unfolding Reads
-returns c = stands (omega arith) c.le16-len.ensures (λ i. omega (arith, c.type_inv.s i)) (omega arith)
+returns c = stands (omega arith) (c.from-len.ensures ∙ c.from_le_bytes.ensures ∙ number-two _ _) (λ i. omega (arith, c.type_inv.s i)) (omega arith)

@@ -4,11 +4,11 @@ use native.Mathlib.Omega.{arith}
 use Rattle.field.proofs.Written.{field-written, field-none, field-long}
 use Rattle.field.proofs.write_field.Goals as goal
 
-pub returns-then-len-left : goal.returns-then-len-left
-returns-then-len-left c = field-written _ _ _ _ (omega arith) _ c.put_field_head.ensures c.put_bytes.ensures refl (omega arith)
+pub returns-then-len-saturating_sub : goal.returns-then-len-saturating_sub
+returns-then-len-saturating_sub c = field-written _ _ _ _ (omega arith) _ c.put_field_head.ensures c.put_bytes.ensures refl (omega arith)
 
-pub returns-else-len-left : goal.returns-else-len-left
-returns-else-len-left c = field-none _ _ _ _ (omega arith) (omega arith)
+pub returns-else-len-saturating_sub : goal.returns-else-len-saturating_sub
+returns-else-len-saturating_sub c = field-none _ _ _ _ (omega arith) (omega arith)
 
 pub returns-else-len-le65535 : goal.returns-else-len-le65535
 returns-else-len-le65535 c = sym (field-long _ _ _ (omega arith))

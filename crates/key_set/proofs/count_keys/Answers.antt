@@ -1,24 +1,22 @@
 use native.Mathlib.Omega.{arith}
-use Rattle.field.specs.Reading.{Stands}
-use Rattle.field.proofs.Fields.{is_field, no_field}
+use Rattle.field.proofs.Fields.{no_field}
 use Rattle.key_set.proofs.Walks.{counting, not-keys, not_key, counted-one, counted-all}
-use borrow.Enum.Refused.{opened}
 use Rattle.key_set.proofs.count_keys.Goals as goal
 
 pub loop-at-init : goal.loop-at-init
 loop-at-init c = counting _
 
 pub returns-in_default : goal.returns-in_default
-returns-in_default c = not-keys c.loop-at.invariant (no_field _ _ _ c.read_field.ensures (opened c.in_default.in_default-own.keys2) (omega arith))
+returns-in_default c = not-keys c.loop-at.invariant (no_field _ _ _ c.read_field.ensures _ c.in_default.is (omega arith))
 
 pub returns-then-x-ne-KEY_TAG : goal.returns-then-x-ne-KEY_TAG
-returns-then-x-ne-KEY_TAG c = not_key c.loop-at.invariant ((let z : Stands c.args.keys.now c.loop-at.at c.in-Is.x = is_field _ _ _ c.read_field.ensures _ c.in-Is.is in z)) c.if-x-ne-KEY_TAG.true
+returns-then-x-ne-KEY_TAG c = not_key c.loop-at.invariant c.in-Ok.ensures c.if-x-ne-KEY_TAG.true
 
 pub loop-at-smaller : goal.loop-at-smaller
-loop-at-smaller c = let w = (let z : Stands c.args.keys.now c.loop-at.at c.in-Is.x = is_field _ _ _ c.read_field.ensures _ c.in-Is.is in z) in omega (arith, w.start, w.ordered, w.within)
+loop-at-smaller c = omega (arith, c.in-Ok.ensures)
 
 pub loop-at-preserved : goal.loop-at-preserved
-loop-at-preserved c = counted-one c.loop-at.invariant ((let z : Stands c.args.keys.now c.loop-at.at c.in-Is.x = is_field _ _ _ c.read_field.ensures _ c.in-Is.is in z)) c.if-x-ne-KEY_TAG.false
+loop-at-preserved c = counted-one c.loop-at.invariant c.in-Ok.ensures c.if-x-ne-KEY_TAG.false
 
 pub returns : goal.returns
 returns c = counted-all c.loop-at.invariant (omega arith)

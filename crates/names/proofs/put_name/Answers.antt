@@ -18,5 +18,5 @@ loop-i-preserved c = pasted c.loop-i.invariant _ c.byte_at.ensures (omega (arith
 pub returns-after-loop-i : goal.returns-after-loop-i
 returns-after-loop-i c = all-pasted c.loop-i.invariant (omega (arith, length-name c.requires))
 
-pub returns-else-n-left : goal.returns-else-n-left
-returns-else-n-left c = written_none _ _ _ (omega (arith, length-name c.requires))
+pub returns-else-n-saturating_sub : goal.returns-else-n-saturating_sub
+returns-else-n-saturating_sub c = written_none _ _ _ (omega (arith, length-name c.requires))

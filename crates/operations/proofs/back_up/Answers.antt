@@ -8,11 +8,11 @@ use Rattle.operations.proofs.back_up.Goals as goal
 
 pub attempt-requires : goal.attempt-requires
 unfolding step_of
-attempt-requires c = let q = (rw c.in-Is.is at c.backup-b.ensures) in (c.requires.0, record { names = (c.requires.1.0, (c.requires.1.1, file-name q.sound (λ e. backup-named _ (sym q.same ∙ e)))) })
+attempt-requires c = let q = (rw c.in-Some.is at c.backup-b.ensures) in (c.requires.0, record { names = (c.requires.1.0, (c.requires.1.1, file-name q.sound (λ e. backup-named _ (sym q.same ∙ e)))) })
 
-pub returns-in-Is : goal.returns-in-Is
+pub returns-in-Some : goal.returns-in-Some
 unfolding step_of
-returns-in-Is c = rw (rw c.in-Is.is at c.backup-b.ensures).same at c.attempt.ensures
+returns-in-Some c = rw (rw c.in-Some.is at c.backup-b.ensures).same at c.attempt.ensures
 
-pub returns-in-TooLong : goal.returns-in-TooLong
-returns-in-TooLong c = refused c.requires.0 (c.refuse.ensures _ c.args.tree.now c.args.staging.now) _ (long-file _ _ _ _ (rw c.in-TooLong.is at c.backup-b.ensures))
+pub returns-in-None : goal.returns-in-None
+returns-in-None c = refused c.requires.0 (c.refuse.ensures _ c.args.tree.now c.args.staging.now) _ (long-file _ _ _ _ (rw c.in-None.is at c.backup-b.ensures))

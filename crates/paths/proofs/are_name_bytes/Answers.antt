@@ -1,19 +1,11 @@
-use mathlib.Core.Path.{sym, ◌∙◌}
-use native.Mathlib.Omega.{arith}
-use Rattle.paths.proofs.Checks.{passed, part-wrong, part_right, last-part}
+-- `paths::are_name_bytes` meets its contract: each byte is tested.
+use mathlib.Core.Path.{◌∙◌}
+use Rattle.std.proofs.Common.{rules, tests}
+use Rattle.std.proofs.lemmas.Iterator.{YieldsList-from_slice}
+use Rattle.std.proofs.lemmas.Iterator.Search.{all_from_yields_List}
+use Rattle.basics.specs.Name.{is_name_byte}
+use Rattle.paths.proofs.Same.{all_listed}
 use Rattle.paths.proofs.are_name_bytes.Goals as goal
 
-pub returns-then-n-lt8 : goal.returns-then-n-lt8
-returns-then-n-lt8 c = c.are_few.ensures
-
-pub loop-i-init : goal.loop-i-init
-loop-i-init c = passed _ _
-
-pub returns-then-not-are_eight : goal.returns-then-not-are_eight
-returns-then-not-are_eight c = part-wrong c.loop-i.invariant 8 (sym c.are_eight.ensures ∙ c.if-not-are_eight.true)
-
-pub loop-i-preserved : goal.loop-i-preserved
-loop-i-preserved c = part_right c.loop-i.invariant 8 (omega arith) (sym c.are_eight.ensures ∙ c.if-not-are_eight.false)
-
 pub returns : goal.returns
-returns c = last-part c.loop-i.invariant 8 (omega arith) (omega arith) c.are_eight-2.ensures
+returns c = all_from_yields_List is_name_byte _ _ c.all.result c.all.ensures.ran (YieldsList-from_slice c.args.s.now cc) (λ x b q k. search (rules, tests)) ∙ all_listed is_name_byte _

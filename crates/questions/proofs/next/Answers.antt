@@ -8,4 +8,4 @@ pub returns-in_default : goal.returns-in_default
 returns-in_default c = search rules
 
 pub returns : goal.returns
-returns c = λ _. let w = is_field _ _ _ c.read_field.ensures _ c.in-Is.is in omega arith
+returns c = λ _. omega (arith, c.in-Ok.ensures)

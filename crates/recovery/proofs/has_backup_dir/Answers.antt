@@ -3,10 +3,10 @@ use Rattle.recovery.proofs.Nodes.{no-long-dir}
 use Rattle.recovery.proofs.has_backup_dir.Goals as goal
 
 pub dir_exists-requires : goal.dir_exists-requires
-dir_exists-requires c = (c.requires.0, (rw c.in-Is.is at c.backup-b.ensures).sound)
+dir_exists-requires c = (c.requires.0, (rw c.in-Some.is at c.backup-b.ensures).sound)
 
-pub returns-in-Is : goal.returns-in-Is
-returns-in-Is c = rw (rw c.in-Is.is at c.backup-b.ensures).same at c.dir_exists.ensures
+pub returns-in-Some : goal.returns-in-Some
+returns-in-Some c = rw (rw c.in-Some.is at c.backup-b.ensures).same at c.dir_exists.ensures
 
-pub returns-in-TooLong : goal.returns-in-TooLong
-returns-in-TooLong c = no-long-dir c.requires.0 _ _ (rw c.in-TooLong.is at c.backup-b.ensures)
+pub returns-in-None : goal.returns-in-None
+returns-in-None c = no-long-dir c.requires.0 _ _ (rw c.in-None.is at c.backup-b.ensures)

@@ -3,10 +3,11 @@ use mathlib.Core.Path.{sym, ◌∙◌}
 use Rattle.steps.proofs.Arms.{names_of}
 use Rattle.steps.proofs.Faults.{few-dirs, many-dirs, moves, target, copies, never}
 use borrow.Enum.Refused.{opened}
+use Rattle.spans.proofs.Parts.{empty-name}
 use Rattle.steps.proofs.fault.Goals as goal
 
 pub look-h-requires : goal.look-h-requires
-look-h-requires c = (c.requires.0.staging, ((c.empty.ensures _).sound, (names_of c.requires.1 c.in-MoveStaged.is).0))
+look-h-requires c = (c.requires.0.staging, ((empty-name _).sound, (names_of c.requires.1 c.in-MoveStaged.is).0))
 
 pub from_held-requires : goal.from_held-requires
 from_held-requires c = (c.requires.0.tree, ((names_of c.requires.1 c.in-MoveStaged.is).1.0, (names_of c.requires.1 c.in-MoveStaged.is).1.1.sound))
@@ -27,7 +28,7 @@ pub returns-else-n-lt-DIR_LIMIT : goal.returns-else-n-lt-DIR_LIMIT
 returns-else-n-lt-DIR_LIMIT c = many-dirs c.requires c.in-MakeDirectory.is c.count-n.ensures c.if-n-lt-DIR_LIMIT.false
 
 pub returns-in-MoveStaged : goal.returns-in-MoveStaged
-returns-in-MoveStaged c = moves c.requires c.in-MoveStaged.is (c.empty.ensures _) c.look-h.ensures c.from_held.ensures
+returns-in-MoveStaged c = moves c.requires c.in-MoveStaged.is (empty-name _) c.look-h.ensures c.from_held.ensures
 
 pub returns-then-is_dir_empty : goal.returns-then-is_dir_empty
 returns-then-is_dir_empty c = target c.requires c.in-RenameDirectory.is (sym c.if-is_dir_empty.true ∙ c.is_dir_empty.ensures)

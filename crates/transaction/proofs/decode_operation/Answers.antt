@@ -4,11 +4,8 @@ use native.Mathlib.Omega.{arith}
 use lib.ListN.{take}
 use lib.Seq.{length-take-le}
 use borrow.Author.Tests.{not-true, not-false}
-use Rattle.field.specs.Reading.{Stands}
-use Rattle.field.proofs.Fields.{is_field}
 use Rattle.transaction.specs.Operations.{Bounds}
 use Rattle.transaction.proofs.Payloads.{bounds, nowhere, no-kind-field, wide_parts, undecodable, no-fit, fits}
-use borrow.Enum.Refused.{opened}
 use Rattle.transaction.proofs.decode_operation.Goals as goal
 
 pub returns-then-not-in_bounds : goal.returns-then-not-in_bounds
@@ -18,25 +15,25 @@ pub slice_bounds-s-end : goal.slice_bounds-s-end
 slice_bounds-s-end c = sym (length-take-le c.args.end c.args.src.now ((let z : Bounds c.args.src.now c.args.start c.args.end = bounds _ _ _ (sym c.in_bounds.ensures ∙ c.if-not-in_bounds.false) in z)).within)
 
 pub returns-in_default : goal.returns-in_default
-returns-in_default c = undecodable ((let z : Bounds c.args.src.now c.args.start c.args.end = bounds _ _ _ (sym c.in_bounds.ensures ∙ c.if-not-in_bounds.false) in z)) (no-kind-field _ _ _ c.read_field.ensures (opened c.in_default.in_default-own.keys2))
+returns-in_default c = undecodable ((let z : Bounds c.args.src.now c.args.start c.args.end = bounds _ _ _ (sym c.in_bounds.ensures ∙ c.if-not-in_bounds.false) in z)) (no-kind-field _ _ _ c.read_field.ensures _ c.in_default.is)
 
 pub slice_bounds-first-count : goal.slice_bounds-first-count
-slice_bounds-first-count c = ((let z : Stands (take c.args.end c.args.src.now) c.args.start c.in-Is.x = is_field _ _ _ c.read_field.ensures _ c.in-Is.is in z)).ordered
+slice_bounds-first-count c = c.in-Ok.ensures.ordered
 
 pub slice_bounds-first-start : goal.slice_bounds-first-start
-slice_bounds-first-start c = let w = (let z : Stands (take c.args.end c.args.src.now) c.args.start c.in-Is.x = is_field _ _ _ c.read_field.ensures _ c.in-Is.is in z) in omega arith
+slice_bounds-first-start c = omega (arith, c.in-Ok.ensures)
 
 pub slice_bounds-first-end : goal.slice_bounds-first-end
-slice_bounds-first-end c = let w = (let z : Stands (take c.args.end c.args.src.now) c.args.start c.in-Is.x = is_field _ _ _ c.read_field.ensures _ c.in-Is.is in z) in omega arith
+slice_bounds-first-end c = omega (arith, c.in-Ok.ensures)
 
 pub read_row-v-requires : goal.read_row-v-requires
 read_row-v-requires c = let b = (let z : Bounds c.args.src.now c.args.start c.args.end = bounds _ _ _ (sym c.in_bounds.ensures ∙ c.if-not-in_bounds.false) in z) in let l = length-take-le c.args.end c.args.src.now b.within in (omega arith, omega arith)
 
 pub returns-then-not-v : goal.returns-then-not-v
-returns-then-not-v c = no-fit ((let z : Bounds c.args.src.now c.args.start c.args.end = bounds _ _ _ (sym c.in_bounds.ensures ∙ c.if-not-in_bounds.false) in z)) _ ((let z : Stands (take c.args.end c.args.src.now) c.args.start c.in-Is.x = is_field _ _ _ c.read_field.ensures _ c.in-Is.is in z)) c.first-kind.ensures (rw c.row_of.ensures at c.read_row-v.ensures) (not-true _ c.if-not-v.true)
+returns-then-not-v c = no-fit ((let z : Bounds c.args.src.now c.args.start c.args.end = bounds _ _ _ (sym c.in_bounds.ensures ∙ c.if-not-in_bounds.false) in z)) _ c.in-Ok.ensures c.first-kind.ensures (rw c.row_of.ensures at c.read_row-v.ensures) (not-true _ c.if-not-v.true)
 
 pub operation_of-requires : goal.operation_of-requires
 operation_of-requires c = wide_parts c.args.end _ c.read_row-v.ensures.parts
 
 pub returns : goal.returns
-returns c = fits ((let z : Bounds c.args.src.now c.args.start c.args.end = bounds _ _ _ (sym c.in_bounds.ensures ∙ c.if-not-in_bounds.false) in z)) _ ((let z : Stands (take c.args.end c.args.src.now) c.args.start c.in-Is.x = is_field _ _ _ c.read_field.ensures _ c.in-Is.is in z)) c.first-kind.ensures (rw c.row_of.ensures at c.read_row-v.ensures) (not-false _ c.if-not-v.false) c.operation_of.ensures
+returns c = fits ((let z : Bounds c.args.src.now c.args.start c.args.end = bounds _ _ _ (sym c.in_bounds.ensures ∙ c.if-not-in_bounds.false) in z)) _ c.in-Ok.ensures c.first-kind.ensures (rw c.row_of.ensures at c.read_row-v.ensures) (not-false _ c.if-not-v.false) c.operation_of.ensures

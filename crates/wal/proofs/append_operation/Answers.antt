@@ -13,8 +13,8 @@ slice_bounds-hash-end c = payload-size c.payload_of-p.ensures
 pub slice_bounds-put_bytes-end : goal.slice_bounds-put_bytes-end
 slice_bounds-put_bytes-end c = payload-size c.payload_of-p.ensures
 
-pub returns-then-len-left : goal.returns-then-len-left
-returns-then-len-left c = one_entry c.payload_of-p.ensures c.if-n-eq0.false (entry-written _ _ _ _ (payload-size c.payload_of-p.ensures) c.hash.ensures.0 c.put_u32.ensures c.put_u32-then-len-left.ensures c.put_bytes.ensures (omega arith))
+pub returns-then-len-saturating_sub : goal.returns-then-len-saturating_sub
+returns-then-len-saturating_sub c = one_entry c.payload_of-p.ensures c.if-n-eq0.false (entry-written _ _ _ _ (payload-size c.payload_of-p.ensures) c.hash.ensures.0 c.put_u32.ensures c.put_u32-then-len-saturating_sub.ensures c.put_bytes.ensures (omega arith))
 
-pub returns-else-len-left : goal.returns-else-len-left
-returns-else-len-left c = one_entry c.payload_of-p.ensures c.if-n-eq0.false (entry-none _ _ _ _ (payload-size c.payload_of-p.ensures) (omega arith))
+pub returns-else-len-saturating_sub : goal.returns-else-len-saturating_sub
+returns-else-len-saturating_sub c = one_entry c.payload_of-p.ensures c.if-n-eq0.false (entry-none _ _ _ _ (payload-size c.payload_of-p.ensures) (omega arith))

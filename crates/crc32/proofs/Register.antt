@@ -3,8 +3,8 @@ use mathlib.Core.Path.{◌≡◌, refl, ap, ◌∙◌}
 use Prim.Native.Nat.{ℕ, suc, ◌+◌, ◌-◌, ◌≤◌, ◌<◌}
 use native.Mathlib.Omega.{arith}
 use native.Mathlib.Numerals.{add-one}
-use lib.ListN.{length, drop, get_or, drop_of_length-le}
-use lib.Seq.{drop-cons}
+use lib.ListN.{length, take, drop, get_or, length-drop, drop_of_length-le}
+use lib.Seq.{take_all, drop-cons}
 use lib.Bits.{bit_xor}
 use Rattle.basics.specs.Base.{Bytes}
 use Rattle.basics.specs.Crc32.{shift, shifts, feed_byte, register, crc32, ieee_crc32}
@@ -17,8 +17,8 @@ pub record Shifting (c b n r : ℕ) : Type 0 where
   pub within : n ≤ 8
   pub same : shifts (8 - n) r ≡ feed_byte c b
 
-pub shifting : (c b : ℕ) → Shifting c b 0 (bit_xor c b)
-shifting c b = record { within = omega arith; same = unfold feed_byte in refl }
+pub shifting : (c b : ℕ) {x : ℕ} → x ≡ b → Shifting c b 0 (bit_xor c x)
+shifting c b e = record { within = omega arith; same = unfold feed_byte in rw e }
 
 module _ {c b n r : ℕ} (w : Shifting c b n r) where
   pub shifted : {q : ℕ} → q ≡ shift r → n < 8 → Shifting c b (n + 1) q
@@ -35,24 +35,21 @@ module _ {c b n r : ℕ} (w : Shifting c b n r) where
 pub record Feeding (whole : ℕ) (s : Bytes) (i c : ℕ) : Type 0 where
   pub same : register c (drop i s) ≡ whole
 
-pub feeding : (s : Bytes) (i c : ℕ) → Feeding (register c (drop i s)) s i c
-feeding s i c = record { same = refl }
+pub feeding : (s : Bytes) (c : ℕ) → Feeding (register c s) s 0 c
+feeding s c = record { same = refl }
 
 module _ {whole : ℕ} {s : Bytes} {i c : ℕ} (w : Feeding whole s i c) where
-  pub fed : {q : ℕ} → q ≡ feed_byte c (get_or s i 0) → i < length s → Feeding whole s (i + 1) q
+  pub fed : {j q : ℕ} → j ≡ i + 1 → q ≡ feed_byte c (get_or s i 0) → i < length s → Feeding whole s j q
   unfolding register
-  fed e l = record { same = rw (e, add-one, ← w.same, drop-cons s i 0 l) }
+  fed n e l = record { same = rw (n, e, add-one, ← w.same, drop-cons s i 0 l) }
+
+  -- What is left is fed at once.
+  pub left-fed : {j q : ℕ} → i ≡ j → q ≡ register c (take (length s - j) (drop j s)) → q ≡ whole
+  left-fed {j} n e = e ∙ ap (register c) (take_all (length s - j) (drop j s) (omega (arith, length-drop j s))) ∙ rw n at w.same
 
   pub all-fed : length s ≤ i → c ≡ whole
   unfolding register
   all-fed l = rw (drop_of_length-le s l) at w.same
-
--- Of two byte strings i bytes each are fed, of the n that both have.
-pub record Both (a b : Bytes) (n i c d : ℕ) : Type 0 where
-  pub in_first : n ≤ length a
-  pub in_second : n ≤ length b
-  pub first : Feeding (register 0xFFFF_FFFF a) a i c
-  pub second : Feeding (register 0xFFFF_FFFF b) b i d
 
 -- The register of all bytes, complemented, is the checksum.
 pub checksum : (s : Bytes) {c : ℕ} → c ≡ register 0xFFFF_FFFF s → bit_xor c 0xFFFF_FFFF ≡ crc32 s

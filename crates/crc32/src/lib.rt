@@ -2,7 +2,7 @@
 // final exclusive-or all ones." It is wal.rs's checksum (`compute_checksum`); that it is IEEE 802.3's is a law of crate laws.
 #![tactic(auto)]
 
-ghost use Rattle.std.specs.Prelude.{◌≡◌, true, drop};
+ghost use Rattle.std.specs.Prelude.{◌≡◌, true};
 ghost use Rattle.crc32.specs.Table.{byte_table};
 ghost use Rattle.basics.specs.Crc32.{shift, shifts, feed_byte, register, crc32, ieee_crc32};
 
@@ -12,7 +12,8 @@ use table::TABLE;
 
 const POLYNOMIAL: u32 = 0xEDB8_8320;
 
-const ALL_ONES: u32 = 0xFFFF_FFFF;
+// "start and final exclusive-or all ones"
+pub const ALL_ONES: u32 = u32::MAX;
 
 // The table, laid down for the caller: its rule is one test, which the checker computes over all 256 numbers.
 pub fn byte_table() -> [u32; 256]
@@ -26,8 +27,7 @@ fn shift_byte(t: &[u32; 256], c: u32) -> u32
     requires { t.now ≡ byte_table }
     ensures { result ≡ shifts 8 c }
 {
-    let i = (c % 256) as usize;
-    (c >> 8) ^ t[i]
+    (c >> 8) ^ t[(c % 256) as usize]
 }
 
 // The register after one more byte.
@@ -35,19 +35,17 @@ fn update(t: &[u32; 256], c: u32, b: u8) -> u32
     requires { t.now ≡ byte_table }
     ensures { result ≡ feed_byte c b }
 {
-    shift_byte(t, c ^ (b as u32))
+    shift_byte(t, c ^ u32::from(b))
 }
 
-// The register after the bytes from a place on.
-fn feed(t: &[u32; 256], c: u32, s: &[u8], from: usize) -> u32
+// The register after all bytes.
+fn feed(t: &[u32; 256], c: u32, s: &[u8]) -> u32
     requires { t.now ≡ byte_table }
-    ensures { result ≡ register c (drop from s.now) }
+    ensures { result ≡ register c s.now }
 {
     let mut r = c;
-    let mut i = from;
-    while i < s.len() {
-        r = update(t, r, s[i]);
-        i += 1;
+    for b in s {
+        r = update(t, r, *b);
     }
     r
 }
@@ -58,42 +56,33 @@ pub fn hash_by(t: &[u32; 256], s: &[u8]) -> u32
     requires { t.now ≡ byte_table }
     ensures { (result ≡ crc32 s.now) × (result ≡ ieee_crc32 s.now) }
 {
-    feed(t, ALL_ONES, s, 0) ^ ALL_ONES
+    feed(t, ALL_ONES, s) ^ ALL_ONES
 }
 
 // The same from a table of its own.
 pub fn hash(s: &[u8]) -> u32
     ensures { (result ≡ crc32 s.now) × (result ≡ ieee_crc32 s.now) }
 {
-    let t = byte_table();
-    hash_by(&t, s)
+    hash_by(&byte_table(), s)
 }
 
-// The checksums of two byte strings.
-#[derive(Clone, Copy)]
-pub struct Two {
-    pub first: u32,
-    pub second: u32,
-}
-
-// Both checksums, a byte of the one and a byte of the other in turn: a look into the table waits for the one before it in the same string only.
-pub fn hash_two(t: &[u32; 256], a: &[u8], b: &[u8]) -> Two
+// The checksums of two byte strings, a byte of the one and a byte of the other in turn: a look into the table waits for the one before it in the
+// same string only.
+pub fn hash_two(t: &[u32; 256], a: &[u8], b: &[u8]) -> (u32, u32)
     requires { t.now ≡ byte_table }
-    ensures { (result.first ≡ crc32 a.now) × (result.second ≡ crc32 b.now) }
+    ensures { (result.0 ≡ crc32 a.now) × (result.1 ≡ crc32 b.now) }
 {
-    let n = if a.len() < b.len() { a.len() } else { b.len() };
     let mut c: u32 = ALL_ONES;
     let mut d: u32 = ALL_ONES;
-    let mut i: usize = 0;
-    while i < n {
-        c = update(t, c, a[i]);
-        d = update(t, d, b[i]);
-        i += 1;
+    for (x, y) in a.iter().zip(b) {
+        c = update(t, c, *x);
+        d = update(t, d, *y);
     }
-    Two {
-        first: feed(t, c, a, i) ^ ALL_ONES,
-        second: feed(t, d, b, i) ^ ALL_ONES,
-    }
+    let both = a.len().min(b.len());
+    (
+        feed(t, c, &a[both..]) ^ ALL_ONES,
+        feed(t, d, &b[both..]) ^ ALL_ONES,
+    )
 }
 
 // The register after one shift: the bit that falls out says whether the polynomial goes in.
@@ -111,11 +100,9 @@ fn shift_once(c: u32) -> u32
 fn update_bit_by_bit(c: u32, b: u8) -> u32
     ensures { result ≡ feed_byte c b }
 {
-    let mut r = c ^ (b as u32);
-    let mut n: u32 = 0;
-    while n < 8 {
+    let mut r = c ^ u32::from(b);
+    for _n in 0..8u32 {
         r = shift_once(r);
-        n += 1;
     }
     r
 }
@@ -124,11 +111,9 @@ fn update_bit_by_bit(c: u32, b: u8) -> u32
 pub fn hash_bit_by_bit(s: &[u8]) -> u32
     ensures { (result ≡ crc32 s.now) × (result ≡ ieee_crc32 s.now) }
 {
-    let mut r: u32 = ALL_ONES;
-    let mut i: usize = 0;
-    while i < s.len() {
-        r = update_bit_by_bit(r, s[i]);
-        i += 1;
+    let mut r = ALL_ONES;
+    for b in s {
+        r = update_bit_by_bit(r, *b);
     }
     r ^ ALL_ONES
 }

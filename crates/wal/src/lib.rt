@@ -10,6 +10,7 @@ ghost use Rattle.crc32.specs.Table.{byte_table};
 ghost use Rattle.transaction.specs.Operations.{op_of, Bounds, WritesOp};
 ghost use Rattle.wal.specs.Logs.{journal_of, payload_at, cause_of, ending_of, HeadAt, PayloadHead, EntryAt, EndsAt, Known, KnownBehind, ReadsLog, WalksLog};
 
+use crc32::ALL_ONES;
 use crc32::table::TABLE;
 use spans::NameRef;
 use transaction::{Decoded, Operation};
@@ -19,8 +20,6 @@ use transaction::{Decoded, Operation};
 const WAL_MAGIC: u8 = 0xCA;
 
 // The register behind the first byte, and the checksums behind a status of 0 and of 1: looked up in the table when this is compiled.
-const ALL_ONES: u32 = 0xFFFF_FFFF;
-
 const MAGIC_FED: u32 = (ALL_ONES >> 8) ^ TABLE[((ALL_ONES ^ WAL_MAGIC as u32) % 256) as usize];
 
 const RECORDING_CHECKSUM: u32 = (MAGIC_FED >> 8) ^ TABLE[(MAGIC_FED % 256) as usize] ^ ALL_ONES;
@@ -269,9 +268,9 @@ fn sums_from(t: &[u32; 256], log: &[u8], start: usize, end: usize) -> Sums
         },
         Entry::Payload(from, to) => {
             let two = crc32::hash_two(t, payload(log, start, end), payload(log, from, to));
-            let sum = two.second;
+            let sum = two.1;
             Sums {
-                sum: two.first,
+                sum: two.0,
                 ahead: Ahead {
                     known: true,
                     sum: sum,

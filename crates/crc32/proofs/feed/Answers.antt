@@ -1,12 +1,13 @@
+use mathlib.Core.Path.{refl}
 use native.Mathlib.Omega.{arith}
 use Rattle.crc32.proofs.Register.{feeding, fed, all-fed}
 use Rattle.crc32.proofs.feed.Goals as goal
 
-pub loop-i-init : goal.loop-i-init
-loop-i-init c = feeding _ _ _
+pub loop-b-init : goal.loop-b-init
+loop-b-init c = feeding _ _
 
-pub loop-i-preserved : goal.loop-i-preserved
-loop-i-preserved c = fed c.loop-i.invariant c.update-r.ensures (omega arith)
+pub loop-b-preserved : goal.loop-b-preserved
+loop-b-preserved c = fed c.loop-b.invariant refl c.update-r.ensures (omega arith)
 
 pub returns : goal.returns
-returns c = all-fed c.loop-i.invariant (omega arith)
+returns c = all-fed c.loop-b.invariant (omega arith)

@@ -1,10 +1,11 @@
 -- `crc32::hash_two` meets its contract. The loop's invariant: in each string the bytes that are left give the whole register.
-use Prim.Native.Nat.{◌-◌}
-use Rattle.crc32.proofs.Register.{Both}
+use lib.ListN.{length}
+use Rattle.basics.specs.Crc32.{register}
+use Rattle.crc32.proofs.Register.{Feeding}
 use Rattle.crc32.proofs.hash_two.Given as goal
 
-abbrev pub invariant-loop-i : goal.invariant-loop-i
-invariant-loop-i l = Both l.a l.b l.n l.i l.c l.d
-
-abbrev pub decreases-loop-i : goal.decreases-loop-i
-decreases-loop-i l = l.n - l.i
+abbrev pub invariant-loop-x : goal.invariant-loop-x
+invariant-loop-x l = record {
+  first : Feeding (register 0xFFFF_FFFF l.a) l.a (length l.yielded) l.c;
+  second : Feeding (register 0xFFFF_FFFF l.b) l.b (length l.yielded) l.d;
+}

@@ -4,4 +4,4 @@ use Rattle.crc32.proofs.update.Goals as goal
 
 pub returns : goal.returns
 unfolding feed_byte
-returns c = c.shift_byte.ensures
+returns c = rw c.from.ensures at c.shift_byte.ensures

@@ -6,7 +6,7 @@ use Prim.Native.Nat.{ℕ, compare, Ordering}
 use lib.Dec.{eqb, compare_is_eq}
 use lib.Pointwise.{pointwise}
 use Rattle.std.specs.Prelude.{nat_eq}
-use Rattle.std.specs.List.{list_all}
+use Rattle.std.specs.List.{fold}
 use Rattle.std.proofs.lemmas.Cmp.{nat_list_eq_equiv}
 use Rattle.basics.specs.Order.{case_cmp, then_cmp, of_ordering, Name, cmp_name}
 use Rattle.basics.specs.Base.{same_bytes, all_of}
@@ -29,7 +29,12 @@ pointwise_same (x ∷ a) (y ∷ b) = rw (pointwise_same a b) (sym (same-cons x y
 pub turned : (a b : Name) → pointwise nat_eq a b ≡ same_bytes b a
 turned a b = nat_list_eq_equiv.symm a b ∙ pointwise_same b a
 
--- The library's test of all elements is the documents'.
-pub all_listed : (p : ℕ → Bool) (l : Name) → list_all p l ≡ all_of p l
-all_listed p [] = refl
-all_listed p (x ∷ l) = rw (all_listed p l)
+-- A test of all elements, each looked at.
+folded : (p : ℕ → Bool) (b : Bool) (l : Name) → fold (λ a x. a && p x) b l ≡ (b && all_of p l)
+folded p true [] = refl
+folded p false [] = refl
+folded p true (x ∷ l) = folded p (p x) l
+folded p false (x ∷ l) = folded p false l
+
+pub all_folded : (p : ℕ → Bool) (l : Name) → fold (λ a x. a && p x) true l ≡ all_of p l
+all_folded p l = folded p true l

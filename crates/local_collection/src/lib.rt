@@ -36,14 +36,12 @@ fn lowers_to(src: &[u8], file: NameRef, key: NameRef) -> bool
     if n != spans::length_of(key) {
         return false;
     }
-    let mut i: usize = 0;
-    while i < n {
+    for i in 0..n {
         let raw = spans::byte_at(src, file, i);
         let low = raw.to_ascii_lowercase();
         if low != spans::byte_at(src, key, i) {
             return false;
         }
-        i += 1;
     }
     true
 }
@@ -115,10 +113,8 @@ fn put_lower(src: &[u8], file: NameRef, out: &mut [u8], at: usize)
 {
     let n = spans::length_of(file);
     if n <= out.len().saturating_sub(at) {
-        let mut i: usize = 0;
-        while i < n {
+        for i in 0..n {
             out[at + i] = spans::byte_at(src, file, i).to_ascii_lowercase();
-            i += 1;
         }
     }
 }

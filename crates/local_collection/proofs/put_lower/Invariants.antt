@@ -1,5 +1,4 @@
 -- `put_lower` meets its contract: byte by byte, by crate field's record of a loop that writes.
-use Prim.Native.Nat.{◌-◌}
 use Rattle.basics.specs.Name.{lower}
 use Rattle.field.proofs.Written.{Pasting}
 use Rattle.spans.specs.Spans.{name_of}
@@ -7,6 +6,3 @@ use Rattle.local_collection.proofs.put_lower.Given as goal
 
 abbrev pub invariant-loop-i : goal.invariant-loop-i
 invariant-loop-i l = Pasting l.at (lower (name_of l.src l.file)) l.initial.out l.i l.out
-
-abbrev pub decreases-loop-i : goal.decreases-loop-i
-decreases-loop-i l = l.n - l.i

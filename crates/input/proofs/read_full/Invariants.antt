@@ -1,6 +1,6 @@
 -- The place that is written next lies in the buffer.
 use Rattle.std.proofs.Common.{length, ◌≤◌, ◌-◌}
-use Rattle.list_store.proofs.read_input.Given as goal
+use Rattle.input.proofs.read_full.Given as goal
 
 abbrev pub invariant-loop-n : goal.invariant-loop-n
 invariant-loop-n g l = l.n ≤ length l.buf

@@ -4,31 +4,30 @@
 
 mod show;
 
+use questions::Part;
 use std::io;
 
-fn one(rt: &impl Print, tag: u8, buf: &[u8; 65536], len: usize) -> io::Result<()> {
-    let value = wal::payload(buf, 0, len);
-    match tag {
-        questions::TEXT => show::put(rt, value),
+fn one(rt: &impl Print, part: Part<'_>) -> io::Result<()> {
+    let value = part.value;
+    match part.tag {
+        questions::TEXT => rt.write_all(value),
         questions::ASKED | questions::ASKED_BY_DOCUMENTS => {
             let mut out = [0u8; questions::ROOM];
             let mut step = [0u8; questions::STEP_ROOM];
             let answer = questions::ask(value, &mut out, &mut step);
-            let call = questions::byte(value, questions::CALL);
-            show::answer(rt, call, answer, &out, &step)
+            show::answer(rt, questions::call_of(value), answer)
         }
-        _ => show::put(rt, b"unreadable\n"),
+        _ => println!(rt; "unreadable"),
     }
 }
 
 fn run<R: io::Read>(rt: &(impl Print + Eprint), list: &mut R) -> io::Result<()> {
     let mut buf = [0u8; 65536];
     for _ in 0..questions::MOST {
-        let p = questions::read_next(rt, list, &mut buf);
-        if !p.there {
+        let Some(part) = questions::read_next(rt, list, &mut buf) else {
             return Ok(());
-        }
-        one(rt, p.tag, &buf, p.end)?;
+        };
+        one(rt, part)?;
     }
     Ok(())
 }

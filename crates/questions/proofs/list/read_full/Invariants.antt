@@ -1,6 +1,6 @@
 -- The place that is written next lies in the buffer.
 use Rattle.std.proofs.Common.{length, ◌≤◌, ◌-◌}
-use Rattle.questions.proofs.read_full.Given as goal
+use Rattle.questions.proofs.list.read_full.Given as goal
 
 abbrev pub invariant-loop-n : goal.invariant-loop-n
 invariant-loop-n g l = l.n ≤ length l.buf

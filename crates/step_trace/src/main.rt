@@ -2,8 +2,8 @@
 // kept; what stands behind it is met piece by piece. Where a read fails it writes a message to standard error and no line; where a write fails, a message.
 #![tactic(auto)]
 
-ghost use Rattle.std.specs.Prelude.{◌≤◌, ◌<◌, length};
-ghost use Rattle.trace.specs.Tracking.{Steady};
+ghost use Rattle.std.specs.Prelude.{◌≤◌, ◌<◌, IfOk, length};
+ghost use Rattle.trace.specs.Tracking.{steps_of};
 
 use std::io;
 use trace::Trace;
@@ -19,78 +19,50 @@ const PIECE_ROOM: usize = 65_536;
 // No plan has so many steps; a trace that had them would be told to be one.
 const MOST_STEPS: u32 = 4_000_000_000;
 
-// How many bytes were read, and whether every read went well.
-#[derive(Clone, Copy)]
-struct Input {
-    len: usize,
-    ok: bool,
-}
-
-// Reads until the input ends or the buffer is full; a read may give fewer bytes than there is room for.
-fn read_input<R: io::Read>(reader: &mut R, buf: &mut [u8]) -> Input
-    ensures { result.len ≤ length buf.new }
-{
-    let mut n: usize = 0;
-    while n < buf.len() {
-        let Ok(more) = reader.read(&mut buf[n..]) else {
-            return Input { len: n, ok: false };
-        };
-        if more == 0 {
-            return Input { len: n, ok: true };
-        }
-        n += more;
-    }
-    Input { len: n, ok: true }
-}
-
-// A trace, and whether it was read to the input's end.
-#[derive(Clone, Copy)]
-struct Read {
-    trace: Trace,
-    ok: bool,
-}
-
 // The rest of the input, piece by piece.
-fn read_on<R: io::Read>(reader: &mut R, image: &[u8], t: Trace) -> Read
-    requires { Steady t × (t.steps < 0xFFFF_FFFF) }
-    ensures { Steady result.trace × (result.trace.steps < 0xFFFF_FFFF) }
+fn read_on<R: io::Read>(reader: &mut R, image: &[u8], begun: Trace) -> io::Result<Trace>
+    requires { steps_of begun < 0xFFFF_FFFF }
+    ensures { IfOk result (λ t. steps_of t < 0xFFFF_FFFF) }
 {
-    let mut work = t;
+    let mut trace = begun;
     let mut buf = [0u8; PIECE_ROOM];
     for _ in 0..0xFFFF_FFFFu32 {
-        let Ok(n) = reader.read(&mut buf) else {
-            return Read {
-                trace: work,
-                ok: false,
-            };
-        };
+        let n = reader.read(&mut buf)?;
         if n == 0 {
-            return Read {
-                trace: work,
-                ok: true,
-            };
+            return Ok(trace);
         }
-        if MOST_STEPS < work.steps {
-            return Read {
-                trace: work,
-                ok: false,
-            };
+        if MOST_STEPS < trace.steps() {
+            break;
         }
-        work = trace::feed(image, work, &buf[..n]);
+        trace = trace.feed(image, &buf[..n]);
     }
-    Read {
-        trace: work,
-        ok: false,
+    Err(io::Error::from(io::ErrorKind::FileTooLarge))
+}
+
+fn put(rt: &(impl Print + Eprint), trace: &Trace)
+    requires { steps_of trace.now < 0xFFFF_FFFF }
+{
+    let mut out = [0u8; LINE_ROOM];
+    let n = trace.put_line(&mut out);
+    if rt.write_all(&out[..n]).is_err() {
+        let _ = eprintln!(rt; "step_trace: the line could not be written");
     }
 }
 
-fn put(rt: &(impl Print + Eprint), t: Trace)
-    requires { Steady t × (t.steps < 0xFFFF_FFFF) }
+// The line of an input that begins so; `full` where more may follow.
+fn run<R: io::Read>(rt: &(impl Print + Eprint), reader: &mut R, first: &[u8], full: bool)
+    requires { length first.now ≤ 19_391 }
 {
-    let mut out = [0u8; LINE_ROOM];
-    let n = trace::put_line(t, &mut out);
-    if rt.write_all(&out[..n]).is_err() {
-        let _ = eprintln!(rt; "step_trace: the line could not be written");
+    let (image, behind) = first.split_at(trace::image_length(first));
+    let begun = Trace::start(image).feed(image, behind);
+    let whole = if full {
+        read_on(reader, image, begun)
+    } else {
+        Ok(begun)
+    };
+    match whole {
+        Ok(trace) => put(rt, &trace),
+        Err(_) => fail(rt),
     }
 }
 
@@ -98,35 +70,11 @@ fn fail(rt: &impl Eprint) {
     let _ = eprintln!(rt; "step_trace: the input could not be read");
 }
 
-// The line of an input that begins so; `full` where more may follow.
-fn run<R: io::Read>(rt: &(impl Print + Eprint), reader: &mut R, first: &[u8], full: bool)
-    requires { length first.now ≤ 19_391 }
-{
-    let n = trace::image_length(first);
-    let image = &first[..n];
-    let begun = trace::start(image);
-    let met = trace::feed(image, begun, &first[n..]);
-    if !full {
-        put(rt, met);
-        return;
-    }
-    let r = read_on(reader, image, met);
-    let t = r.trace;
-    if r.ok {
-        put(rt, t);
-    } else {
-        fail(rt);
-    }
-}
-
 fn main(rt: HostRuntime) {
     let mut reader = rt.reader();
     let mut buf = [0u8; INPUT_ROOM];
-    let input = read_input(&mut reader, &mut buf);
-    let n = input.len;
-    if input.ok {
-        run(&rt, &mut reader, &buf[..n], n == INPUT_ROOM);
-    } else {
-        fail(&rt);
+    match input::read_full(&mut reader, &mut buf) {
+        Ok(n) => run(&rt, &mut reader, &buf[..n], n == INPUT_ROOM),
+        Err(_) => fail(&rt),
     }
 }

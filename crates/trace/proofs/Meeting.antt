@@ -3,22 +3,18 @@ use Rattle.std.specs.Prelude.{if◌then◌else◌}
 use mathlib.Core.Path.{◌≡◌, refl, sym, ap, ◌∙◌}
 use mathlib.Core.Bool.{Bool, true, false}
 use mathlib.Core.List.{[], ◌∷◌, ◌++◌, append_assoc}
-use Prim.Native.Nat.{ℕ, suc, ◌+◌, ◌≤◌, ◌<◌}
+use Prim.Native.Nat.{ℕ, zero, suc, ◌+◌, ◌≤◌, ◌<◌}
 use native.Mathlib.Omega.{arith}
 use lib.ListN.{length, take, drop, get_or}
-use lib.Seq.{length-take-le, take-suc, take-append_seam, drop-append_seam, get_or-take}
+use lib.Seq.{length-take-le, take-suc, take_all, take-append_seam, drop-append_seam, get_or-take}
 use Rattle.basics.specs.Base.{Bytes, if_empty, same_bytes}
 use Rattle.basic_laws.specs.Tests.{same-eq, same_refl}
-use Rattle.trace.specs.Line.{steps_line, differs_line, line_from}
-use Rattle.trace.specs.Tracking.{step_behind, Behind, told, Tracks, Steady}
+use Rattle.trace.specs.Line.{steps_line, differs_line, answer_line, line_from}
+use Rattle.trace.specs.Tracking.{step_behind, steps_of, told, Due, Tracks, Fresh, Goes}
 use Rattle.trace.specs.declared.Trace.{Trace}
+use Rattle.trace.specs.declared.Trace.TheVariants.{Refused, Along, Differs}
+use Rattle.arrayvec.specs.ArrayVec.{ArrayVec}
 use Rattle.trace.proofs.Next.{Next, refused, ended, ahead, next}
-
-abbrev pub as_parted : Trace → Trace
-as_parted t = record { number = t.number; steps = t.steps; differs = true; field = t.field; len = t.len; met = t.met }
-
-abbrev pub with_met : ℕ → Trace → Trace
-with_met k t = record { number = t.number; steps = t.steps; differs = t.differs; field = t.field; len = t.len; met = k }
 
 not-empty : {A : Type 0} (p : Bytes) (x : ℕ) (l : Bytes) (a b : A) → if_empty (p ++ x ∷ l) a b ≡ b
 not-empty [] x l a b = refl
@@ -42,129 +38,118 @@ other f p x l h d = go (same_bytes f (take (length f) (p ++ x ∷ l))) refl
         absurd (d (ap (λ (s : Bytes). get_or s (length p) 0) q ∙ get_or-take (length f) (p ++ x ∷ l) (length p) 0 h ∙ at_seam p x l))
     go false e = refl
 
--- One byte behind others.
-behind_byte : (b : Bytes) (x : ℕ) (l : Bytes) → (b ++ x ∷ []) ++ l ≡ b ++ x ∷ l
-behind_byte b x l = append_assoc b (x ∷ []) l
+-- A byte of a field is due that was not met whole.
+due : (m : ℕ) (f : Bytes) → (0 < m → m < length f) → 1 ≤ length f → m < length f
+due zero f h l = l
+due (suc m) f h l = h (omega arith)
 
--- A step is due, none of its bytes met.
-pub begun : {image b : Bytes} {r : Trace} → Behind image r → r.met ≡ 0 → r.differs ≡ false → ((l : Bytes) → line_from image 0 (b ++ l) ≡ line_from image r.steps l)
-    → Tracks image b r
-begun {image} {b} {r} v m d h = record {
-  behind = v;
-  inside = λ z. inside (next image r.steps) z;
-  outside = λ z. m;
-  line = λ l. h l ∙ rw (d, m);
-}
+-- The byte that a slice has at a place.
+pub byte_at : (l f : Bytes) (m y : ℕ) → l ≡ f → y ≡ get_or l m y → m < length l → get_or f m 0 ≡ y
+byte_at l f m y e h i = rw (sym e) (sym (h ∙ same l m i))
   where
-    inside : Next image r.steps (step_behind image r.steps) → r.number ≡ 0 → r.met < r.len
-    inside (refused k n y q o g) z = absurd (y (sym n ∙ sym v.number ∙ z))
-    inside (ended n g) z = absurd (omega (arith, z, v.number, n))
-    inside (ahead n s g) z = omega (arith, m, s, v.size)
+    same : (l : Bytes) (m : ℕ) → m < length l → get_or l m y ≡ get_or l m 0
+    same [] m i = absurd (omega arith)
+    same (x ∷ l) zero i = refl
+    same (x ∷ l) (suc m) i = same l m (omega arith)
 
-module _ (image : Bytes) (t : Trace) (x : ℕ) where
-  -- The trace is as it was.
-  pub differs-still : t.differs ≡ true → (b : Bytes) → Tracks image b t → Tracks image (b ++ x ∷ []) t
-  differs-still d b w = record {
-    behind = w.behind;
-    inside = w.inside;
-    outside = w.outside;
-    line = λ l. ap (line_from image 0) (behind_byte b x l) ∙ w.line (x ∷ l) ∙ rw d;
+-- Before a step's first byte: the step is due, or the commit is refused with this number.
+module _ (image : Bytes) (n : ℕ) {k : ℕ} (e : k ≡ (step_behind image n).number) where
+  pub fresh-along : (f : ArrayVec ℕ) → f.items ≡ (step_behind image n).step → ((k ≡ 0 → ⊥) → k ≡ 16) → Fresh image n (Along n f 0)
+  fresh-along f s w = record {
+    steps = omega arith;
+    tracks = λ b h. record {
+      stands = record { number = λ z. sym e ∙ w (λ y. z (sym e ∙ y)); same = s; inside = λ z. absurd (omega arith) };
+      line = h;
+    };
   }
 
-  -- Refused: the line is the answer, whatever comes.
-  pub refused-still : t.differs ≡ false → (t.number ≡ 0 → ⊥) → (t.number ≡ 16 → ⊥) → (b : Bytes) → Tracks image b t → Tracks image (b ++ x ∷ []) t
-  refused-still d z e b w = record {
-    behind = w.behind;
-    inside = w.inside;
-    outside = w.outside;
-    line = λ l. ap (line_from image 0) (behind_byte b x l) ∙ w.line (x ∷ l) ∙ (rw d (go (next image t.steps) l));
+  pub fresh-refused : (k ≡ 0 → ⊥) → (k ≡ 16 → ⊥) → Fresh image n (Refused k)
+  fresh-refused z p = record {
+    steps = omega arith;
+    tracks = λ b h. record { stands = tt; line = λ l. h l ∙ go (next image n) l };
   }
     where
-      go : Next image t.steps (step_behind image t.steps) → (l : Bytes)
-          → line_from image t.steps (take t.met t.field ++ x ∷ l) ≡ line_from image t.steps (take t.met t.field ++ l)
-      go (refused k n y q o h) l = h t.steps (take t.met t.field ++ x ∷ l) ∙ sym (h t.steps (take t.met t.field ++ l))
-      go (ended n h) l = absurd (e (w.behind.number ∙ n))
-      go (ahead n s h) l = absurd (z (w.behind.number ∙ n))
+      go : Next image n (step_behind image n) → (l : Bytes) → line_from image n l ≡ answer_line k
+      go (refused j m y q o g) l = g n l ∙ ap answer_line (sym m ∙ sym e)
+      go (ended m y g) l = absurd (p (e ∙ m))
+      go (ahead m y g) l = absurd (z (e ∙ m))
 
-  -- A byte where nothing is due, or another.
-  parts : (b : Bytes) → Tracks image b t → ((l : Bytes) → told image t (x ∷ l) ≡ differs_line (suc t.steps)) → Tracks image (b ++ x ∷ []) (as_parted t)
-  parts b w h = record {
-    behind = record { number = w.behind.number; size = w.behind.size; same = w.behind.same };
-    inside = w.inside;
-    outside = w.outside;
-    line = λ l. ap (line_from image 0) (behind_byte b x l) ∙ w.line (x ∷ l) ∙ h l;
-  }
+-- A byte x comes.
+module _ (image : Bytes) (x : ℕ) where
+  -- The line of a trace is known so far; what it is then is left to show.
+  on : {b : Bytes} {t : Trace} → Tracks image b t → (l : Bytes) → line_from image 0 ((b ++ x ∷ []) ++ l) ≡ told image t (x ∷ l)
+  on {b} w l = ap (line_from image 0) (append_assoc b (x ∷ []) l) ∙ w.line (x ∷ l)
 
-  pub past_end : t.differs ≡ false → t.number ≡ 16 → (b : Bytes) → Tracks image b t → Tracks image (b ++ x ∷ []) (as_parted t)
-  past_end d e b w = parts b w (λ l. rw d (go (next image t.steps) l))
-    where
-      go : Next image t.steps (step_behind image t.steps) → (l : Bytes) → line_from image t.steps (take t.met t.field ++ x ∷ l) ≡ differs_line (suc t.steps)
-      go (refused k n y q o h) l = absurd (q (sym n ∙ sym w.behind.number ∙ e))
-      go (ended n h) l = h (take t.met t.field ++ x ∷ l) ∙ not-empty (take t.met t.field) x l (steps_line t.steps) (differs_line (suc t.steps))
-      go (ahead n s h) l = absurd (omega (arith, e, w.behind.number, n))
+  -- Where the line is told already, it stays.
+  pub still-refused : (k : ℕ) → Goes image (x ∷ []) (Refused k) (Refused k)
+  still-refused k = record { steps = omega arith; tracks = λ b w. record { stands = tt; line = on w } }
 
-  -- Where a step is due: its field begins with the bytes that were met.
-  module _ (st : Steady t) (d : t.differs ≡ false) (z : t.number ≡ 0) where
-    abbrev f : Bytes
-    f = (step_behind image t.steps).step
+  pub still-differs : (n : ℕ) → Goes image (x ∷ []) (Differs n) (Differs n)
+  still-differs n = record { steps = omega arith; tracks = λ b w. record { stands = tt; line = on w } }
 
+  -- Where the plan is followed, m bytes of the field being met.
+  module _ (n : ℕ) (f : ArrayVec ℕ) (m : ℕ) where
+    abbrev s : Bytes
+    s = (step_behind image n).step
+
+    -- What was met of the field.
     abbrev p : Bytes
-    p = take t.met t.field
+    p = take m f.items
 
-    p_long : length p ≡ t.met
-    p_long = length-take-le t.met t.field (omega (arith, st.met, st.size))
+    p_long : m < length f.items → length p ≡ m
+    p_long h = length-take-le m f.items (omega arith)
 
-    pub other_byte : (get_or t.field t.met 0 ≡ x → ⊥) → (b : Bytes) → Tracks image b t → Tracks image (b ++ x ∷ []) (as_parted t)
-    other_byte h b w = parts b w (λ l. rw d (go (next image t.steps) l))
+    -- Another byte than the one that is due, or one where none is.
+    pub goes-apart : (m < length f.items → get_or f.items m 0 ≡ x → ⊥) → Goes image (x ∷ []) (Along n f m) (Differs n)
+    goes-apart h = record {
+      steps = omega arith;
+      tracks = λ b w. record { stands = tt; line = λ l. on w l ∙ go w.stands (next image n) l };
+    }
       where
-        i : t.met < t.len
-        i = w.inside z
-
-        at : get_or f (length p) 0 ≡ get_or t.field t.met 0
-        at = ap (λ (s : Bytes). get_or s (length p) 0) (sym w.behind.same) ∙ ap (λ (k : ℕ). get_or (take t.len t.field) k 0) p_long ∙ get_or-take t.len t.field t.met 0 i
-
-        go : Next image t.steps (step_behind image t.steps) → (l : Bytes) → line_from image t.steps (p ++ x ∷ l) ≡ differs_line (suc t.steps)
-        go (refused k n y q o g) l = absurd (y (sym n ∙ sym w.behind.number ∙ z))
-        go (ended n g) l = absurd (omega (arith, z, w.behind.number, n))
-        go (ahead n s g) l =
-            let o = other f p x l (omega (arith, p_long, i, w.behind.size)) (λ e. h (sym at ∙ e)) in
+        go : Due image n f.items m → Next image n (step_behind image n) → (l : Bytes) → line_from image n (p ++ x ∷ l) ≡ differs_line (suc n)
+        go d (refused k y z q o g) l = absurd (q (sym y ∙ d.number (λ e. z (sym y ∙ e))))
+        go d (ended y z g) l = g (p ++ x ∷ l) ∙ not-empty p x l (steps_line n) (differs_line (suc n))
+        go d (ahead y z g) l =
+            let i = due m f.items d.inside (omega (arith, z, ap length d.same)) in
+            let u = p_long i in
+            let at : get_or s (length p) 0 ≡ get_or f.items m 0 = rw (u, d.same) refl in
+            let o = other s p x l (omega (arith, u, i, ap length d.same)) (λ e. h i (sym at ∙ e)) in
             g (p ++ x ∷ l)
-            ∙ not-empty p x l (steps_line t.steps)
-            (if same_bytes f (take (length f) (p ++ x ∷ l)) then line_from image (suc t.steps) (drop (length f) (p ++ x ∷ l)) else differs_line (suc t.steps))
+            ∙ not-empty p x l (steps_line n) (if same_bytes s (take (length s) (p ++ x ∷ l)) then line_from image (suc n) (drop (length s) (p ++ x ∷ l)) else differs_line (suc n))
             ∙ rw o
 
-    -- The byte that is due is one more.
-    longer : get_or t.field t.met 0 ≡ x → (l : Bytes) → p ++ x ∷ l ≡ take (t.met + 1) t.field ++ l
-    longer e l =
-        let k : t.met + 1 ≡ suc t.met = omega arith in
-        let q : take (suc t.met) t.field ≡ p ++ x ∷ [] = take-suc t.field t.met 0 (omega (arith, st.met, st.size)) ∙ ap (λ (y : ℕ). p ++ y ∷ []) e in
-        sym (rw k (ap (λ (s : Bytes). s ++ l) q ∙ append_assoc p (x ∷ []) l))
+    -- The byte that is due.
+    module _ (i : m < length f.items) (e : get_or f.items m 0 ≡ x) where
+      longer : (l : Bytes) → p ++ x ∷ l ≡ take (m + 1) f.items ++ l
+      longer l =
+          let k : m + 1 ≡ suc m = omega arith in
+          let q : take (suc m) f.items ≡ p ++ x ∷ [] = take-suc f.items m 0 i ∙ ap (λ (y : ℕ). p ++ y ∷ []) e in
+          sym (rw k (ap (λ (b : Bytes). b ++ l) q ∙ append_assoc p (x ∷ []) l))
 
-    pub one_more : get_or t.field t.met 0 ≡ x → t.met + 1 < t.len → (b : Bytes) → Tracks image b t → Tracks image (b ++ x ∷ []) (with_met (t.met + 1) t)
-    one_more e h b w = record {
-      behind = record { number = w.behind.number; size = w.behind.size; same = w.behind.same };
-      inside = λ q. h;
-      outside = λ q. absurd (q z);
-      line = λ l. ap (line_from image 0) (behind_byte b x l) ∙ w.line (x ∷ l) ∙ (rw d (ap (line_from image t.steps) (longer e l)));
-    }
+      pub goes-inside : m + 1 < length f.items → Goes image (x ∷ []) (Along n f m) (Along n f (m + 1))
+      goes-inside h = record {
+        steps = omega arith;
+        tracks = λ b w. record {
+          stands = record { number = w.stands.number; same = w.stands.same; inside = λ z. h };
+          line = λ l. on w l ∙ ap (line_from image n) (longer l);
+        };
+      }
 
-    -- The last byte of the field: the next step is due.
-    pub whole-step : get_or t.field t.met 0 ≡ x → t.len ≤ t.met + 1 → {r : Trace} → Behind image r → r.steps ≡ t.steps + 1 → r.met ≡ 0 → r.differs ≡ false
-        → (b : Bytes) → Tracks image b t → Tracks image (b ++ x ∷ []) r
-    whole-step e h {r} v n m k b w = begun v m k (λ l.
-        ap (line_from image 0) (behind_byte b x l) ∙ w.line (x ∷ l) ∙ (rw d (ap (line_from image t.steps) (longer e l ∙ same l) ∙ go (next image t.steps) l)))
-      where
-        same : (l : Bytes) → take (t.met + 1) t.field ++ l ≡ f ++ l
-        same l =
-            let q : t.met + 1 ≡ t.len = omega (arith, h, w.inside z) in
-            ap (λ (j : ℕ). take j t.field ++ l) q ∙ ap (λ (s : Bytes). s ++ l) w.behind.same
+      -- The last byte of the field: the next step is due.
+      pub goes-behind : length f.items ≤ m + 1 → {r : Trace} → Fresh image (n + 1) r → Goes image (x ∷ []) (Along n f m) r
+      goes-behind h {r} v = record {
+        steps = omega (arith, v.steps);
+        tracks = λ b w. v.tracks (b ++ x ∷ []) (λ l. on w l ∙ ap (line_from image n) (longer l ∙ whole w.stands l) ∙ go w.stands (next image n) l);
+      }
+        where
+          whole : Due image n f.items m → (l : Bytes) → take (m + 1) f.items ++ l ≡ s ++ l
+          whole d l = ap (λ (b : Bytes). b ++ l) (take_all (m + 1) f.items h ∙ d.same)
 
-        go : Next image t.steps (step_behind image t.steps) → (l : Bytes) → line_from image t.steps (f ++ l) ≡ line_from image r.steps l
-        go (refused j q y o i g) l = absurd (y (sym q ∙ sym w.behind.number ∙ z))
-        go (ended q g) l = absurd (omega (arith, z, w.behind.number, q))
-        go (ahead q s g) l =
-            let u : suc t.steps ≡ r.steps = omega (arith, n) in
-            g (f ++ l)
-            ∙ some_byte f l (steps_line t.steps)
-            (if same_bytes f (take (length f) (f ++ l)) then line_from image (suc t.steps) (drop (length f) (f ++ l)) else differs_line (suc t.steps)) s
-            ∙ (rw (take-append_seam f l, same_refl f, drop-append_seam f l, u))
+          go : Due image n f.items m → Next image n (step_behind image n) → (l : Bytes) → line_from image n (s ++ l) ≡ line_from image (n + 1) l
+          go d (refused k y z q o g) l = absurd (q (sym y ∙ d.number (λ c. z (sym y ∙ c))))
+          go d (ended y z g) l = absurd (omega (arith, i, z, ap length d.same))
+          go d (ahead y z g) l =
+              let u : suc n ≡ n + 1 = omega arith in
+              g (s ++ l)
+              ∙ some_byte s l (steps_line n) (if same_bytes s (take (length s) (s ++ l)) then line_from image (suc n) (drop (length s) (s ++ l)) else differs_line (suc n)) z
+              ∙ (rw (take-append_seam s l, same_refl s, drop-append_seam s l, u))

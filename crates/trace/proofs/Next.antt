@@ -24,7 +24,7 @@ use Rattle.trace.specs.Tracking.{step_behind}
 -- Refused; past the plan's end; or a step with its field.
 pub data Next (image : Bytes) (n : ℕ) (a : Answer) : Type 0 where
   refused : (k : ℕ) → a.number ≡ k → (k ≡ 0 → ⊥) → (k ≡ 16 → ⊥) → ((k ≡ 1 → ⊥) → k ≡ 4) → ((m : ℕ) (l : Bytes) → line_from image m l ≡ answer_line k) → Next image n a
-  ended : a.number ≡ 16 → ((l : Bytes) → line_from image n l ≡ if_empty l (steps_line n) (differs_line (suc n))) → Next image n a
+  ended : a.number ≡ 16 → length a.step ≡ 0 → ((l : Bytes) → line_from image n l ≡ if_empty l (steps_line n) (differs_line (suc n))) → Next image n a
   ahead : a.number ≡ 0 → 1 ≤ length a.step → ((l : Bytes) → line_from image n l ≡ if_empty l (steps_line n)
       (if same_bytes a.step (take (length a.step) l) then line_from image (suc n) (drop (length a.step) l) else differs_line (suc n))) → Next image n a
 
@@ -66,7 +66,7 @@ module _ (image : Bytes) (n : ℕ) (plan : List Step) (is : (m : ℕ) (l : Bytes
     where
       go : (b : Bool) → leb (suc n) (length plan) ≡ b → Next image n (if b then record { number = 0; image = encode m; step = field_at (suc n) plan } else refusal 16)
       go true e = found m (at n plan (omega (arith, leb-true (suc n) (length plan) e)))
-      go false e = ended refl (λ l. is n l ∙ ap (λ (r : List Step). compared n r l) (past_all n plan (omega (arith, leb-false (suc n) (length plan) e))))
+      go false e = ended refl refl (λ l. is n l ∙ ap (λ (r : List Step). compared n r l) (past_all n plan (omega (arith, leb-false (suc n) (length plan) e))))
 
 no-image : (image : Bytes) (n : ℕ) → decode image ≡ none → Next image n (refusal 1)
 unfolding line_from

@@ -17,8 +17,10 @@ use Rattle.field.proofs.Written.{written-full, written_then, length-written}
 use Rattle.text.specs.Digits.{Digits}
 use Rattle.text.specs.Writing.{written_count, Writes}
 use Rattle.trace.specs.Line.{said, steps_line, differs_line, answer_line, line_from}
-use Rattle.trace.specs.Tracking.{step_behind, told, Tracks}
+use Rattle.trace.specs.Tracking.{step_behind, told, Due, Tracks}
 use Rattle.trace.specs.declared.Trace.{Trace}
+use Rattle.trace.specs.declared.Trace.TheVariants.{Refused, Along, Differs}
+use Rattle.arrayvec.specs.ArrayVec.{ArrayVec}
 use Rattle.trace.proofs.Next.{Next, refused, ended, ahead, next}
 use Rattle.trace.proofs.Meeting.{some_byte}
 
@@ -86,61 +88,50 @@ line-within {line} {out} {after} {n} e = go (leb (length line) (length out)) ref
 same_text : {a b out after : Bytes} {n : ℕ} → a ≡ b → Writes b out after n → Writes a out after n
 same_text e w = rw e w
 
-module _ (t : Trace) where
-  module _ (image b : Bytes) (w : Tracks image b t) where
-    ends : line_from image 0 b ≡ told image t []
-    ends = ap (line_from image 0) (sym (append-nil b)) ∙ w.line []
+-- What a trace tells is the line, where no byte follows.
+module _ {image b : Bytes} {t : Trace} (w : Tracks image b t) where
+  pub ends : line_from image 0 b ≡ told image t []
+  ends = ap (line_from image 0) (sym (append-nil b)) ∙ w.line []
 
-    one-behind : differs_line (suc t.steps) ≡ differs_line (t.steps + 1)
-    one-behind = ap differs_line (omega arith)
+-- All bytes of the last step were met.
+pub all-met : {image : Bytes} {n : ℕ} {f : Bytes} → Due image n f 0 → line_from image n [] ≡ steps_line n
+all-met {image} {n} d = go (next image n)
+  where
+    go : Next image n (step_behind image n) → line_from image n [] ≡ steps_line n
+    go (refused j p z q o h) = absurd (q (sym p ∙ d.number (λ e. z (sym p ∙ e))))
+    go (ended p z h) = h []
+    go (ahead p z h) = h []
 
-    answered : t.differs ≡ false → (k : ℕ) → t.number ≡ k → (k ≡ 0 → ⊥) → (k ≡ 16 → ⊥) → line_from image 0 b ≡ answer_line k
-    answered d k e z s = ends ∙ rw d (go (next image t.steps))
-      where
-        go : Next image t.steps (step_behind image t.steps) → line_from image t.steps (take t.met t.field ++ []) ≡ answer_line k
-        go (refused j m y q o h) = h t.steps (take t.met t.field ++ []) ∙ ap answer_line (sym m ∙ sym w.behind.number ∙ e)
-        go (ended m h) = absurd (s (sym e ∙ w.behind.number ∙ m))
-        go (ahead m c h) = absurd (z (sym e ∙ w.behind.number ∙ m))
+-- Some were not.
+pub cut_off : {image : Bytes} {n m : ℕ} {f : Bytes} → Due image n f m → 0 < m → line_from image n (take m f ++ []) ≡ differs_line (suc n)
+cut_off {image} {n} {m} {f} d h = go (next image n)
+  where
+    long : length (take m f ++ []) ≡ m
+    long = rw (append-nil (take m f)) (length-take-le m f (let i = d.inside h in omega arith))
 
-    all-met : t.differs ≡ false → (t.number ≡ 1 → ⊥) → (t.number ≡ 4 → ⊥) → t.met ≡ 0 → line_from image 0 b ≡ steps_line t.steps
-    all-met d x y m = ends ∙ rw (d, m) (go (next image t.steps))
-      where
-        go : Next image t.steps (step_behind image t.steps) → line_from image t.steps [] ≡ steps_line t.steps
-        go (refused j p z q o h) = absurd (y (w.behind.number ∙ p ∙ o (λ e. x (w.behind.number ∙ p ∙ e))))
-        go (ended p h) = h []
-        go (ahead p c h) = h []
+    go : Next image n (step_behind image n) → line_from image n (take m f ++ []) ≡ differs_line (suc n)
+    go (refused j p z q o g) = absurd (q (sym p ∙ d.number (λ e. z (sym p ∙ e))))
+    go (ended p z g) = absurd (let i = d.inside h in omega (arith, z, ap length d.same))
+    go (ahead p z g) =
+        let i = d.inside h in
+        let l = long in
+        let u : take (length (step_behind image n).step) (take m f ++ []) ≡ take m f ++ [] = take_all (length (step_behind image n).step) (take m f ++ []) (omega (arith, ap length d.same)) in
+        g (take m f ++ [])
+        ∙ some_byte (take m f) [] (steps_line n)
+        (if same_bytes (step_behind image n).step (take (length (step_behind image n).step) (take m f ++ []))
+        then line_from image (suc n) (drop (length (step_behind image n).step) (take m f ++ [])) else differs_line (suc n)) (omega (arith, length-append (take m f) []))
+        ∙ rw (u, shorter (step_behind image n).step (take m f ++ []) (omega (arith, ap length d.same)))
 
-    cut_off : t.differs ≡ false → (t.met ≡ 0 → ⊥) → t.met ≤ length t.field → line_from image 0 b ≡ differs_line (suc t.steps)
-    cut_off d m f = ends ∙ rw d (go (next image t.steps))
-      where
-        p_long : length (take t.met t.field) ≡ t.met
-        p_long = length-take-le t.met t.field f
+-- The line that is written, for each trace.
+module _ {out after : Bytes} {k : ℕ} where
+  pub tells_answer : (n : ℕ) → Writes (answer_line n) out after k → (image b : Bytes) → Tracks image b (Refused n) → Writes (line_from image 0 b) out after k
+  tells_answer n v image b w = same_text (ends w) v
 
-        go : Next image t.steps (step_behind image t.steps) → line_from image t.steps (take t.met t.field ++ []) ≡ differs_line (suc t.steps)
-        go (refused j p z q o h) = absurd (m (w.outside (λ e. z (sym p ∙ sym w.behind.number ∙ e))))
-        go (ended p h) = absurd (m (w.outside (λ e. omega (arith, e, w.behind.number, p))))
-        go (ahead p c h) =
-            let g : Bytes = (step_behind image t.steps).step in
-            let q : Bytes = take t.met t.field in
-            let i = w.inside (w.behind.number ∙ p) in
-            let a = length-append q [] in
-            let u : take (length g) (q ++ []) ≡ q ++ [] = take_all (length g) (q ++ []) (omega (arith, a, p_long, i, w.behind.size)) in
-            h (q ++ [])
-            ∙ some_byte q [] (steps_line t.steps)
-            (if same_bytes g (take (length g) (q ++ [])) then line_from image (suc t.steps) (drop (length g) (q ++ [])) else differs_line (suc t.steps)) (omega (arith, p_long, m))
-            ∙ rw (u, shorter g (q ++ []) (omega (arith, a, p_long, i, w.behind.size)))
+  pub tells_steps : (n : ℕ) (f : ArrayVec ℕ) → Writes (steps_line n) out after k → (image b : Bytes) → Tracks image b (Along n f 0) → Writes (line_from image 0 b) out after k
+  tells_steps n f v image b w = same_text (ends w ∙ all-met w.stands) v
 
-  pub tells_differs : t.differs ≡ true → {out after : Bytes} {n : ℕ} → Writes (differs_line (t.steps + 1)) out after n → (image b : Bytes) → Tracks image b t → Writes (line_from image 0 b) out after n
-  tells_differs d v image b w = same_text (ends image b w ∙ rw d (one-behind image b w)) v
+  pub tells_cut : (n : ℕ) (f : ArrayVec ℕ) (m : ℕ) → 0 < m → Writes (differs_line (n + 1)) out after k → (image b : Bytes) → Tracks image b (Along n f m) → Writes (line_from image 0 b) out after k
+  tells_cut n f m h v image b w = let e : n + 1 ≡ suc n = omega arith in same_text (ends w ∙ cut_off w.stands h) (rw e at v)
 
-  pub tells_answer : t.differs ≡ false → (k : ℕ) → t.number ≡ k → (k ≡ 0 → ⊥) → (k ≡ 16 → ⊥) → {out after : Bytes} {n : ℕ} → Writes (answer_line k) out after n
-      → (image b : Bytes) → Tracks image b t → Writes (line_from image 0 b) out after n
-  tells_answer d k e z s v image b w = same_text (answered image b w d k e z s) v
-
-  pub tells_steps : t.differs ≡ false → (t.number ≡ 1 → ⊥) → (t.number ≡ 4 → ⊥) → t.met ≡ 0 → {out after : Bytes} {n : ℕ} → Writes (steps_line t.steps) out after n
-      → (image b : Bytes) → Tracks image b t → Writes (line_from image 0 b) out after n
-  tells_steps d x y m v image b w = same_text (all-met image b w d x y m) v
-
-  pub tells_cut : t.differs ≡ false → (t.met ≡ 0 → ⊥) → t.met ≤ length t.field → {out after : Bytes} {n : ℕ} → Writes (differs_line (t.steps + 1)) out after n
-      → (image b : Bytes) → Tracks image b t → Writes (line_from image 0 b) out after n
-  tells_cut d m f v image b w = same_text (cut_off image b w d m f ∙ one-behind image b w) v
+  pub tells_differs : (n : ℕ) → Writes (differs_line (n + 1)) out after k → (image b : Bytes) → Tracks image b (Differs n) → Writes (line_from image 0 b) out after k
+  tells_differs n v image b w = let e : n + 1 ≡ suc n = omega arith in same_text (ends w) (rw e at v)

@@ -1,48 +1,51 @@
 -- What the library knows of a trace, some bytes in.
-use Rattle.std.specs.Prelude.{◌≡◌, false, ◌++◌, ℕ, suc, ◌+◌, ◌≤◌, ◌<◌, length, take, if◌then◌else◌}
+use Rattle.std.specs.Prelude.{◌≡◌, ◌++◌, ℕ, suc, ◌+◌, ◌≤◌, ◌<◌, length, take}
 use Rattle.basics.specs.Limits.{image_room, step_room}
 use Rattle.basics.specs.Base.{Bytes}
 use Rattle.answers.specs.Answers.{Answer, commit_step}
-use Rattle.trace.specs.Line.{differs_line, line_from}
+use Rattle.trace.specs.Line.{differs_line, answer_line, line_from}
 use Rattle.trace.specs.declared.Trace.{Trace}
+use Rattle.trace.specs.declared.Trace.TheVariants.{Refused, Along, Differs}
 
 -- What `commit_step` answers for the step behind n.
 abbrev pub step_behind : Bytes → ℕ → Answer
 step_behind image n = commit_step (suc n) image image_room step_room
 
--- The number and the field of the step behind those that were met.
-pub record Behind (image : Bytes) (t : Trace) : Type 0 where
-  pub number : t.number ≡ (step_behind image t.steps).number
-  pub size : t.len ≡ length (step_behind image t.steps).step
-  pub same : take t.len t.field ≡ (step_behind image t.steps).step
+-- How many steps were met; none where the commit is refused.
+abbrev pub steps_of : Trace → ℕ
+steps_of (Refused k) = 0
+steps_of (Along n f m) = n
+steps_of (Differs n) = n
 
 -- The line, if these bytes follow.
 abbrev pub told : Bytes → Trace → Bytes → Bytes
-told image t l = if t.differs then differs_line (suc t.steps) else line_from image t.steps (take t.met t.field ++ l)
+told image (Refused k) l = answer_line k
+told image (Along n f m) l = line_from image n (take m f.items ++ l)
+told image (Differs n) l = differs_line (suc n)
+
+-- The step behind n has this field, and it was not met whole; past the plan's end no step is behind n, and no field.
+pub record Due (image : Bytes) (n : ℕ) (field : Bytes) (met : ℕ) : Type 0 where
+  pub number : ((step_behind image n).number ≡ 0 → ⊥) → (step_behind image n).number ≡ 16
+  pub same : field ≡ (step_behind image n).step
+  pub inside : 0 < met → met < length field
+
+-- What is known of a trace beside its line.
+abbrev pub Stands : Bytes → Trace → Type 0
+Stands image (Refused k) = Unit {0}
+Stands image (Along n f m) = Due image n f.items m
+Stands image (Differs n) = Unit {0}
 
 -- The bytes b were met behind the image: whatever follows, the line is known by the trace.
 pub record Tracks (image b : Bytes) (t : Trace) : Type 0 where
-  pub behind : Behind image t
-  pub inside : t.number ≡ 0 → t.met < t.len
-  pub outside : (t.number ≡ 0 → ⊥) → t.met ≡ 0
+  pub stands : Stands image t
   pub line : (l : Bytes) → line_from image 0 (b ++ l) ≡ told image t l
 
--- The places lie in the field's array.
-pub record Steady (t : Trace) : Type 0 where
-  pub met : t.met < step_room
-  pub len : t.len ≤ step_room
-  pub size : length t.field ≡ step_room
-
--- A trace before the first byte of the step behind n.
+-- A trace before the first byte of the step behind n: it tracks any bytes behind which the line is that of n steps that were met.
 pub record Fresh (image : Bytes) (n : ℕ) (t : Trace) : Type 0 where
-  pub behind : Behind image t
-  pub steady : Steady t
-  pub steps : t.steps ≡ n
-  pub met : t.met ≡ 0
-  pub differs : t.differs ≡ false
+  pub steps : steps_of t ≤ n
+  pub tracks : (b : Bytes) → ((l : Bytes) → line_from image 0 (b ++ l) ≡ line_from image n l) → Tracks image b t
 
 -- What comes of a trace by some bytes.
 pub record Goes (image part : Bytes) (t r : Trace) : Type 0 where
-  pub steady : Steady r
-  pub steps : r.steps ≤ t.steps + length part
+  pub steps : steps_of r ≤ steps_of t + length part
   pub tracks : (b : Bytes) → Tracks image b t → Tracks image (b ++ part) r

@@ -6,20 +6,29 @@ ghost use Rattle.std.specs.Prelude.{◌≡◌, true, [], ◌∷◌, ◌+◌, ◌
 ghost use Rattle.basics.specs.Base.{Bytes};
 ghost use Rattle.text.specs.Writing.{Writes};
 ghost use Rattle.trace.specs.Line.{image_length, said, line_from};
-ghost use Rattle.trace.specs.Tracking.{Tracks, Steady, Fresh, Goes};
+ghost use Rattle.trace.specs.Tracking.{steps_of, Tracks, Fresh, Goes};
 
+use arrayvec::ArrayVec;
 use running::Planned;
 
-// How far a trace is the plan's. `number`: 0; or 16 past the plan's end; or what the commit is refused with, 1 or 4. `steps` were met, and behind them
-// `met` bytes of the next step's field, which has `len`; where it `differs`, they were not.
-#[derive(Clone, Copy)]
-pub struct Trace {
-    pub number: u32,
-    pub steps: u32,
-    pub differs: bool,
-    pub field: [u8; 197],
-    pub len: usize,
-    pub met: usize,
+// What a step entry answers past the plan's end.
+const PAST_END: u32 = 16;
+
+// How far a trace is the plan's.
+#[derive(Drop)]
+pub enum Trace {
+    // The commit is refused with this number, 1 or 4.
+    Refused(u32),
+    // So many steps were met, and behind them so many bytes of the next step's field, which is empty past the plan's end.
+    Along {
+        steps: u32,
+        field: ArrayVec<u8, 197>,
+        met: usize,
+    },
+    // So many steps were met, and behind them another byte than the plan's.
+    Differs {
+        steps: u32,
+    },
 }
 
 // How many bytes of the input the image has.
@@ -50,7 +59,7 @@ fn behind(image: &[u8], n: u32) -> Trace
 {
     let mut out = [0u8; basics::IMAGE_ROOM];
     let mut written: usize = 0;
-    let mut field = [0u8; 197];
+    let mut step = [0u8; 197];
     let mut len: usize = 0;
     let number = running::run_steps(
         Planned::Commit,
@@ -58,75 +67,19 @@ fn behind(image: &[u8], n: u32) -> Trace
         n as u64 + 1,
         &mut out,
         &mut written,
-        &mut field,
+        &mut step,
         &mut len,
     );
-    Trace {
-        number: number,
+    if number != 0 && number != PAST_END {
+        return Trace::Refused(number);
+    }
+    let mut field = ArrayVec::from(step);
+    field.truncate(len);
+    Trace::Along {
         steps: n,
-        differs: false,
-        field: field,
-        len: len,
+        field,
         met: 0,
     }
-}
-
-// An image, before the first byte behind it.
-pub fn start(image: &[u8]) -> Trace
-    ensures { Steady result × ((result.steps ≡ 0) × Tracks image.now [] result) }
-{
-    behind(image, 0)
-}
-
-// A trace that differs.
-fn parted(t: Trace) -> Trace
-    ensures { result ≡ record { number = t.number; steps = t.steps; differs = true; field = t.field; len = t.len; met = t.met } }
-{
-    let mut r = t;
-    r.differs = true;
-    r
-}
-
-// One byte more.
-fn meet(image: &[u8], t: Trace, x: u8) -> Trace
-    requires { Steady t × (t.steps < 0xFFFF_FFFE) }
-    ensures { Goes image.now (x ∷ []) t result }
-{
-    if t.differs {
-        return t;
-    }
-    let number = t.number;
-    if number == 16 {
-        return parted(t);
-    }
-    if number != 0 {
-        return t;
-    }
-    let k = t.met;
-    let y = t.field[k];
-    if y != x {
-        return parted(t);
-    }
-    if k + 1 < t.len {
-        let mut r = t;
-        r.met = k + 1;
-        return r;
-    }
-    behind(image, t.steps + 1)
-}
-
-// The bytes of a part, one behind the other.
-pub fn feed(image: &[u8], t: Trace, part: &[u8]) -> Trace
-    requires { Steady t × (t.steps + length part.now < 0xFFFF_FFFE) }
-    ensures { Goes image.now part.now t result }
-{
-    let mut work = t;
-    let mut i: usize = 0;
-    while i < part.len() {
-        work = meet(image, work, part[i]);
-        i += 1;
-    }
-    work
 }
 
 // A word, a number and a line feed, written whole, or not at all where they have no room. The answer is how many bytes were written.
@@ -147,23 +100,77 @@ fn put_said(word: &[u8], n: u32, out: &mut [u8]) -> usize
     size
 }
 
-// The line, where no byte follows.
-pub fn put_line(t: Trace, out: &mut [u8]) -> usize
-    requires { Steady t × (t.steps < 0xFFFF_FFFF) }
-    ensures { (result ≤ length out.new) × ((image b : Bytes) → Tracks image b t → Writes (line_from image 0 b) out.old out.new result) }
-{
-    let number = t.number;
-    if t.differs {
-        return put_said(b"differs at", t.steps + 1, out);
+impl Trace {
+    // An image, before the first byte behind it.
+    pub fn start(image: &[u8]) -> Self
+        ensures { (steps_of result ≡ 0) × Tracks image.now [] result }
+    {
+        behind(image, 0)
     }
-    if number == 1 {
-        return put_said(b"answer", 1, out);
+
+    // How many steps were met.
+    pub fn steps(&self) -> u32
+        ensures { result ≡ steps_of self.now }
+    {
+        match self {
+            Trace::Refused(_) => 0,
+            Trace::Along { steps, .. } => *steps,
+            Trace::Differs { steps } => *steps,
+        }
     }
-    if number == 4 {
-        return put_said(b"answer", 4, out);
+
+    // One byte more.
+    fn meet(self, image: &[u8], x: u8) -> Self
+        requires { steps_of self < 0xFFFF_FFFE }
+        ensures { Goes image.now (x ∷ []) self result }
+    {
+        match self {
+            Trace::Along { steps, field, met } => {
+                let Some(&due) = field.get(met) else {
+                    return Trace::Differs { steps };
+                };
+                if due != x {
+                    return Trace::Differs { steps };
+                }
+                if met + 1 < field.len() {
+                    return Trace::Along {
+                        steps,
+                        field,
+                        met: met + 1,
+                    };
+                }
+                behind(image, steps + 1)
+            }
+            settled => settled,
+        }
     }
-    if t.met == 0 {
-        return put_said(b"steps", t.steps, out);
+
+    // The bytes of a part, one behind the other.
+    pub fn feed(self, image: &[u8], part: &[u8]) -> Self
+        requires { steps_of self + length part.now < 0xFFFF_FFFE }
+        ensures { Goes image.now part.now self result }
+    {
+        let mut trace = self;
+        for x in part {
+            trace = trace.meet(image, *x);
+        }
+        trace
     }
-    put_said(b"differs at", t.steps + 1, out)
+
+    // The line, where no byte follows.
+    pub fn put_line(&self, out: &mut [u8]) -> usize
+        requires { steps_of self.now < 0xFFFF_FFFF }
+        ensures { (result ≤ length out.new) × ((image b : Bytes) → Tracks image b self.now → Writes (line_from image 0 b) out.old out.new result) }
+    {
+        match self {
+            Trace::Refused(number) => put_said(b"answer", *number, out),
+            Trace::Along { steps, met, .. } => {
+                if *met == 0 {
+                    return put_said(b"steps", *steps, out);
+                }
+                put_said(b"differs at", *steps + 1, out)
+            }
+            Trace::Differs { steps } => put_said(b"differs at", *steps + 1, out),
+        }
+    }
 }

@@ -1,14 +1,15 @@
 -- A store that was decoded is one that steps can be done on.
 use mathlib.Core.Path.{◌≡◌, ap, subst}
-use Prim.Native.Nat.{ℕ, ◌≤◌, ◌<◌}
+use Prim.Native.Nat.{◌≤◌}
 use native.Mathlib.Omega.{arith}
 use mathlib.Core.List.{◌∷◌}
 use mathlib.Core.Bool.{true}
 use lib.ListN.{length, length-append}
 use Rattle.basics.specs.Name.{backup_extension, backup_name}
-use Rattle.spans.specs.Spans.{name_of, length_of, Sound, Names, Backup}
+use Rattle.spans.specs.Spans.{name_of, Names, Backup}
 use Rattle.spans.specs.declared.NameRef.{NameRef}
-use Rattle.std.specs.Prelude.{Option, Some}
+use Rattle.spans.specs.declared.BackupName.{BackupName}
+use Rattle.spans.specs.declared.BackupName.TheVariants.{Is}
 use Rattle.spans.proofs.Parts.{length-name}
 use Rattle.basics.specs.Limits.{image_room}
 use Rattle.basics.specs.Base.{Bytes}
@@ -24,8 +25,7 @@ use Rattle.laws.specs.LengthLaws.{encode-length}
 use Rattle.answer_laws.specs.EntryLaws.{lent-good}
 use Rattle.decode.specs.Decoding.{Decodes}
 use Rattle.decode.specs.declared.Decoded.{Decoded}
-use Rattle.steps.specs.Steps.{SoundStep, Fits, FileName}
-use Rattle.steps.specs.declared.Step.TheVariants.{CopyFile}
+use Rattle.steps.specs.Steps.{Fits, FileName}
 
 pub started : (src : Bytes) (tree staging : Words) (d : Decoded) → Decodes src tree staging d → d.ok ≡ true → Fits src (store_in tree staging d.store)
 started src tree staging d h e =
@@ -43,19 +43,12 @@ started src tree staging d h e =
 pub image-room : (src : Bytes) (tree staging : Words) (d : Decoded) → Decodes src tree staging d → d.ok ≡ true → length (encode (store_of src (store_in tree staging d.store))) ≤ image_room
 image-room src tree staging d h e = let s = store_of src (store_in tree staging d.store) in encode-length valid_naming s (lent-good src s (h.accepted e))
 
--- A file's own name, and its backup name, can be given to a rename.
-pub file-name : (src : Bytes) (r : NameRef) → Sound src r → (n : ℕ) → n ≡ length_of r → 0 < n → FileName src r
-file-name src r s n e h = record { sound = s; some = omega arith }
-
-pub backup-name : (src : Bytes) (r q : NameRef) (b : Option NameRef) → Backup src r b → b ≡ Some q → FileName src q
+-- A backup name can be given to a rename.
+pub backup-name : (src : Bytes) (r q : NameRef) (b : BackupName) → Backup src r b → b ≡ Is q → FileName src q
 unfolding backup_name
 backup-name src r q b k e =
-    let n : Names src q (backup_name (name_of src r)) = subst (λ (x : Option NameRef). Backup src r x) e k in
+    let n : Names src q (backup_name (name_of src r)) = subst (λ (x : BackupName). Backup src r x) e k in
     let l = length-name n.sound in
     let m = ap length n.same in
     let a = length-append (name_of src r) (0x2E ∷ backup_extension) in
     record { sound = n.sound; some = omega arith }
-
--- A copy into another directory and back.
-pub copies : {src : Bytes} {a b f : NameRef} → Sound src a → Sound src b → FileName src f → SoundStep src (CopyFile a b f) × SoundStep src (CopyFile b a f)
-copies a b f = (record { names = (a, (b, f)) }, record { names = (b, (a, f)) })

@@ -20,6 +20,8 @@ use Rattle.answer_laws.specs.Collections.{ahead, following, by-following}
 use Rattle.field.proofs.Written.{written-full}
 use Rattle.text.specs.Writing.{written_count, Writes}
 use Rattle.inventory.specs.Putting.{Puts}
+use Rattle.std.specs.Prelude.{None, Some}
+use Rattle.inventory.specs.declared.Kind.TheVariants.{Directory, File}
 use Rattle.inventory.specs.Walk.{dir_text, file_text, text_from}
 
 -- Members, each behind a comma; members with commas between.
@@ -44,10 +46,10 @@ dir_then : (d : Name) (l : List Bytes) (r : Bytes) → quoted d ++ 0x3A ∷ 0x7B
 dir_then d l r = append_assoc (quoted d) (0x3A ∷ 0x7B ∷ []) (inner l ++ 0x7D ∷ r) ∙ ap (λ (b : Bytes). quoted d ++ 0x3A ∷ b) (sym (object_then l r)) ∙ sym (append_assoc (quoted d) (0x3A ∷ object l) r)
 
 pub record Both (r : Map) : Type 0 where
-  pub behind_dir : text_from 1 r ≡ inner (map file_member (ahead r)) ++ outer (following r)
-  pub behind_file : text_from 2 r ≡ more (map file_member (ahead r)) ++ outer (following r)
+  pub behind_dir : text_from (Some Directory) r ≡ inner (map file_member (ahead r)) ++ outer (following r)
+  pub behind_file : text_from (Some File) r ≡ more (map file_member (ahead r)) ++ outer (following r)
 
-dir-walk : (d : Name) (r : Map) → Both r → quoted d ++ 0x3A ∷ 0x7B ∷ [] ++ text_from 1 r ≡ collection_member (d, ahead r) ++ more (map collection_member (following r)) ++ 0x7D ∷ []
+dir-walk : (d : Name) (r : Map) → Both r → quoted d ++ 0x3A ∷ 0x7B ∷ [] ++ text_from (Some Directory) r ≡ collection_member (d, ahead r) ++ more (map collection_member (following r)) ++ 0x7D ∷ []
 unfolding collection_member
 dir-walk d r b =
     let rest : Bytes = more (map collection_member (following r)) ++ 0x7D ∷ [] in
@@ -62,11 +64,11 @@ both (((d, []), x) ∷ r) =
 both (((d, y ∷ ys), x) ∷ r) =
     let m : Bytes = file_member (y ∷ ys, x) in
     let files : List Bytes = map file_member (ahead r) in
-    let e : m ++ text_from 2 r ≡ m ++ more files ++ outer (following r) = ap (λ (b : Bytes). m ++ b) (both r).behind_file ∙ sym (append_assoc m (more files) (outer (following r))) in
+    let e : m ++ text_from (Some File) r ≡ m ++ more files ++ outer (following r) = ap (λ (b : Bytes). m ++ b) (both r).behind_file ∙ sym (append_assoc m (more files) (outer (following r))) in
     record { behind_dir = e; behind_file = ap (λ (b : Bytes). 0x2C ∷ b) e }
 
 -- The whole text of a tree whose first node is a directory.
-walked : (t : Map) → valid_nodes [] t ≡ true → object (map collection_member (following t)) ≡ 0x7B ∷ text_from 0 t
+walked : (t : Map) → valid_nodes [] t ≡ true → object (map collection_member (following t)) ≡ 0x7B ∷ text_from None t
 unfolding valid_nodes text_from dir_text object following
 walked [] v = refl
 walked (((d, []), x) ∷ r) v = ap (λ (b : Bytes). 0x7B ∷ b) (sym (dir-walk d r (both r)))
@@ -74,7 +76,7 @@ walked (((d, y ∷ ys), x) ∷ r) v =
     let p = node-parts [] ((d, y ∷ ys), x) (and_both (valid_node [] ((d, y ∷ ys), x)) (valid_nodes d r) v).0 in
     absurd (valid-named d p.0 (file-parts [] d (y ∷ ys) x p.1).0)
 
-pub walked-text : (t : Map) → valid_nodes [] t ≡ true → Sorted t → inventory_text t ≡ 0x7B ∷ text_from 0 t
+pub walked-text : (t : Map) → valid_nodes [] t ≡ true → Sorted t → inventory_text t ≡ 0x7B ∷ text_from None t
 unfolding inventory_text
 walked-text t v s = ap (λ (l : List Collection). object (map collection_member l)) (by-following [] t v s) ∙ walked t v
 

@@ -1,7 +1,7 @@
 -- A name between its quotes, and the parts of a node.
 use Rattle.std.specs.Prelude.{if◌then◌else◌}
 use mathlib.Core.Path.{◌≡◌, refl, sym, ap, subst, ◌∙◌}
-use mathlib.Core.Bool.{Bool, true, false, not}
+use mathlib.Core.Bool.{Bool, true, false}
 use mathlib.Core.List.{[], ◌∷◌, ◌++◌, append_assoc}
 use Prim.Native.Nat.{ℕ, suc, ◌+◌, ◌*◌, ◌≤◌, ◌<◌}
 use native.Mathlib.Omega.{arith}
@@ -12,14 +12,17 @@ use lib.Dec.{eqb}
 use Rattle.basics.specs.Order.{Name}
 use Rattle.basics.specs.Base.{Bytes}
 use Rattle.field.specs.Writing.{written}
-use Rattle.field.proofs.Written.{written-nil}
 use Rattle.answers.specs.Answers.{decimal}
 use Rattle.answers.specs.Inventory.{escaped, quoted}
 use Rattle.basic_laws.specs.Tests.{eqb-eq}
 use Rattle.text.specs.Digits.{Digits}
 use Rattle.inventory.specs.Putting.{Puts}
-use Rattle.inventory.specs.Walk.{if_so, dir_text, file_text}
-use Rattle.inventory.proofs.Parts.{put, no_room, joined, Left, all_left, part-put, last-put}
+use Rattle.std.specs.Prelude.{None, Some}
+use Rattle.std.specs.declared.option.Option.{Option}
+use Rattle.inventory.specs.declared.Kind.{Kind}
+use Rattle.inventory.specs.declared.Kind.TheVariants.{Directory, File}
+use Rattle.inventory.specs.Walk.{divider, ending, dir_text, file_text}
+use Rattle.inventory.proofs.Parts.{put, no_room, joined, as_text, Left, all_left, part-put, last-put}
 
 -- One byte.
 pub escaped_quote : (b : ℕ) → b ≡ 0x22 → 0x5C ∷ 0x22 ∷ [] ≡ escaped (b ∷ [])
@@ -68,11 +71,11 @@ module _ {n : Name} {at i p : ℕ} {out now : Bytes} (w : Quoting n at out i p n
         left = part-put {a = escaped (b ∷ [])} (subst (λ (r : Bytes). Left (closing n) at out r p now) shape w.left) x.0;
       }
 
-  pub all-quoted : {first : ℕ} {before after : Bytes} → length n ≤ i → out ≡ written first (0x22 ∷ []) before → at ≡ first + 1 → after ≡ written p (0x22 ∷ []) now → Puts (quoted n) first before after (p + 1)
+  pub all-quoted : {first end : ℕ} {before after : Bytes} → i ≡ length n → Puts (0x22 ∷ []) first before out at × (at ≤ first + 2) → Puts (0x22 ∷ []) p now after end × (end ≤ p + 2) → Puts (quoted n) first before after end
   unfolding quoted
-  all-quoted h o z e =
-      let shape : closing (drop i n) ≡ 0x22 ∷ [] = unfold escaped in ap closing (drop_of_length-le n {i = i} h) in
-      joined {a = 0x22 ∷ []} (put o z) (last-put (subst (λ (r : Bytes). Left (closing n) at out r p now) shape w.left) (put e refl))
+  all-quoted h x y =
+      let shape : closing (drop i n) ≡ 0x22 ∷ [] = unfold escaped in ap closing (drop_of_length-le n {i = i} (omega arith)) in
+      joined {a = 0x22 ∷ []} x.0 (last-put (subst (λ (r : Bytes). Left (closing n) at out r p now) shape w.left) y.0)
 
 -- A number.
 module _ {n k : ℕ} (d : Digits n k) where
@@ -88,21 +91,26 @@ module _ {n k : ℕ} (d : Digits n k) where
   pub number_put : {at : ℕ} {out after : Bytes} → after ≡ written at (decimal 10 n) out → Puts (decimal 10 n) at out after (at + k) × (at + k ≤ at + 10)
   number_put e = (put e (omega (arith, digits_length)), omega (arith, d.bound))
 
--- Bytes that are put or not.
-pub wanted_put : (s : Bytes) {b : Bool} {out after : Bytes} {at : ℕ} → b ≡ true → length s ≤ 2 → after ≡ written at s out → Puts (if_so b s) at out after (at + length s) × (at + length s ≤ at + 2)
-wanted_put s e h w = rw e (put w refl, omega arith)
+-- What stands before a part, and behind all, has two bytes at most.
+pub few : (b : Option Kind) (k : Kind) → length (divider b k) ≤ 2
+few None k = omega arith
+few (Some Directory) Directory = omega arith
+few (Some Directory) File = omega arith
+few (Some File) Directory = omega arith
+few (Some File) File = omega arith
 
-pub unwanted : (s : Bytes) {b : Bool} {out : Bytes} {at : ℕ} → b ≡ false → Puts (if_so b s) at out out at × (at ≤ at + 2)
-unwanted s {b} {out} {at} e = rw e (put (sym (written-nil at out)) (omega arith), omega arith)
+pub few-last : (b : Option Kind) → length (ending b) ≤ 2
+few-last None = omega arith
+few-last (Some k) = omega arith
 
 -- A directory's part and a file's.
-module _ (name : Name) (before : ℕ) {at p q : ℕ} {out first second : Bytes} where
-  pub dir-put : {after : Bytes} → Puts (if_so (not (eqb before 0)) (0x7D ∷ 0x2C ∷ [])) at out first p × (p ≤ at + 2) → Puts (quoted name) p first second q × (q ≤ p + 130) → after ≡ written q (0x3A ∷ 0x7B ∷ []) second →
-      Puts (dir_text before name) at out after (q + 2) × (q + 2 ≤ at + 150)
+module _ (name : Name) (before : Option Kind) {at p q r : ℕ} {out first second third between : Bytes} where
+  pub dir-put : between ≡ divider before Directory → Puts between at out first p × (p ≤ at + 2) → Puts (quoted name) p first second q × (q ≤ p + 130)
+      → Puts (0x3A ∷ 0x7B ∷ []) q second third r × (r ≤ q + 2) → Puts (dir_text before name) at out third r × (r ≤ at + 150)
   unfolding dir_text
-  dir-put x y e = (joined x.0 (joined y.0 (put e refl)), omega (arith, x.1, y.1))
+  dir-put e x y z = (joined (as_text e x.0) (joined y.0 z.0), omega (arith, x.1, y.1, z.1))
 
-  pub file-put : (number : ℕ) {r : ℕ} {third after : Bytes} → Puts (if_so (eqb before 2) (0x2C ∷ [])) at out first p × (p ≤ at + 2) → Puts (quoted name) p first second q × (q ≤ p + 130) → third ≡ written q (0x3A ∷ []) second →
-      Puts (decimal 10 number) (q + 1) third after r × (r ≤ q + 1 + 10) → Puts (file_text before name number) at out after r × (r ≤ at + 150)
+  pub file-put : (number : ℕ) {end : ℕ} {after : Bytes} → between ≡ divider before File → Puts between at out first p × (p ≤ at + 2) → Puts (quoted name) p first second q × (q ≤ p + 130)
+      → Puts (0x3A ∷ []) q second third r × (r ≤ q + 2) → Puts (decimal 10 number) r third after end × (end ≤ r + 10) → Puts (file_text before name number) at out after end × (end ≤ at + 150)
   unfolding file_text
-  file-put number x y e z = (joined x.0 (joined y.0 (joined {a = 0x3A ∷ []} (put e refl) z.0)), omega (arith, x.1, y.1, z.1))
+  file-put number e x y z w = (joined (as_text e x.0) (joined y.0 (joined {a = 0x3A ∷ []} z.0 w.0)), omega (arith, x.1, y.1, z.1, w.1))

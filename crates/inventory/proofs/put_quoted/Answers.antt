@@ -1,4 +1,3 @@
-use mathlib.Core.Path.{refl}
 use native.Mathlib.Omega.{arith}
 use Rattle.spans.proofs.Parts.{length-name}
 use Rattle.inventory.proofs.Names.{quoting, byte_quoted, all-quoted}
@@ -11,10 +10,9 @@ pub put_escaped-p-requires : goal.put_escaped-p-requires
 put_escaped-p-requires c = omega (arith, c.loop-i.invariant.bound, c.loop-i.invariant.within, length-name c.requires.0, c.requires.0.room, c.requires.1)
 
 pub loop-i-preserved : goal.loop-i-preserved
-loop-i-preserved c = byte_quoted c.loop-i.invariant (omega (arith, length-name c.requires.0, c.length_of-n.ensures.0, c.loop-i-test.true)) c.byte_at.ensures c.put_escaped-p.ensures
-
-pub overflow_add-result : goal.overflow_add-result
-overflow_add-result c = omega (arith, c.loop-i.invariant.bound, c.loop-i.invariant.within, length-name c.requires.0, c.requires.0.room, c.requires.1)
+loop-i-preserved c = byte_quoted c.loop-i.invariant (omega (arith, length-name c.requires.0, c.length_of-n.ensures.0)) c.byte_at.ensures c.put_escaped-p.ensures
 
 pub returns : goal.returns
-returns c = (all-quoted c.loop-i.invariant (omega (arith, length-name c.requires.0, c.length_of-n.ensures.0, c.loop-i-test.false)) c.put_u8.ensures refl c.put_u8-2.ensures, omega (arith, c.loop-i.invariant.bound, c.loop-i.invariant.within, length-name c.requires.0, c.requires.0.room))
+returns c =
+    let n = length-name c.requires.0 in
+    (all-quoted c.loop-i.invariant (omega arith) c.put-p.ensures c.put.ensures, omega (arith, c.loop-i.invariant.bound, c.requires.0.room))

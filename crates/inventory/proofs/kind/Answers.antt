@@ -1,9 +1,0 @@
--- `kind` meets its contract.
-use Rattle.inventory.proofs.Walks.{dir-kind, file-kind}
-use Rattle.inventory.proofs.kind.Goals as goal
-
-pub returns-then-length_of-eq0 : goal.returns-then-length_of-eq0
-returns-then-length_of-eq0 c = dir-kind c.length_of.ensures.0 c.if-length_of-eq0.true
-
-pub returns : goal.returns
-returns c = file-kind c.length_of.ensures.0 c.if-length_of-eq0.false

@@ -10,7 +10,7 @@ use lib.Seq.{length-take-le, take-suc, take_all, take-append_seam, drop-append_s
 use Rattle.basics.specs.Base.{Bytes, if_empty, same_bytes}
 use Rattle.basic_laws.specs.Tests.{same-eq, same_refl}
 use Rattle.trace.specs.Line.{steps_line, differs_line, answer_line, line_from}
-use Rattle.trace.specs.Tracking.{step_behind, steps_of, told, Due, Tracks, Fresh, Goes}
+use Rattle.trace.specs.Tracking.{step_behind, told, Due, Tracks, Fresh, Goes}
 use Rattle.trace.specs.declared.Trace.{Trace}
 use Rattle.trace.specs.declared.Trace.TheVariants.{Refused, Along, Differs}
 use Rattle.arrayvec.specs.ArrayVec.{ArrayVec}

@@ -31,7 +31,7 @@ pub enum Trace {
     },
 }
 
-// How many bytes of the input the image has.
+// How many bytes of the input the image has. The place goes from field to field, so no `for` counts it.
 pub fn image_length(s: &[u8]) -> usize
     ensures { (result ≤ length s.now) × (result ≡ image_length 0 s.now) }
 {

@@ -19,8 +19,5 @@ put_text-requires-then-number-ne0 c = (unused refl).sound
 pub returns-then-number-ne0 : goal.returns-then-number-ne0
 returns-then-number-ne0 c = turned_down c.decode-d.ensures (c.if-not-ok.false) c.recover-r.ensures c.if-number-ne0.true (unused refl) c.put_text-then-number-ne0.ensures
 
-pub put_text-requires-2 : goal.put_text-requires-2
-put_text-requires-2 c = (c.recover-r.ensures.run c.if-number-ne0.false).sound.fits.sound.tree
-
 pub returns : goal.returns
 returns c = listed c.decode-d.ensures (c.if-not-ok.false) c.recover-r.ensures refl c.if-number-ne0.false c.put_text-2.ensures

@@ -1,16 +1,9 @@
-use native.Mathlib.Omega.{arith}
 use Rattle.store.proofs.Read.{sound-read}
-use Rattle.listing.proofs.Placing.{begin, line-room, in_output, placed, all_placed}
+use Rattle.listing.proofs.Placing.{line-room, placed, all_placed}
 use Rattle.listing.proofs.put_lines.Goals as goal
-
-pub loop-i-init : goal.loop-i-init
-loop-i-init c = begin c.requires.1
 
 pub put_line-requires : goal.put_line-requires
 put_line-requires c = (sound-read c.requires.0 c.loop-i-test.true c.node_at-x.ensures, line-room c.requires.0 c.loop-i.invariant c.loop-i-test.true c.node_at-x.ensures)
-
-pub overflow_add-p : goal.overflow_add-p
-overflow_add-p c = let l = in_output c.requires.0 c.loop-i.invariant c.loop-i-test.true c.node_at-x.ensures c.line_size-p.ensures in omega (arith, c.requires.1)
 
 pub loop-i-preserved : goal.loop-i-preserved
 loop-i-preserved c = placed c.requires.0 c.loop-i.invariant c.loop-i-test.true c.node_at-x.ensures c.line_size-p.ensures c.put_line.ensures

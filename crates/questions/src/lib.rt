@@ -1,5 +1,5 @@
 // Asks the exported entries what a list asks: the library of the programs corners and replay, which only test. It takes any bytes whatever.
-// Its contracts say where a field ends and how much is lent, and no more; what an entry answers is said in crate cda_storage.
+// Its contracts say that a list's fields come to an end and how much is lent, and no more; what an entry answers is said in crate cda_storage.
 //
 // A list is a sequence of fields (01, How a store is handed over): 0x40, text to be printed; 0x41, a question whose answer is the original's, but
 // for the kinds and marks of Writes; 0x42, one whose answer documents 01 and 02 alone decide. A question is itself a sequence of fields:

@@ -1,15 +1,14 @@
 -- A store that was decoded is one that steps can be done on.
-use mathlib.Core.Path.{◌≡◌, ap, subst}
+use mathlib.Core.Path.{◌≡◌, ap}
 use Prim.Native.Nat.{◌≤◌}
 use native.Mathlib.Omega.{arith}
 use mathlib.Core.List.{◌∷◌}
 use mathlib.Core.Bool.{true}
 use lib.ListN.{length, length-append}
 use Rattle.basics.specs.Name.{backup_extension, backup_name}
-use Rattle.spans.specs.Spans.{name_of, Names, Backup}
+use Rattle.spans.specs.Spans.{name_of, Backup}
 use Rattle.spans.specs.declared.NameRef.{NameRef}
-use Rattle.spans.specs.declared.BackupName.{BackupName}
-use Rattle.spans.specs.declared.BackupName.TheVariants.{Is}
+use Rattle.std.specs.Prelude.{Option, Some, None, IfSome}
 use Rattle.spans.proofs.Parts.{length-name}
 use Rattle.basics.specs.Limits.{image_room}
 use Rattle.basics.specs.Base.{Bytes}
@@ -44,11 +43,11 @@ pub image-room : (src : Bytes) (tree staging : Words) (d : Decoded) → Decodes 
 image-room src tree staging d h e = let s = store_of src (store_in tree staging d.store) in encode-length valid_naming s (lent-good src s (h.accepted e))
 
 -- A backup name can be given to a rename.
-pub backup-name : (src : Bytes) (r q : NameRef) (b : BackupName) → Backup src r b → b ≡ Is q → FileName src q
+pub backup-name : (src : Bytes) (r : NameRef) (b : Option NameRef) → Backup src r b → IfSome b (FileName src)
 unfolding backup_name
-backup-name src r q b k e =
-    let n : Names src q (backup_name (name_of src r)) = subst (λ (x : BackupName). Backup src r x) e k in
+backup-name src r (Some q) n =
     let l = length-name n.sound in
     let m = ap length n.same in
     let a = length-append (name_of src r) (0x2E ∷ backup_extension) in
     record { sound = n.sound; some = omega arith }
+backup-name src r None n = record {}

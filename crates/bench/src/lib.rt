@@ -10,7 +10,7 @@ ghost use Rattle.store.specs.Tables.{table_of, SoundNode, Sized, SoundTable};
 ghost use Rattle.store.specs.Stores.{store_in, store_of};
 ghost use Rattle.steps.specs.Steps.{Fits, SoundStep, FileName};
 
-use spans::{BackupName, NameRef};
+use spans::NameRef;
 use steps::Step;
 use store::{Node, Nodes, Store};
 use wal::Tail;
@@ -52,10 +52,7 @@ fn backup(image: &[u8], name: NameRef) -> Option<NameRef>
     requires { Sound image.now name }
     ensures { IfSome result (FileName image.now) }
 {
-    match spans::backup(image, name) {
-        BackupName::Is(backup) => Some(backup),
-        BackupName::TooLong => None,
-    }
+    spans::backup(image, name)
 }
 
 // Reads an image and writes it again, its tree too; how many bytes were written.

@@ -2,8 +2,6 @@
 ghost use Rattle.std.specs.Prelude.{length};
 ghost use Rattle.std.specs.Iterator.{at_most};
 
-use field::Read;
-
 // A field's tag and its value.
 #[derive(Clone, Copy)]
 pub struct Part<'a> {
@@ -38,7 +36,7 @@ impl<'a> Iterator for Parts<'a> {
         if s.is_empty() {
             return None;
         }
-        let Read::Is(x) = field::read_field(s, 0) else {
+        let Ok(x) = field::read_field(s, 0) else {
             self.rest = &s[s.len()..];
             return Some(Err(NoField));
         };

@@ -1,10 +1,7 @@
 use mathlib.Core.Path.{◌∙◌}
-use Rattle.trace.proofs.Lengths.{walked, walked-other, walked-headless, walked-valueless, walked_on, walked_end}
+use Rattle.trace.proofs.Lengths.{walked-other, walked-headless, walked-valueless, walked_on, walked_end}
 use Rattle.field.proofs.Numbers.{number-two}
 use Rattle.trace.proofs.image_length.Goals as goal
-
-pub loop-at-init : goal.loop-at-init
-loop-at-init c = walked c.args.s.now
 
 pub returns-then-s-at-gt20 : goal.returns-then-s-at-gt20
 returns-then-s-at-gt20 c = walked-other c.loop-at.invariant c.loop-at-test.true c.if-s-at-gt20.true

@@ -6,3 +6,4 @@ pub mod Name
 pub mod Crc32
 pub mod Field
 pub mod Worked
+pub mod Status

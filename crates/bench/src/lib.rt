@@ -208,5 +208,5 @@ pub extern "C" fn bench_checksum_bit_by_bit(s: &[u8]) -> u32 {
 // Reads a log; how many operations it has.
 #[unsafe(no_mangle)]
 pub extern "C" fn bench_read_wal(log: &[u8]) -> usize {
-    wal::read_wal(log, 0, log.len()).len
+    wal::read_wal(log, 0, log.len()).ops.len()
 }

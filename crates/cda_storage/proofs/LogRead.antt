@@ -1,56 +1,22 @@
 -- A log that is lent alone, by what `open_wal` and `read_wal` answered.
 use Rattle.std.specs.Prelude.{if◌then◌else◌}
-use mathlib.Core.Path.{◌≡◌, refl, sym, ap, ◌∙◌}
-use mathlib.Core.Bool.{Bool, true, false}
-use Prim.Native.Nat.{ℕ, zero, suc, ◌-◌, ◌≤◌, ◌<◌}
+use mathlib.Core.Path.{◌≡◌, sym, ap, ◌∙◌}
+use mathlib.Core.Bool.{true, false}
+use Prim.Native.Nat.{ℕ, ◌-◌, ◌≤◌, ◌<◌}
 use native.Mathlib.Omega.{arith}
-use lib.ListN.{length, take, get_or}
+use lib.ListN.{length, take}
 use lib.Seq.{take-length}
 use lib.Dec.{eqb}
 use borrow.Author.Tests.{le-leb, lt-leb}
 use Rattle.basics.specs.Limits.{log_limit}
 use Rattle.basics.specs.Base.{Bytes}
-use Rattle.model.specs.Log.{Journal, absent, recording, committing, held, by_status, read_journal, valid_header, Entries, entries, ending_cause}
+use Rattle.model.specs.Log.{valid_header, Entries, entries, ending_cause}
 use Rattle.answers.specs.Answers.{reading_number, log_cause}
 use Rattle.transaction.specs.Operations.{Bounds}
-use Rattle.wal.specs.Logs.{journal_of, ending_of, ReadsLog}
-use Rattle.wal.specs.declared.Status.{Status}
-use Rattle.wal.specs.declared.Status.TheVariants.{Absent, Recording, Committing, Held}
+use Rattle.wal.specs.Logs.{ending_of, ReadsLog}
 use Rattle.wal.specs.declared.WalRead.{WalRead}
 use Rattle.wal.proofs.Walks.{entries-there}
 use Rattle.handover.specs.Contract.{CauseGives}
-
--- Whether a log is not as if absent, and what a status says of that.
-abbrev present : Journal → Bool
-present absent = false
-present (recording o e) = true
-present (committing o e) = true
-present (held o e) = true
-
-abbrev pub stands : Status → Bool
-stands Absent = false
-stands Recording = true
-stands Committing = true
-stands Held = true
-
-by-header : (l : Bytes) → present (read_journal l) ≡ valid_header l
-unfolding read_journal
-by-header l = go (valid_header l) (get_or l 1 0) (entries l)
-  where
-    go : (b : Bool) (n : ℕ) (r : Entries) → present (if b then by_status n r else absent) ≡ b
-    go true zero r = refl
-    go true (suc zero) r = refl
-    go true (suc (suc n)) r = refl
-    go false n r = refl
-
-by_status_lem : (v : Status) (r : Entries) → stands v ≡ present (journal_of v r)
-by_status_lem Absent r = refl
-by_status_lem Recording r = refl
-by_status_lem Committing r = refl
-by_status_lem Held r = refl
-
-pub header-told : (l : Bytes) {st : Status} (v : Status) → journal_of st (entries l) ≡ read_journal l → st ≡ v → stands v ≡ valid_header l
-header-told l {st} v o e = ap stands (sym e) ∙ by_status_lem st (entries l) ∙ ap present o ∙ by-header l
 
 -- The three ways out.
 module _ (l : Bytes) where

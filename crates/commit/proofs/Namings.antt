@@ -1,8 +1,8 @@
 -- The collections that the operations of a log name: a search through the first of them, and the walk that syncs each where it is named first.
 use mathlib.Core.Path.{◌≡◌, refl, sym, ap, subst, ◌∙◌}
-use mathlib.Core.List.{List, [], ◌∷◌, map, reverse, reverse_aux-append}
+use mathlib.Core.List.{List, [], ◌∷◌, ◌++◌, map, reverse, reverse_aux-append}
 use mathlib.Core.Bool.{Bool, true, false}
-use Prim.Native.Nat.{ℕ, suc, ◌+◌, ◌-◌, ◌≤◌, ◌<◌}
+use Prim.Native.Nat.{ℕ, zero, suc, ◌+◌, ◌≤◌, ◌<◌}
 use native.Mathlib.Numerals.{add-one}
 use native.Mathlib.Omega.{arith}
 use lib.ListN.{length, take, drop, get_or, length-map, get_or-map, drop_of_length-le}
@@ -18,87 +18,76 @@ use Rattle.spans.specs.declared.NameRef.{NameRef}
 use Rattle.spans.specs.Spans.{name_of, Sound, Names}
 use Rattle.steps.specs.CodeRuns.{LentRun, run_of, SoundRun, Follows}
 use Rattle.transaction.specs.Operations.{op_of, SoundOp}
-use Rattle.wal.specs.declared.Logged.{Logged}
-use Rattle.wal.specs.declared.WalRead.{WalRead}
-use Rattle.wal.specs.Logs.{logged_of, ops_read, SoundRead}
+use Rattle.transaction.specs.declared.Operation.{Operation}
+use Rattle.transaction.proofs.Lists.{map-append}
+use Rattle.basic_laws.specs.Tests.{All}
 use Rattle.recovery.proofs.Follow.{lawful, follows_as}
-use Rattle.recovery.proofs.Entries.{length-read, op-at, read_at}
+use Rattle.recovery.proofs.Entries.{op-at, all-split}
 
--- The collections in the operations' order.
-abbrev named : Bytes → WalRead → List Name
-named src w = map collection_of (ops_read src w)
+get_or-any : {A : Type 0} (l : List A) (i : ℕ) (d e : A) → i < length l → get_or l i d ≡ get_or l i e
+get_or-any [] i d e h = absurd (omega arith)
+get_or-any (a ∷ l) zero d e h = refl
+get_or-any (a ∷ l) (suc i) d e h = get_or-any l i d e (omega arith)
 
--- Those before i, the latest first.
-abbrev seen : Bytes → WalRead → ℕ → List Name
-seen src w i = reverse (take i (named src w))
+all-take : {A : Type 0} (P : A → Type 0) (n : ℕ) (l : List A) → All P l → All P (take n l)
+all-take P zero l h = tt
+all-take P (suc n) [] h = tt
+all-take P (suc n) (a ∷ l) h = (h.0, all-take P n l h.1)
 
-abbrev name_at : Bytes → WalRead → ℕ → Logged → Name
-name_at src w i d = collection_of (op_of src (get_or w.ops i d).op)
+-- The collections in the operations' order, and the latest first.
+abbrev named : Bytes → List Operation → List Name
+named src ops = map collection_of (map (op_of src) ops)
 
-module _ {src : Bytes} {w : WalRead} (s : SoundRead src w) where
-  length-named : length (named src w) ≡ w.len
-  length-named = length-map (ops_read src w) collection_of ∙ length-read s
+abbrev seen : Bytes → List Operation → List Name
+seen src ops = reverse (named src ops)
 
-  module _ (i : ℕ) (d : Logged) (h : i < w.len) where
-    named-at : get_or (named src w) i (collection_of (logged_of src d)) ≡ name_at src w i d
-    named-at = get_or-map collection_of (ops_read src w) i (logged_of src d) ∙ ap collection_of (read_at s i d h)
+seen-last : (src : Bytes) (front : List Operation) (op : Operation) → seen src (front ++ op ∷ []) ≡ collection_of (op_of src op) ∷ seen src front
+seen-last src front op =
+    let e : named src (front ++ op ∷ []) ≡ named src front ++ collection_of (op_of src op) ∷ [] =
+    ap (map collection_of) (map-append (op_of src) front (op ∷ [])) ∙ map-append collection_of (map (op_of src) front) (op_of src op ∷ []) in
+    ap reverse e ∙ reverse_aux-append (named src front) (collection_of (op_of src op) ∷ []) []
 
-    named-rest : drop i (named src w) ≡ name_at src w i d ∷ drop (suc i) (named src w)
-    named-rest = drop-cons (named src w) i (collection_of (logged_of src d)) (omega (arith, length-named)) ∙ ap (λ (n : Name). n ∷ drop (suc i) (named src w)) named-at
-
-    named-last : seen src w (suc i) ≡ name_at src w i d ∷ seen src w i
-    named-last =
-        ap reverse (take-suc (named src w) i (collection_of (logged_of src d)) (omega (arith, length-named)))
-        ∙ reverse_aux-append (take i (named src w)) (get_or (named src w) i (collection_of (logged_of src d)) ∷ []) []
-        ∙ ap (λ (n : Name). n ∷ seen src w i) named-at
-
--- `named_before`: the collections before i decide.
-pub record Earlier (src : Bytes) (w : WalRead) (n : ℕ) (dir : NameRef) (i : ℕ) : Type 0 where
-  pub read : SoundRead src w
+-- `named_before`: the collections of these operations decide, from the first on.
+pub record Earlier (src : Bytes) (ops : List Operation) (dir : NameRef) (left : List Operation) : Type 0 where
+  pub held : All (SoundOp src) left
   pub sound : Sound src dir
-  pub within : i ≤ w.len
-  pub same : is_in (name_of src dir) (seen src w i) ≡ is_in (name_of src dir) (seen src w n)
+  pub same : is_in (name_of src dir) (seen src left) ≡ is_in (name_of src dir) (seen src ops)
 
-pub earlier-start : {src : Bytes} {w : WalRead} {n : ℕ} {dir : NameRef} → SoundRead src w → n ≤ w.len → Sound src dir → Earlier src w n dir n
-earlier-start r h s = record { read = r; sound = s; within = h; same = refl }
+pub earlier-start : {src : Bytes} {ops : List Operation} {dir : NameRef} → All (SoundOp src) ops → Sound src dir → Earlier src ops dir ops
+earlier-start h s = record { held = h; sound = s; same = refl }
 
-module _ {src : Bytes} {w : WalRead} {n : ℕ} {dir : NameRef} {i : ℕ} (e : Earlier src w n dir i) where
-  pub not_named : i ≤ 0 → false ≡ is_in (name_of src dir) (seen src w n)
-  not_named h = let z : 0 ≡ i = omega arith in ap (λ (j : ℕ). is_in (name_of src dir) (seen src w j)) z ∙ e.same
+module _ {src : Bytes} {ops : List Operation} {dir : NameRef} {left : List Operation} (e : Earlier src ops dir left) where
+  pub not_named : left ≡ [] → false ≡ is_in (name_of src dir) (seen src ops)
+  not_named z = rw z at e.same
 
-  module _ (d : Logged) (h : 0 < i) where
-    pub named-op : SoundOp src (get_or w.ops (i - 1) d).op
-    named-op = op-at e.read (i - 1) d (omega (arith, e.within))
+  module _ (front : List Operation) (op : Operation) (z : left ≡ front ++ op ∷ []) where
+    pub named-op : SoundOp src op
+    named-op = (all-split (SoundOp src) front op (rw z at e.held)).1
 
-    ahead : is_in (name_of src dir) (name_at src w (i - 1) d ∷ seen src w (i - 1)) ≡ is_in (name_of src dir) (seen src w n)
-    ahead =
-        let k : suc (i - 1) ≡ i = omega arith in
-        sym (ap (is_in (name_of src dir)) (named-last e.read (i - 1) d (omega (arith, e.within))))
-        ∙ ap (λ (j : ℕ). is_in (name_of src dir) (seen src w j)) k
-        ∙ e.same
+    ahead : is_in (name_of src dir) (collection_of (op_of src op) ∷ seen src front) ≡ is_in (name_of src dir) (seen src ops)
+    ahead = rw (z, seen-last src front op) at e.same
 
-    module _ {r : NameRef} (q : Names src r (name_at src w (i - 1) d)) where
-      told : {b : Bool} → same_bytes (name_of src dir) (name_of src r) ≡ b → same_bytes (name_of src dir) (name_at src w (i - 1) d) ≡ b
+    module _ {r : NameRef} (q : Names src r (collection_of (op_of src op))) where
+      told : {b : Bool} → same_bytes (name_of src dir) (name_of src r) ≡ b → same_bytes (name_of src dir) (collection_of (op_of src op)) ≡ b
       told t = sym (ap (same_bytes (name_of src dir)) q.same) ∙ t
 
-      pub named_here : same_bytes (name_of src dir) (name_of src r) ≡ true → true ≡ is_in (name_of src dir) (seen src w n)
+      pub named_here : same_bytes (name_of src dir) (name_of src r) ≡ true → true ≡ is_in (name_of src dir) (seen src ops)
       named_here t = sym (rw (told t)) ∙ ahead
 
-      pub not-here : same_bytes (name_of src dir) (name_of src r) ≡ false → Earlier src w n dir (i - 1)
-      not-here t = record { read = e.read; sound = e.sound; within = omega (arith, e.within); same = sym (rw (told t)) ∙ ahead }
+      pub not-here : same_bytes (name_of src dir) (name_of src r) ≡ false → Earlier src ops dir front
+      not-here t = record { held = (all-split (SoundOp src) front op (rw z at e.held)).0; sound = e.sound; same = sym (rw (told t)) ∙ ahead }
 
 -- `sync_collection_dirs`: the collections from i on are left, those before it seen.
-abbrev left : Bytes → WalRead → ℕ → List Name
-left src w i = first_namings (seen src w i) (drop i (named src w))
+abbrev left : Bytes → List Operation → ℕ → List Name
+left src ops i = first_namings (seen src (take i ops)) (drop i (named src ops))
 
-pub record Syncing (src : Bytes) (w : WalRead) (start now : LentRun) (i : ℕ) : Type 0 where
-  pub read : SoundRead src w
+pub record Syncing (src : Bytes) (ops : List Operation) (start now : LentRun) (i : ℕ) : Type 0 where
+  pub held : All (SoundOp src) ops
   pub sound : SoundRun src now
-  pub within : i ≤ w.len
-  pub going : Going plain (seq_over apply sync_existing (first_namings [] (named src w))) (seq_over apply sync_existing (left src w i)) (run_of src start) (run_of src now)
+  pub going : Going plain (seq_over apply sync_existing (first_namings [] (named src ops))) (seq_over apply sync_existing (left src ops i)) (run_of src start) (run_of src now)
 
-pub syncing-start : {src : Bytes} {w : WalRead} {run : LentRun} → SoundRead src w → SoundRun src run → Syncing src w run run 0
-syncing-start s r = record { read = s; sound = r; within = omega arith; going = begin lawful }
+pub syncing-start : {src : Bytes} {ops : List Operation} {run : LentRun} → All (SoundOp src) ops → SoundRun src run → Syncing src ops run run 0
+syncing-start s r = record { held = s; sound = r; going = begin lawful }
 
 -- The next collection, by whether it was named before.
 module _ (x : Name) (xs : List Name) (l : List Name) where
@@ -110,48 +99,59 @@ module _ (x : Name) (xs : List Name) (l : List Name) where
   unfolding first_namings
   named-first h = rw h
 
-module _ {src : Bytes} {w : WalRead} {start now : LentRun} {i : ℕ} (g : Syncing src w start now i) where
-  pub syncing-end : w.len ≤ i → Follows plain src (in_turn sync_existing (first_namings [] (named src w))) start now
+module _ {src : Bytes} {ops : List Operation} {start now : LentRun} {i : ℕ} (g : Syncing src ops start now i) where
+  length-named : length (named src ops) ≡ length ops
+  length-named = length-map (map (op_of src) ops) collection_of ∙ length-map ops (op_of src)
+
+  pub syncing-end : length ops ≤ i → Follows plain src (in_turn sync_existing (first_namings [] (named src ops))) start now
   unfolding first_namings
   syncing-end h =
       follows_as lawful
       (record {
         sound = g.sound;
         does = finish lawful
-            (goes_as lawful g.going (ap (λ (l : List Name). seq_over apply sync_existing (first_namings (seen src w i) l) (run_of src now).store) (drop_of_length-le (named src w) {i = i} (omega (arith, length-named g.read)))));
+            (goes_as lawful g.going (ap (λ (l : List Name). seq_over apply sync_existing (first_namings (seen src (take i ops)) l) (run_of src now).store) (drop_of_length-le (named src ops) {i = i} (omega (arith, length-named)))));
       })
-      (in_turn_lem sync_existing (first_namings [] (named src w)) _)
+      (in_turn_lem sync_existing (first_namings [] (named src ops)) _)
 
-  module _ (d : Logged) (h : i < w.len) where
-    pub next-op : SoundOp src (get_or w.ops i d).op
-    next-op = op-at g.read i d h
+  pub seen-sound : All (SoundOp src) (take i ops)
+  seen-sound = all-take (SoundOp src) i ops g.held
+
+  module _ (d : Operation) (h : i < length ops) where
+    pub next-op : SoundOp src (get_or ops i d)
+    next-op = op-at src ops i d h g.held
 
     abbrev x : Name
-    x = name_at src w i d
+    x = collection_of (op_of src (get_or ops i d))
 
     abbrev after : List Name
-    after = first_namings (x ∷ seen src w i) (drop (suc i) (named src w))
+    after = first_namings (x ∷ seen src (take i ops)) (drop (suc i) (named src ops))
 
-    at_next : left src w i ≡ first_namings (seen src w i) (x ∷ drop (suc i) (named src w))
-    at_next = ap (first_namings (seen src w i)) (named-rest g.read i d h)
+    named-at : get_or (named src ops) i x ≡ x
+    named-at = get_or-map collection_of (map (op_of src) ops) i (op_of src (get_or ops i d)) ∙ ap collection_of (get_or-map (op_of src) ops i (get_or ops i d) ∙ ap (op_of src) (get_or-any ops i (get_or ops i d) d h))
 
-    left_after : after ≡ left src w (i + 1)
-    left_after = ap (λ (l : List Name). first_namings l (drop (suc i) (named src w))) (sym (named-last g.read i d h)) ∙ ap (left src w) (sym (add-one i))
+    at_next : left src ops i ≡ first_namings (seen src (take i ops)) (x ∷ drop (suc i) (named src ops))
+    at_next = ap (first_namings (seen src (take i ops))) (drop-cons (named src ops) i x (omega (arith, length-named)) ∙ ap (λ (n : Name). n ∷ drop (suc i) (named src ops)) named-at)
 
-    goes : {l : List Name} → left src w i ≡ l → Going plain (seq_over apply sync_existing (first_namings [] (named src w))) (seq_over apply sync_existing l) (run_of src start) (run_of src now)
+    left_after : after ≡ left src ops (i + 1)
+    left_after =
+        ap (λ (l : List Name). first_namings l (drop (suc i) (named src ops))) (sym (seen-last src (take i ops) (get_or ops i d)) ∙ ap (seen src) (sym (take-suc ops i d h)))
+        ∙ ap (left src ops) (sym (add-one i))
+
+    goes : {l : List Name} → left src ops i ≡ l → Going plain (seq_over apply sync_existing (first_namings [] (named src ops))) (seq_over apply sync_existing l) (run_of src start) (run_of src now)
     goes e = goes_as lawful g.going (ap (λ (l : List Name). seq_over apply sync_existing l (run_of src now).store) e)
 
     module _ {r : NameRef} (q : Names src r x) where
-      told-seen : {b : Bool} → is_in (name_of src r) (seen src w i) ≡ b → is_in x (seen src w i) ≡ b
-      told-seen t = sym (ap (λ (n : Name). is_in n (seen src w i)) q.same) ∙ t
+      told-seen : {b : Bool} → is_in (name_of src r) (seen src (take i ops)) ≡ b → is_in x (seen src (take i ops)) ≡ b
+      told-seen t = sym (ap (λ (n : Name). is_in n (seen src (take i ops))) q.same) ∙ t
 
-      pub syncing-skip : {next : LentRun} → next ≡ now → is_in (name_of src r) (seen src w i) ≡ true → Syncing src w start next (i + 1)
+      pub syncing-skip : {next : LentRun} → next ≡ now → is_in (name_of src r) (seen src (take i ops)) ≡ true → Syncing src ops start next (i + 1)
       syncing-skip e t =
-          subst (λ (n : LentRun). Syncing src w start n (i + 1)) (sym e)
-          record { read = g.read; sound = g.sound; within = omega arith; going = goes (at_next ∙ named_again x _ _ (told-seen t) ∙ left_after) }
+          subst (λ (n : LentRun). Syncing src ops start n (i + 1)) (sym e)
+          record { held = g.held; sound = g.sound; going = goes (at_next ∙ named_again x _ _ (told-seen t) ∙ left_after) }
 
-      pub syncing-next : {next : LentRun} (res : LentRun) → next ≡ res → is_in (name_of src r) (seen src w i) ≡ false → Follows plain src (sync_existing (name_of src r)) now res → Syncing src w start next (i + 1)
+      pub syncing-next : {next : LentRun} (res : LentRun) → next ≡ res → is_in (name_of src r) (seen src (take i ops)) ≡ false → Follows plain src (sync_existing (name_of src r)) now res → Syncing src ops start next (i + 1)
       syncing-next res e t p =
           let z : Follows plain src (sync_existing x) now res = subst (λ (n : Name). Follows plain src (sync_existing n) now res) q.same p in
-          subst (λ (n : LentRun). Syncing src w start n (i + 1)) (sym e)
-          record { read = g.read; sound = p.sound; within = omega arith; going = turn lawful (goes (at_next ∙ named-first x _ _ (told-seen t) ∙ ap (λ (l : List Name). x ∷ l) left_after)) z.does }
+          subst (λ (n : LentRun). Syncing src ops start n (i + 1)) (sym e)
+          record { held = g.held; sound = p.sound; going = turn lawful (goes (at_next ∙ named-first x _ _ (told-seen t) ∙ ap (λ (l : List Name). x ∷ l) left_after)) z.does }

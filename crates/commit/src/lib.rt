@@ -5,6 +5,7 @@
 
 ghost use Rattle.std.specs.Prelude.{◌≡◌, [], ◌∷◌, map, reverse, ◌≤◌, take};
 ghost use Rattle.basics.specs.Base.{Bytes, is_in};
+ghost use Rattle.basic_laws.specs.Tests.{All};
 ghost use Rattle.model.specs.Log.{journal, ops_of};
 ghost use Rattle.model.specs.Step.{hold_header, sync_log};
 ghost use Rattle.model.specs.Plan.{in_turn, collection_of, first_namings, sync_existing};
@@ -15,42 +16,35 @@ ghost use Rattle.plans.specs.ModelPlans.{commit_start, end_behind, commit_undo};
 ghost use Rattle.steps.specs.Steps.{Fits};
 ghost use Rattle.steps.specs.CodeRuns.{run_in, SoundRun, Follows};
 ghost use Rattle.transaction.specs.Operations.{op_of, SoundOp};
-ghost use Rattle.wal.specs.Logs.{ops_read, SoundRead};
 ghost use Rattle.commit.specs.Commits.{end_of, Commits};
 
 use spans::NameRef;
 use steps::{Run, Step};
 use store::{Nodes, Store};
 use transaction::Operation;
-use wal::WalRead;
 
 // The collection that an operation changes.
 fn collection_of(op: Operation) -> NameRef
     ensures { (src : Bytes) → SoundOp src op → Names src result (collection_of (op_of src op)) }
 {
     match op {
-        Operation::Write(c, _, _) => c,
-        Operation::Delete(c, _) => c,
-        Operation::DeleteAll(c) => c,
-        Operation::CreateCollection(c) => c,
-        Operation::DeleteCollection(c) => c,
-        Operation::CopyCollection(_, b, _) => b,
-        Operation::MarkedWrite(c, _, _, _) => c,
+        Operation::Write(c, _, _)
+        | Operation::Delete(c, _)
+        | Operation::DeleteAll(c)
+        | Operation::CreateCollection(c)
+        | Operation::DeleteCollection(c)
+        | Operation::CopyCollection(_, c, _)
+        | Operation::MarkedWrite(c, _, _, _) => c,
     }
 }
 
-// Whether one of the first n operations changes a collection: then that was named before.
-fn named_before(src: &[u8], w: WalRead, n: usize, dir: NameRef) -> bool
-    requires { (SoundRead src.now w × (n ≤ w.len)) × Sound src.now dir }
-    ensures { result ≡ is_in (name_of src.now dir) (reverse (take n (map collection_of (ops_read src.now w)))) }
+// Whether one of some operations changes a collection: then that was named before.
+fn named_before(src: &[u8], ops: &[Operation], dir: NameRef) -> bool
+    requires { All (SoundOp src.now) ops.now × Sound src.now dir }
+    ensures { result ≡ is_in (name_of src.now dir) (reverse (map collection_of (map (op_of src.now) ops.now))) }
 {
-    let mut i = n;
-    while 0 < i {
-        i -= 1;
-        let x = w.ops[i];
-        let op = x.op;
-        let other = collection_of(op);
-        if spans::same(src, dir, other) {
+    for op in ops.iter().rev() {
+        if spans::same(src, dir, collection_of(*op)) {
             return true;
         }
     }
@@ -69,31 +63,26 @@ fn sync_existing(src: &[u8], tree: &mut Nodes, staging: &mut Nodes, run: Run, di
     run
 }
 
-// Syncs the collections that the operations change. 01, Listings and file steps: "directory syncs in order of first naming".
+// Syncs the collections that operations change. 01, Listings and file steps: "directory syncs in order of first naming".
 fn sync_collection_dirs(
     src: &[u8],
     tree: &mut Nodes,
     staging: &mut Nodes,
     run: Run,
-    w: WalRead,
+    ops: &[Operation],
 ) -> Run
-    requires { SoundRun src.now (run_in tree.old staging.old run) × SoundRead src.now w }
-    ensures { Follows plain src.now (in_turn sync_existing (first_namings [] (map collection_of (ops_read src.now w)))) (run_in tree.old staging.old run) (run_in tree.new staging.new result) }
+    requires { SoundRun src.now (run_in tree.old staging.old run) × All (SoundOp src.now) ops.now }
+    ensures { Follows plain src.now (in_turn sync_existing (first_namings [] (map collection_of (map (op_of src.now) ops.now)))) (run_in tree.old staging.old run) (run_in tree.new staging.new result) }
 {
     if run.stopped {
         return run;
     }
-    let n = w.len;
     let mut work = run;
-    let mut i: usize = 0;
-    while i < n {
-        let x = w.ops[i];
-        let op = x.op;
-        let dir = collection_of(op);
-        if !named_before(src, w, i, dir) {
+    for (i, op) in ops.iter().enumerate() {
+        let dir = collection_of(*op);
+        if !named_before(src, &ops[..i], dir) {
             work = sync_existing(src, tree, staging, work, dir);
         }
-        i += 1;
     }
     work
 }
@@ -123,13 +112,13 @@ fn finish(
     tree: &mut Nodes,
     staging: &mut Nodes,
     run: Run,
-    w: WalRead,
+    ops: &[Operation],
     holds: bool,
 ) -> Run
-    requires { SoundRun src.now (run_in tree.old staging.old run) × SoundRead src.now w }
-    ensures { Follows plain src.now (end_behind (end_of holds) (ops_read src.now w)) (run_in tree.old staging.old run) (run_in tree.new staging.new result) }
+    requires { SoundRun src.now (run_in tree.old staging.old run) × All (SoundOp src.now) ops.now }
+    ensures { Follows plain src.now (end_behind (end_of holds) (map (op_of src.now) ops.now)) (run_in tree.old staging.old run) (run_in tree.new staging.new result) }
 {
-    let named = sync_collection_dirs(src, tree, staging, run, w);
+    let named = sync_collection_dirs(src, tree, staging, run, ops);
     let synced = steps::advance(src, tree, staging, named, Step::SyncCollections);
     if holds {
         let held = hold_log(src, tree, staging, synced);
@@ -141,36 +130,36 @@ fn finish(
 }
 
 // What follows them where one did (`rollback_applied_operations`, and the log and the staging files go).
-fn roll_back(src: &[u8], tree: &mut Nodes, staging: &mut Nodes, run: Run, w: WalRead) -> Run
-    requires { SoundRun src.now (run_in tree.old staging.old run) × SoundRead src.now w }
-    ensures { Follows plain src.now (commit_undo (ops_read src.now w)) (run_in tree.old staging.old run) (run_in tree.new staging.new result) }
+fn roll_back(src: &[u8], tree: &mut Nodes, staging: &mut Nodes, run: Run, ops: &[Operation]) -> Run
+    requires { SoundRun src.now (run_in tree.old staging.old run) × All (SoundOp src.now) ops.now }
+    ensures { Follows plain src.now (commit_undo (map (op_of src.now) ops.now)) (run_in tree.old staging.old run) (run_in tree.new staging.new result) }
 {
-    let undone = recovery::undo_all(src, tree, staging, run, w);
+    let undone = recovery::undo_all(src, tree, staging, run, ops);
     let removed = recovery::remove_log_durably(src, tree, staging, undone);
     recovery::cleanup_staging_dir(src, tree, staging, removed)
 }
 
-// The steps of a commit, or where `limited` the first n of them; of one that `holds` or not. `w` is what was read of the store's log.
+// The steps of a commit, or where `limited` the first n of them; of one that `holds` or not. The operations are those that were read of the store's log.
 pub fn apply_inner(
     src: &[u8],
     tree: &mut Nodes,
     staging: &mut Nodes,
     s: Store,
-    w: WalRead,
+    ops: &[Operation],
     holds: bool,
     limited: bool,
     n: u64,
 ) -> Run
-    requires { Fits src.now (store_in tree.old staging.old s) × (SoundRead src.now w × (ops_read src.now w ≡ ops_of (journal (log_bytes src.now s.log)))) }
+    requires { Fits src.now (store_in tree.old staging.old s) × (All (SoundOp src.now) ops.now × (map (op_of src.now) ops.now ≡ ops_of (journal (log_bytes src.now s.log)))) }
     ensures { Commits holds src.now (store_in tree.old staging.old s) limited n (run_in tree.new staging.new result) }
 {
     let run = steps::start(s, limited, n);
     let begun = mark_and_sync(src, tree, staging, run);
-    let tried = operations::apply_operations(src, tree, staging, begun, w);
+    let tried = operations::apply_operations(src, tree, staging, begun, ops);
     let refusal = tried.refusal;
     if refusal == 0 {
-        finish(src, tree, staging, tried, w, holds)
+        finish(src, tree, staging, tried, ops, holds)
     } else {
-        roll_back(src, tree, staging, tried, w)
+        roll_back(src, tree, staging, tried, ops)
     }
 }

@@ -4,7 +4,7 @@ use mathlib.Core.Bool.{true, false}
 use mathlib.Core.List.{◌++◌}
 use Prim.Native.Nat.{ℕ, ◌+◌, ◌/◌, ◌%◌, ◌≤◌}
 use native.Mathlib.Omega.{arith}
-use lib.ListN.{length, take, length-append}
+use lib.ListN.{length, length-append}
 use Rattle.basics.specs.Base.{Bytes}
 use Rattle.basics.specs.Field.{little_endian, encode_field, encode_fields}
 use Rattle.model.specs.Operation.{encode_payload}

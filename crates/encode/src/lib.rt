@@ -20,6 +20,7 @@ ghost use Rattle.encode.specs.Logs.{field_after, log_start};
 ghost use Rattle.encode.specs.Sizes.{NodeSize, LogSize};
 ghost use Rattle.encode.specs.Encoding.{Puts};
 
+use basics::Status;
 use recovery::search::BackupHit;
 use spans::NameRef;
 use store::{LogRef, Node, Nodes, Store};
@@ -147,7 +148,7 @@ fn put_marked(
     let end = start + len;
     if 11 + n <= out.len().saturating_sub(at) {
         field::put_field_head(out, at, 0x13, low(8 + n + more));
-        wal::rewrite_header(status, out, at + 3);
+        field::put_bytes(out, at + 3, &wal::encode_header(status));
         field::put_bytes(out, at + 11, &src[rest..end]);
     }
 }
@@ -178,7 +179,7 @@ fn put_log(src: &[u8], l: LogRef, more: usize, out: &mut [u8], at: usize)
 fn put_header(out: &mut [u8], at: usize)
     ensures { out.new ≡ written at (encode_field (field 0x13 (header 0))) out.old }
 {
-    let h = wal::encode_header(0);
+    let h = wal::encode_header(u8::from(Status::Recording));
     field::write_field(out, at, 0x13, &h);
 }
 

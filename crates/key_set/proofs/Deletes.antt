@@ -1,12 +1,12 @@
 -- `delete_one` and `delete_each`.
 use Rattle.std.specs.Prelude.{if◌then◌else◌}
 use mathlib.Core.Path.{◌≡◌, refl, sym, ap, subst, ◌∙◌}
-use mathlib.Core.List.{List, [], ◌∷◌}
+use mathlib.Core.List.{List, [], ◌∷◌, map}
 use mathlib.Core.Option.{Option, none, some}
 use mathlib.Core.Bool.{Bool, true, false, not, false≢true}
 use Prim.Native.Nat.{ℕ, ◌+◌, ◌≤◌, ◌<◌}
 use native.Mathlib.Omega.{arith}
-use lib.ListN.{drop, get_or, drop_of_length-le}
+use lib.ListN.{length, drop, get_or, length-map, drop_of_length-le}
 use types.Run.{OneOf}
 use denote.Enum.Declared.{tag_of}
 use borrow.Author.Tests.{not-true, not-false}
@@ -31,12 +31,9 @@ use Rattle.transaction.specs.Operations.{op_of, SoundOp}
 use Rattle.transaction.specs.declared.Operation.{Operation}
 use Rattle.transaction.specs.declared.Operation.TheVariants as code
 use Rattle.transaction.specs.contracts.Operation.{the_type}
-use Rattle.wal.specs.declared.Logged.{Logged}
-use Rattle.wal.specs.declared.WalRead.{WalRead}
-use Rattle.wal.specs.Logs.{ops_read}
-use Rattle.recovery.proofs.Entries.{length-read, op-at, read-rest}
+use Rattle.recovery.proofs.Entries.{op-at, read-rest}
 use Rattle.laws.specs.KeySetLaws.{deletable}
-use Rattle.key_set.specs.Deleting.{Deletes, Reads}
+use Rattle.key_set.specs.Deleting.{Deletes}
 
 -- One operation, and those behind it.
 one_then : (o : Op) (os : List Op) (s u : model.Store) → deletable (o ∷ []) s ≡ some u → deletable (o ∷ os) s ≡ deletable os u
@@ -104,46 +101,48 @@ module _ {src : Bytes} {s : LentStore} where
         other (code.MarkedWrite c k f x) h = unfold deletable in refl
 
 -- `delete_each`: the operations from i on are left.
-pub record Deleting (src : Bytes) (w : WalRead) (from : ℕ) (start now : LentStore) (i : ℕ) : Type 0 where
-  pub reads : Reads src w
+pub record Deleting (src : Bytes) (ops : List Operation) (from : ℕ) (start now : LentStore) (i : ℕ) : Type 0 where
+  pub held : All (SoundOp src) ops
+  pub valid : All ValidOp (map (op_of src) ops)
   pub fits : Fits src now
-  pub same : deletable (drop from (ops_read src w)) (store_of src start) ≡ deletable (drop i (ops_read src w)) (store_of src now)
+  pub same : deletable (drop from (map (op_of src) ops)) (store_of src start) ≡ deletable (drop i (map (op_of src) ops)) (store_of src now)
 
-pub deleting : {src : Bytes} {w : WalRead} {from : ℕ} {s : LentStore} → Reads src w → Fits src s → Deleting src w from s s from
-deleting r f = record { reads = r; fits = f; same = refl }
+pub deleting : {src : Bytes} {ops : List Operation} {from : ℕ} {s : LentStore} → All (SoundOp src) ops → All ValidOp (map (op_of src) ops) → Fits src s → Deleting src ops from s s from
+deleting r v f = record { held = r; valid = v; fits = f; same = refl }
 
-module _ {src : Bytes} {w : WalRead} {from : ℕ} {start now : LentStore} {i : ℕ} (g : Deleting src w from start now i) where
-  pub all-deleted : w.len ≤ i → Deletes src (drop from (ops_read src w)) start now true
+module _ {src : Bytes} {ops : List Operation} {from : ℕ} {start now : LentStore} {i : ℕ} (g : Deleting src ops from start now i) where
+  pub all-deleted : length ops ≤ i → Deletes src (drop from (map (op_of src) ops)) start now true
   unfolding deletable
   all-deleted h = record {
     fits = g.fits;
-    done = λ e. g.same ∙ ap (λ (l : List Op). deletable l (store_of src now)) (drop_of_length-le (ops_read src w) {i = i} (omega (arith, length-read g.reads.sound)));
+    done = λ e. g.same ∙ ap (λ (l : List Op). deletable l (store_of src now)) (drop_of_length-le (map (op_of src) ops) {i = i} (omega (arith, length-map ops (op_of src))));
     missing = λ e. absurd (false≢true (sym e));
   }
 
-  module _ (d : Logged) (h : i < w.len) where
+  module _ (d : Operation) (h : i < length ops) where
     abbrev op : Operation
-    op = (get_or w.ops i d).op
+    op = get_or ops i d
 
     pub may_delete : Fits src now × (SoundOp src op × ValidOp (op_of src op))
-    may_delete = (g.fits, (op-at g.reads.sound i d h, (subst (All ValidOp) (read-rest g.reads.sound i d h) (all_drop ValidOp i (ops_read src w) g.reads.valid)).0))
+    may_delete = (g.fits, (op-at src ops i d h g.held, (subst (All ValidOp) (read-rest src ops i d h) (all_drop ValidOp i (map (op_of src) ops) g.valid)).0))
 
-    left : {q : Option model.Store} → deletable (op_of src op ∷ drop (i + 1) (ops_read src w)) (store_of src now) ≡ q → deletable (drop from (ops_read src w)) (store_of src start) ≡ q
-    left e = g.same ∙ ap (λ (l : List Op). deletable l (store_of src now)) (read-rest g.reads.sound i d h) ∙ e
+    left : {q : Option model.Store} → deletable (op_of src op ∷ drop (i + 1) (map (op_of src) ops)) (store_of src now) ≡ q → deletable (drop from (map (op_of src) ops)) (store_of src start) ≡ q
+    left e = g.same ∙ ap (λ (l : List Op). deletable l (store_of src now)) (read-rest src ops i d h) ∙ e
 
     module _ {next : LentStore} {b : Bool} (x : Deletes src (op_of src op ∷ []) now next b) where
-      pub one-missing : not b ≡ true → Deletes src (drop from (ops_read src w)) start next b
+      pub one-missing : not b ≡ true → Deletes src (drop from (map (op_of src) ops)) start next b
       one-missing e =
           let f = not-true b e in
           record {
             fits = x.fits;
             done = λ t. absurd (false≢true (sym f ∙ t));
-            missing = λ z. left (none_then (op_of src op) (drop (i + 1) (ops_read src w)) (store_of src now) (x.missing z));
+            missing = λ z. left (none_then (op_of src op) (drop (i + 1) (map (op_of src) ops)) (store_of src now) (x.missing z));
           }
 
-      pub one-deleted : not b ≡ false → Deleting src w from start next (i + 1)
+      pub one-deleted : not b ≡ false → Deleting src ops from start next (i + 1)
       one-deleted e = record {
-        reads = g.reads;
+        held = g.held;
+        valid = g.valid;
         fits = x.fits;
-        same = left (one_then (op_of src op) (drop (i + 1) (ops_read src w)) (store_of src now) (store_of src next) (x.done (not-false b e)));
+        same = left (one_then (op_of src op) (drop (i + 1) (map (op_of src) ops)) (store_of src now) (store_of src next) (x.done (not-false b e)));
       }

@@ -6,7 +6,7 @@ use mathlib.Core.Option.{Option, none, some}
 use mathlib.Core.Bool.{Bool, true, false, not, ◌&&◌, false≢true}
 use Prim.Native.Nat.{ℕ, ◌+◌, ◌-◌, ◌≤◌, ◌<◌}
 use native.Mathlib.Omega.{arith}
-use lib.ListN.{length, take, drop}
+use lib.ListN.{length, take, drop, length-map}
 use lib.Seq.{drop_at}
 use lib.Dec.{leb}
 use borrow.Author.Tests.{not-true, not-false}
@@ -29,11 +29,10 @@ use Rattle.laws.specs.RecordLaws.{Gives}
 use Rattle.store.specs.Kept.{none_kept}
 use Rattle.store.specs.Stores.{LentStore, store_in, store_of, rewritten, log_bytes, SoundLog}
 use Rattle.steps.specs.Steps.{Fits}
-use Rattle.transaction.specs.Operations.{in_bounds}
+use Rattle.transaction.specs.Operations.{SoundOp, in_bounds, op_of}
 use Rattle.wal.specs.Logs.{ops_read, entries_at, ReadsLog}
 use Rattle.wal.specs.declared.WalRead.{WalRead}
 use Rattle.wal.specs.declared.Tail.TheVariants.{Nothing}
-use Rattle.recovery.proofs.Entries.{length-read}
 use Rattle.local_storage.specs.Recording.{Opens, Readable}
 use Rattle.local_storage.specs.declared.Transaction.{Transaction}
 use Rattle.local_storage.proofs.Opened.{some_open}
@@ -48,7 +47,7 @@ use Rattle.model.specs.Record.{key_fields, key_set, record_deletes, record_delet
 use Rattle.answers.specs.Answers.{delete_keys}
 use Rattle.laws.specs.KeySetLaws.{delete_entries, deletable, deletes, logged, with_entries, Fit, set-records, set-lowered, deletes_record, deletable-logged, journal-deletes, delete-keys-keeps}
 use Rattle.key_set.specs.Gathering.{key_count, set_in, Few}
-use Rattle.key_set.specs.Deleting.{Deletes, Reads, log_part, Fills, Ready}
+use Rattle.key_set.specs.Deleting.{Deletes, log_part, Fills, Ready}
 use Rattle.key_set.specs.declared.Gathered.{Gathered}
 use Rattle.key_set.proofs.Filled.{long, set-few}
 
@@ -163,8 +162,8 @@ module _ {image keys : Bytes} {s : LentStore} {n : ℕ} {before : Bytes} {out : 
               ∙ (journal-parts new (r.ops ++ deletes c set) reads-new).2
 
           -- What `delete_each` asks.
-          pub may_delete : {x : LentStore} → x ≡ relogged → Fits src x × Reads src w
-          may_delete q = (subst (Fits src) (sym q) fits, record { sound = l.held; valid = subst (All ValidOp) (sym ops-read) (subst (λ (j : Journal). All ValidOp (ops_of j)) reads-new (journal-valid (some new))) })
+          pub may_delete : {x : LentStore} → x ≡ relogged → Fits src x × (All (SoundOp src) w.ops.items × All ValidOp (ops_read src w))
+          may_delete q = (subst (Fits src) (sym q) fits, (l.held.sound, subst (All ValidOp) (sym ops-read) (subst (λ (j : Journal). All ValidOp (ops_of j)) reads-new (journal-valid (some new)))))
 
           outcome-is : record_delete_keys c keys S ≡ case_option (deletable (deletes c set) (store_of src relogged)) (refuse 8) give
           outcome-is =
@@ -232,8 +231,8 @@ module _ (c : Name) (keys : Bytes) (s : model.Store) where
         go none z = absurd (omega arith)
         go (some ks) z = rw (e, at ks z (leb 1 (length ks) && leb (length ks) 32) refl)
 
-pub ready : {image keys : Bytes} {s : LentStore} {src : Bytes} {out k : ℕ} {t : Transaction} → Held image s → Opens image (store_of image s) t → not t.found ≡ false → k ≡ key_count keys → (k ≡ 0 → ⊥) → k ≤ 32 →
-    31_014 ≡ length src → image_room ≤ out → Ready image keys s t.read.len src out
+pub ready : {image keys : Bytes} {s : LentStore} {src : Bytes} {out k : ℕ} {t : Transaction} → Held image s → Opens image (store_of image s) t → t.found ≡ true → k ≡ key_count keys → (k ≡ 0 → ⊥) → k ≤ 32 →
+    31_014 ≡ length src → image_room ≤ out → Ready image keys s (length t.read.ops.items) src out
 unfolding key_count
 ready {image} {keys} {s} {src} {out} {k} {t} h o f q z m l r = go (key_fields keys) refl q
   where
@@ -241,13 +240,13 @@ ready {image} {keys} {s} {src} {out} {k} {t} h o f q z m l r = go (key_fields ke
     some_of [] y = absurd (z y)
     some_of (a ∷ ks) y = omega arith
 
-    go : (x : Option (List Name)) → key_fields keys ≡ x → k ≡ case_option x 0 length → Ready image keys s t.read.len src out
+    go : (x : Option (List Name)) → key_fields keys ≡ x → k ≡ case_option x 0 length → Ready image keys s (length t.read.ops.items) src out
     go none e y = absurd (z y)
     go (some ks) e y = record {
       held = h;
       ops = ops_read image t.read;
       found = some_open o f;
-      count = length-read o.held;
+      count = length-map t.read.ops.items (op_of image);
       most = o.held.within;
       few = record { names = ks; reads = e; few = omega arith };
       some-keys = some_of ks y;

@@ -7,13 +7,9 @@ use Rattle.basics.specs.Base.{Bytes, all_of}
 use Rattle.basics.specs.Name.{valid_name}
 use Rattle.model.specs.Operation.{Op}
 use Rattle.model.specs.Record.{transaction}
-use Rattle.basic_laws.specs.Tests.{All}
-use Rattle.laws.specs.OperationLaws.{ValidOp}
 use Rattle.store.specs.Stores.{LentStore, store_of}
 use Rattle.store.specs.declared.LogRef.{LogRef}
 use Rattle.steps.specs.Steps.{Fits}
-use Rattle.wal.specs.Logs.{ops_read, SoundRead}
-use Rattle.wal.specs.declared.WalRead.{WalRead}
 use Rattle.handover.specs.Opening.{Held}
 use Rattle.laws.specs.KeySetLaws.{delete_entries, deletable}
 use Rattle.key_set.specs.Gathering.{set_in, Few}
@@ -24,11 +20,6 @@ pub record Deletes (src : Bytes) (ops : List Op) (s r : LentStore) (all : Bool) 
   pub fits : Fits src r
   pub done : all ≡ true → deletable ops (store_of src s) ≡ some (store_of src r)
   pub missing : all ≡ false → deletable ops (store_of src s) ≡ none
-
--- Operations that were read, with valid names.
-pub record Reads (src : Bytes) (w : WalRead) : Type 0 where
-  pub sound : SoundRead src w
-  pub valid : All ValidOp (ops_read src w)
 
 -- A log's bytes, where its header was not rewritten.
 abbrev pub log_part : Bytes → LogRef → Bytes

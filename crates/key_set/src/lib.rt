@@ -2,7 +2,7 @@
 // of the image, and what is deleted is read off these.
 #![tactic(auto)]
 
-ghost use Rattle.std.specs.Prelude.{◌≡◌, List, [], ◌∷◌, true, ℕ, ◌+◌, ◌-◌, ◌≤◌, ◌<◌, length, drop};
+ghost use Rattle.std.specs.Prelude.{◌≡◌, List, [], ◌∷◌, map, true, ℕ, ◌+◌, ◌-◌, ◌≤◌, ◌<◌, length, drop};
 ghost use Rattle.basics.specs.Order.{Name};
 ghost use Rattle.basics.specs.Base.{Bytes, same_bytes, is_in};
 ghost use Rattle.basics.specs.Name.{lower};
@@ -13,17 +13,17 @@ ghost use Rattle.laws.specs.OperationLaws.{ValidOp};
 ghost use Rattle.store.specs.Stores.{store_in, store_of, SoundLog};
 ghost use Rattle.steps.specs.Steps.{Fits};
 ghost use Rattle.transaction.specs.Operations.{op_of, SoundOp};
-ghost use Rattle.wal.specs.Logs.{ops_read};
+ghost use Rattle.basic_laws.specs.Tests.{All};
 ghost use Rattle.handover.specs.Contract.{lent, before, after, room, Returns};
 ghost use Rattle.model.specs.Record.{record_delete_keys};
 ghost use Rattle.answers.specs.Answers.{delete_keys};
-ghost use Rattle.key_set.specs.Deleting.{Deletes, Reads, Fills, Ready};
+ghost use Rattle.key_set.specs.Deleting.{Deletes, Fills, Ready};
 ghost use Rattle.key_set.specs.Gathering.{key_count, set_in, lowered_in, Few, AreFields, Roomy, Lendable, PutsEntry, Gathers, more};
 
 use lend::Named;
 use store::{LogRef, Nodes, Store};
 use transaction::Operation;
-use wal::{Tail, WalRead};
+use wal::Tail;
 
 // 02, item 8: "as 0x03 fields one behind the other".
 const KEY_TAG: u8 = 3;
@@ -198,24 +198,19 @@ fn delete_each(
     tree: &mut Nodes,
     staging: &mut Nodes,
     s: Store,
-    w: WalRead,
+    ops: &[Operation],
     from: usize,
 ) -> Deleted
-    requires { Fits src.now (store_in tree.old staging.old s) × Reads src.now w }
-    ensures { Deletes src.now (drop from (ops_read src.now w)) (store_in tree.old staging.old s) (store_in tree.new staging.new result.store) result.all }
+    requires { Fits src.now (store_in tree.old staging.old s) × (All (SoundOp src.now) ops.now × All ValidOp (map (op_of src.now) ops.now)) }
+    ensures { Deletes src.now (drop from (map (op_of src.now) ops.now)) (store_in tree.old staging.old s) (store_in tree.new staging.new result.store) result.all }
 {
-    let n = w.len;
     let mut work = s;
-    let mut i: usize = from;
-    while i < n {
-        let x = w.ops[i];
-        let op = x.op;
-        let d = delete_one(src, tree, staging, work, op);
+    for i in from..ops.len() {
+        let d = delete_one(src, tree, staging, work, ops[i]);
         if !d.all {
             return d;
         }
         work = d.store;
-        i += 1;
     }
     Deleted {
         all: true,
@@ -282,7 +277,7 @@ fn delete_in(
     let at = image.len();
     let t = with_log(s, at, g.end);
     let w = wal::read_wal(src, at, g.end);
-    let d = delete_each(src, tree, staging, t, w, n);
+    let d = delete_each(src, tree, staging, t, &w.ops, n);
     if !d.all {
         return 8;
     }
@@ -324,8 +319,7 @@ pub fn delete_keys(
     if basics::OPERATION_LIMIT < k {
         return 6;
     }
-    let read = t.read;
-    let n = read.len;
+    let n = t.read.ops.len();
     let mut src = [0u8; SOURCE_ROOM];
     delete_in(
         &mut src,

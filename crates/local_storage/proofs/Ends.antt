@@ -1,6 +1,6 @@
 -- `begin_transaction` and `rollback` as answers.
 use mathlib.Core.Path.{◌≡◌, refl, sym, ◌∙◌}
-use mathlib.Core.Bool.{Bool, true, false, not}
+use mathlib.Core.Bool.{Bool, true, false}
 use native.Mathlib.Omega.{arith}
 use Rattle.basics.specs.Base.{Bytes}
 use Rattle.model.specs.Log.{is_held, journal}
@@ -45,11 +45,11 @@ module _ {src : Bytes} {tree staging : Words} {self : LocalStorage} (g : SoundSt
   begun h i f e = rw e record { same = rw (h, sym i ∙ f); sound = record { tree = g.tree; staging = g.staging; log = g.log }; tail = tt; kept = λ z. absurd (z refl) }
 
   module _ {t : Transaction} (w : (x y : Words) → Opens src (storage_of src x y self) t) where
-    pub not_open : {r : Recorded} → not t.found ≡ true → r ≡ refused_with self 4 → Answers src (discard (storage_of src tree staging self)) tree staging self tree staging r
+    pub not_open : {r : Recorded} → t.found ≡ false → r ≡ refused_with self 4 → Answers src (discard (storage_of src tree staging self)) tree staging self tree staging r
     unfolding discard
     not_open h e = refused (untouched g) e (omega arith) (rw (none_open (w tree staging) h))
 
-    pub rolled_back : {s : Store} → not t.found ≡ false → ((x y : Words) → Discarded src (store_in x y self.store) (store_in x y s)) →
+    pub rolled_back : {s : Store} → t.found ≡ true → ((x y : Words) → Discarded src (store_in x y self.store) (store_in x y s)) →
         Answers src (discard (storage_of src tree staging self)) tree staging self tree staging (record { number = 0; storage = record { store = s }; tail = Nothing })
     unfolding discard
     rolled_back h d = record { same = rw (some_open (w tree staging) h, (d tree staging).same); sound = (d tree staging).sound g; tail = tt; kept = λ z. absurd (z refl) }

@@ -2,7 +2,7 @@
 use Rattle.std.specs.Prelude.{if◌then◌else◌}
 use mathlib.Core.Path.{◌≡◌, refl, sym, ap, ◌∙◌}
 use mathlib.Core.List.{[]}
-use mathlib.Core.Bool.{Bool, true, false, not, false≢true}
+use mathlib.Core.Bool.{Bool, true, false, false≢true}
 use Prim.Native.Nat.{ℕ}
 use lib.ListN.{length}
 use lib.Dec.{leb, eqb}
@@ -51,7 +51,7 @@ module _ (s : model.Store) {b : plans.Run model.Store Step} where
   at-end true w = held_whole s w
 
 -- 4.
-pub nothing_open : {holds : Bool} {src : Bytes} {tree staging : Words} {self : LocalStorage} {t : Transaction} {limited : Bool} {n : ℕ} → ((x y : Words) → Opens src (storage_of src x y self) t) → SoundStore src (store_in tree staging self.store) → not t.found ≡ true →
+pub nothing_open : {holds : Bool} {src : Bytes} {tree staging : Words} {self : LocalStorage} {t : Transaction} {limited : Bool} {n : ℕ} → ((x y : Words) → Opens src (storage_of src x y self) t) → SoundStore src (store_in tree staging self.store) → t.found ≡ false →
     Commits holds src (store_in tree staging self.store) limited n tree staging (record { found = false; number = 4; storage = self; left = 0; last = SyncJournal })
 nothing_open {tree = tree} {staging} w g h = record {
   found = rw (none_open (w tree staging) h);
@@ -74,10 +74,10 @@ some_left {holds} {src} {s} {n = n} {r} c l = go (eqb r.left 0) refl
     go false e = past apply (c.cut l) (eqb-false r.left 0 e)
 
 -- What was read are the operations of the log, whatever the tables hold.
-pub ops_open : {src : Bytes} (s : Store) {t : Transaction} → ((x y : Words) → Opens src (store_of src (store_in x y s)) t) → not t.found ≡ false → ops_read src t.read ≡ ops_of (journal (log_bytes src s.log))
+pub ops_open : {src : Bytes} (s : Store) {t : Transaction} → ((x y : Words) → Opens src (store_of src (store_in x y s)) t) → t.found ≡ true → ops_read src t.read ≡ ops_of (journal (log_bytes src s.log))
 ops_open {src} s {t} w h = sym (ap ops_of (found-whole (store_of src (store_in [] [] s)) (ops_read src t.read) (some_open (w [] []) h)))
 
-module _ {src : Bytes} {s : LentStore} {t : Transaction} (w : Opens src (store_of src s) t) (h : not t.found ≡ false) {holds limited : Bool} {n : ℕ} {tree staging : Words} {r : Run} (c : inner.Commits holds src s limited n (run_in tree staging r)) where
+module _ {src : Bytes} {s : LentStore} {t : Transaction} (w : Opens src (store_of src s) t) (h : t.found ≡ true) {holds limited : Bool} {n : ℕ} {tree staging : Words} {r : Run} (c : inner.Commits holds src s limited n (run_in tree staging r)) where
   answers : (u : Store) → SoundStore src (store_in tree staging u) → (limited ≡ false → store_of src (store_in tree staging u) ≡ ending_at (end_of holds) (length (plan_ending (end_of holds) (store_of src s))) (store_of src s)) → (limited ≡ true → store_of src (store_in tree staging u) ≡ ending_at (end_of holds) n (store_of src s)) → Commits holds src s limited n tree staging (answer_of r u)
   answers u g p q = record {
     found = rw (some_open w h);

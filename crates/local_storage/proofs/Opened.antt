@@ -1,5 +1,6 @@
 -- The open transaction: mark, header and entries of the log.
-use Rattle.std.specs.Prelude.{if◌then◌else◌}
+use Rattle.std.specs.Prelude.{if◌then◌else◌, Some, None}
+use Rattle.std.specs.Prelude as std
 use mathlib.Core.Path.{◌≡◌, refl, sym, ap, subst, ◌∙◌}
 use mathlib.Core.List.{List}
 use mathlib.Core.Option.{Option, none, some}
@@ -7,7 +8,6 @@ use mathlib.Core.Bool.{Bool, true, false, not, ◌&&◌, false≢true}
 use Prim.Native.Nat.{ℕ, zero, suc, ◌+◌, ◌-◌, ◌≤◌, ◌<◌}
 use native.Mathlib.Omega.{arith}
 use lib.ListN.{length, take, drop, get_or, length-map}
-use lib.Seq.{length-take-le}
 use borrow.Author.Tests.{not-true, not-false, le-leb, lt-leb}
 use Rattle.basics.specs.Base.{Bytes}
 use Rattle.model.specs.Operation.{Op}
@@ -17,10 +17,10 @@ use Rattle.model.specs.Store as model
 use Rattle.model.specs.Record.{transaction, recorded_ops}
 use Rattle.store.specs.Stores.{log_bytes}
 use Rattle.store.specs.declared.LogRef.{LogRef}
-use Rattle.transaction.specs.Operations.{in_bounds}
-use Rattle.wal.specs.Logs.{journal_of, ending_of, logged_of, ops_read, entries_of, entries_at, ReadsLog}
-use Rattle.wal.specs.declared.Status.{Status}
-use Rattle.wal.specs.declared.Status.TheVariants.{Absent, Recording, Committing, Held}
+use Rattle.transaction.specs.Operations.{op_of, in_bounds}
+use Rattle.wal.specs.Logs.{journal_of, ending_of, ops_read, entries_of, entries_at, ReadsLog}
+use Rattle.basics.specs.declared.Status.{Status}
+use Rattle.basics.specs.declared.Status.TheVariants.{Recording, Committing, Held}
 use Rattle.wal.specs.declared.Ending.{Ending}
 use Rattle.wal.specs.declared.Ending.TheVariants.{Whole, Truncated, Undecodable, TooMany}
 use Rattle.wal.specs.declared.WalRead.{WalRead}
@@ -39,17 +39,17 @@ abbrev store_by : Bytes → Bool → LogRef → Map → Map → model.Store
 store_by src mark l tree staging = record { tree = tree; staging = staging; log = log_bytes src l; open_mark = mark }
 
 -- What a status says.
-abbrev pub records : Status → Bool
-records Absent = false
-records Recording = true
-records Committing = false
-records Held = false
+abbrev pub records : std.Option Status → Bool
+records None = false
+records (Some Recording) = true
+records (Some Committing) = false
+records (Some Held) = false
 
-status_of : (st : Status) (e : Entries) → is_recording (journal_of st e) ≡ records st
-status_of Absent e = refl
-status_of Recording e = refl
-status_of Committing e = refl
-status_of Held e = refl
+status_of : (st : std.Option Status) (e : Entries) → is_recording (journal_of st e) ≡ records st
+status_of None e = refl
+status_of (Some Recording) e = refl
+status_of (Some Committing) e = refl
+status_of (Some Held) e = refl
 
 module _ {src : Bytes} {l : LogRef} (r : Readable src l) where
   log-stands : l.stands ≡ true → log_bytes src l ≡ some (bytes_of src l)
@@ -64,11 +64,11 @@ module _ {src : Bytes} {l : LogRef} (r : Readable src l) where
     pub no-mark : not mark ≡ true → false ≡ opened src mark l
     no-mark h = rw (not-true mark h)
 
-    pub by_status_lem : {st v : Status} → not mark ≡ false → journal_of st (entries (bytes_of src l)) ≡ journal (log_bytes src l) → st ≡ v → records v ≡ opened src mark l
+    pub by_status_lem : {st v : std.Option Status} → not mark ≡ false → journal_of st (entries (bytes_of src l)) ≡ journal (log_bytes src l) → st ≡ v → records v ≡ opened src mark l
     by_status_lem {st} {v} h w t = rw (not-false mark h) (sym (ap is_recording (sym w) ∙ status_of st (entries (bytes_of src l)) ∙ ap records t))
 
-  pub by-held : {st v : Status} → journal_of st (entries (bytes_of src l)) ≡ journal (log_bytes src l) → st ≡ v → is_held (journal_of v (entries (bytes_of src l))) ≡ is_held (journal (log_bytes src l))
-  by-held {st} {v} w t = ap (λ (x : Status). is_held (journal_of x (entries (bytes_of src l)))) (sym t) ∙ ap is_held w
+  pub by-held : {st v : std.Option Status} → journal_of st (entries (bytes_of src l)) ≡ journal (log_bytes src l) → st ≡ v → is_held (journal_of v (entries (bytes_of src l))) ≡ is_held (journal (log_bytes src l))
+  by-held {st} {v} w t = ap (λ (x : std.Option Status). is_held (journal_of x (entries (bytes_of src l)))) (sym t) ∙ ap is_held w
 
 -- A Recording log gives its entries.
 recording_entries : (l : Bytes) → is_recording (read_journal l) ≡ true → read_journal l ≡ recording (entries l).ops (entries l).end
@@ -134,20 +134,20 @@ module _ {src : Bytes} (mark : Bool) {l : LogRef} (tree staging : Map) (r : Read
 
 -- 4, 5, or going on.
 module _ {src : Bytes} {s : model.Store} {t : Transaction} (w : Opens src s t) where
-  pub none_open : not t.found ≡ true → transaction s ≡ none
-  none_open h = sym w.same ∙ rw (not-true t.found h)
+  pub none_open : t.found ≡ false → transaction s ≡ none
+  none_open h = sym w.same ∙ rw h
 
-  pub some_open : not t.found ≡ false → transaction s ≡ some (ops_read src t.read)
-  some_open h = sym w.same ∙ rw (not-false t.found h)
+  pub some_open : t.found ≡ true → transaction s ≡ some (ops_read src t.read)
+  some_open h = sym w.same ∙ rw h
 
-  ops-length : length (ops_read src t.read) ≡ t.read.len
-  ops-length = length-map (take t.read.len t.read.ops) (logged_of src) ∙ length-take-le t.read.len t.read.ops (omega (arith, w.held.size, w.held.within))
+  ops-length : length (ops_read src t.read) ≡ length t.read.ops.items
+  ops-length = length-map t.read.ops.items (op_of src)
 
-  pub no-transaction : not t.found ≡ true → Admits s 4
+  pub no-transaction : t.found ≡ false → Admits s 4
   no-transaction h = record { refuses = λ z next. rw (none_open h); passes = λ z. absurd (omega arith) }
 
-  pub full : not t.found ≡ false → 32 ≤ t.read.len → Admits s 5
+  pub full : t.found ≡ true → 32 ≤ length t.read.ops.items → Admits s 5
   full h l = record { refuses = λ z next. rw (some_open h, le-leb 32 (length (ops_read src t.read)) (omega (arith, ops-length))); passes = λ z. absurd (omega arith) }
 
-  pub going_on : not t.found ≡ false → t.read.len < 32 → Admits s 0
+  pub going_on : t.found ≡ true → length t.read.ops.items < 32 → Admits s 0
   going_on h l = record { refuses = λ z. absurd (z refl); passes = λ z next. rw (some_open h, lt-leb 32 (length (ops_read src t.read)) (omega (arith, ops-length))) }

@@ -17,11 +17,12 @@ ghost use Rattle.local_storage.specs.Recording.{Readable, Ready, storage_of, Ans
 
 mod collection;
 
+use basics::Status;
 use spans::NameRef;
 use steps::Step;
 use store::{Nodes, Store};
 use transaction::Operation;
-use wal::{Ending, Status, Tail, WalRead};
+use wal::{Ending, Tail, WalRead};
 
 #[derive(Clone, Copy)]
 pub struct LocalStorage {
@@ -48,7 +49,7 @@ pub struct Committed {
 }
 
 // The operations of the open transaction, where one is found.
-#[derive(Clone, Copy)]
+#[derive(Drop)]
 pub struct Transaction {
     pub found: bool,
     pub read: WalRead,
@@ -62,13 +63,9 @@ fn is_recording(src: &[u8], s: Store) -> bool
     if !s.open_mark {
         return false;
     }
-    let l = s.log;
-    let status = recovery::open_log(src, l);
-    match status {
-        Status::Recording => true,
-        Status::Absent => false,
-        Status::Committing => false,
-        Status::Held => false,
+    match recovery::open_log(src, s.log) {
+        Some(Status::Recording) => true,
+        Some(Status::Committing | Status::Held) | None => false,
     }
 }
 
@@ -77,13 +74,9 @@ fn is_held(src: &[u8], s: Store) -> bool
     requires { Readable src.now s.log }
     ensures { result ≡ is_held (journal (log_bytes src.now s.log)) }
 {
-    let l = s.log;
-    let status = recovery::open_log(src, l);
-    match status {
-        Status::Held => true,
-        Status::Absent => false,
-        Status::Recording => false,
-        Status::Committing => false,
+    match recovery::open_log(src, s.log) {
+        Some(Status::Held) => true,
+        Some(Status::Recording | Status::Committing) | None => false,
     }
 }
 
@@ -91,12 +84,7 @@ fn is_held(src: &[u8], s: Store) -> bool
 fn is_whole(ending: Ending) -> bool
     ensures { result ≡ is_whole ending }
 {
-    match ending {
-        Ending::Whole => true,
-        Ending::Truncated(_) => false,
-        Ending::Undecodable => false,
-        Ending::TooMany => false,
-    }
+    matches!(ending, Ending::Whole)
 }
 
 // The open transaction. 01, Sixteen numbers, 4: "an untruncated, decodable Recording log of at most 32 operations".
@@ -114,10 +102,9 @@ pub fn open_transaction(src: &[u8], s: Store) -> Transaction
     let start = usize::from(l.start);
     let end = start + usize::from(l.len);
     let read = wal::read_wal(src, start, end);
-    let ending = read.ending;
     Transaction {
-        found: is_whole(ending),
-        read: read,
+        found: is_whole(read.ending),
+        read,
     }
 }
 
@@ -130,8 +117,7 @@ fn refusal(src: &[u8], s: Store) -> u32
     if !t.found {
         return 4;
     }
-    let read = t.read;
-    if basics::OPERATION_LIMIT <= read.len {
+    if basics::OPERATION_LIMIT <= t.read.ops.len() {
         return 5;
     }
     0
@@ -241,8 +227,16 @@ impl LocalStorage {
                 last: Step::SyncJournal,
             };
         }
-        let read = t.read;
-        let run = commit::apply_inner(src, tree, staging, self.store, read, holds, limited, n);
+        let run = commit::apply_inner(
+            src,
+            tree,
+            staging,
+            self.store,
+            &t.read.ops,
+            holds,
+            limited,
+            n,
+        );
         let last = run.last;
         let s = run.store;
         let stopped = run.stopped;

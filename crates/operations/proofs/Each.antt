@@ -3,7 +3,7 @@ use mathlib.Core.Path.{◌≡◌, ap, subst, ◌∙◌}
 use mathlib.Core.List.{List, map}
 use Prim.Native.Nat.{ℕ, ◌+◌, ◌≤◌, ◌<◌}
 use native.Mathlib.Omega.{arith}
-use lib.ListN.{drop, get_or, drop_of_length-le}
+use lib.ListN.{length, drop, get_or, length-map, get_or-map, drop_of_length-le}
 use Rattle.basics.specs.Order.{Name}
 use Rattle.basics.specs.Base.{Bytes}
 use Rattle.basics.specs.Name.{backup_name}
@@ -24,12 +24,10 @@ use Rattle.steps.specs.Steps.{FileName}
 use Rattle.steps.specs.CodeRuns.{LentRun, run_of, SoundRun, Follows}
 use Rattle.steps.proofs.FileNames.{listed-named}
 use Rattle.transaction.specs.Operations.{op_of, SoundOp}
-use Rattle.wal.specs.declared.Logged.{Logged}
-use Rattle.wal.specs.declared.WalRead.{WalRead}
-use Rattle.wal.specs.Logs.{logged_of, ops_read, SoundRead}
+use Rattle.transaction.specs.declared.Operation.{Operation}
 use Rattle.recovery.proofs.Follow.{follows_as}
 use Rattle.recovery.proofs.Over.{Over, end}
-use Rattle.recovery.proofs.Entries.{length-read, op-at, read_at, read-rest}
+use Rattle.recovery.proofs.Entries.{op-at, read-rest}
 use Rattle.operations.proofs.Careful.{lawful}
 
 -- One step for each file.
@@ -48,29 +46,28 @@ module _ {src : Bytes} {run now : LentRun} {listing : List ℕ} {n i : ℕ} (h :
   each-end l = follows_as lawful (end lawful w l) (in_turn_lem (each h) (files d (map_of src run.store.tree)) _ ∙ in_turn-single h (files d (map_of src run.store.tree)) _)
 
 -- `apply_operations`: the first i operations are done.
-pub record Ahead (src : Bytes) (w : WalRead) (start now : LentRun) (i : ℕ) : Type 0 where
-  pub read : SoundRead src w
-  pub valid : All ValidOp (ops_read src w)
+pub record Ahead (src : Bytes) (ops : List Operation) (start now : LentRun) (i : ℕ) : Type 0 where
+  pub held : All (SoundOp src) ops
+  pub valid : All ValidOp (map (op_of src) ops)
   pub sound : SoundRun src now
-  pub within : i ≤ w.len
-  pub going : Going careful (seq_over apply op_steps (ops_read src w)) (seq_over apply op_steps (drop i (ops_read src w))) (run_of src start) (run_of src now)
+  pub going : Going careful (seq_over apply op_steps (map (op_of src) ops)) (seq_over apply op_steps (drop i (map (op_of src) ops))) (run_of src start) (run_of src now)
 
-pub ahead-start : {src : Bytes} {w : WalRead} {run : LentRun} → SoundRead src w → All ValidOp (ops_read src w) → SoundRun src run → Ahead src w run run 0
-ahead-start s v r = record { read = s; valid = v; sound = r; within = omega arith; going = begin lawful }
+pub ahead-start : {src : Bytes} {ops : List Operation} {run : LentRun} → All (SoundOp src) ops → All ValidOp (map (op_of src) ops) → SoundRun src run → Ahead src ops run run 0
+ahead-start s v r = record { held = s; valid = v; sound = r; going = begin lawful }
 
-module _ {src : Bytes} {w : WalRead} {start now : LentRun} {i : ℕ} (a : Ahead src w start now i) where
-  rest_as : (l : List Op) → drop i (ops_read src w) ≡ l → Going careful (seq_over apply op_steps (ops_read src w)) (seq_over apply op_steps l) (run_of src start) (run_of src now)
+module _ {src : Bytes} {ops : List Operation} {start now : LentRun} {i : ℕ} (a : Ahead src ops start now i) where
+  rest_as : (l : List Op) → drop i (map (op_of src) ops) ≡ l → Going careful (seq_over apply op_steps (map (op_of src) ops)) (seq_over apply op_steps l) (run_of src start) (run_of src now)
   rest_as l e = goes_as lawful a.going (ap (λ (q : List Op). seq_over apply op_steps q (run_of src now).store) e)
 
-  pub ahead-end : w.len ≤ i → Follows careful src (operation_steps (ops_read src w)) start now
+  pub ahead-end : length ops ≤ i → Follows careful src (operation_steps (map (op_of src) ops)) start now
   ahead-end h =
       follows_as lawful
-      (record { sound = a.sound; does = finish lawful (rest_as _ (drop_of_length-le (ops_read src w) {i = i} (omega (arith, length-read a.read)))) })
-      (in_turn_lem op_steps (ops_read src w) _)
+      (record { sound = a.sound; does = finish lawful (rest_as _ (drop_of_length-le (map (op_of src) ops) {i = i} (omega (arith, length-map ops (op_of src))))) })
+      (in_turn_lem op_steps (map (op_of src) ops) _)
 
-  module _ (d : Logged) (h : i < w.len) where
-    pub op-ahead : SoundOp src (get_or w.ops i d).op × ValidOp (op_of src (get_or w.ops i d).op)
-    op-ahead = (op-at a.read i d h, subst ValidOp (read_at a.read i d h) (all_get_d ValidOp (ops_read src w) i (logged_of src d) a.valid (omega (arith, length-read a.read))))
+  module _ (d : Operation) (h : i < length ops) where
+    pub op-ahead : SoundOp src (get_or ops i d) × ValidOp (op_of src (get_or ops i d))
+    op-ahead = (op-at src ops i d h a.held, subst ValidOp (get_or-map (op_of src) ops i d) (all_get_d ValidOp (map (op_of src) ops) i (op_of src d) a.valid (omega (arith, length-map ops (op_of src)))))
 
-    pub ahead-next : {next : LentRun} → Follows careful src (op_steps (op_of src (get_or w.ops i d).op)) now next → Ahead src w start next (i + 1)
-    ahead-next p = record { read = a.read; valid = a.valid; sound = p.sound; within = omega arith; going = turn lawful (rest_as _ (read-rest a.read i d h)) p.does }
+    pub ahead-next : {next : LentRun} → Follows careful src (op_steps (op_of src (get_or ops i d))) now next → Ahead src ops start next (i + 1)
+    ahead-next p = record { held = a.held; valid = a.valid; sound = p.sound; going = turn lawful (rest_as _ (read-rest src ops i d h)) p.does }

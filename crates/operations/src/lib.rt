@@ -3,7 +3,7 @@
 #![tactic(auto)]
 
 ghost use Rattle.std.proofs.Math.Option.{Option};
-ghost use Rattle.std.specs.Prelude.{Bool};
+ghost use Rattle.std.specs.Prelude.{Bool, map};
 ghost use Rattle.basics.specs.Name.{backup_name};
 ghost use Rattle.model.specs.Operation.{write, copy_collection};
 ghost use Rattle.model.specs.Step.{rename_file, rename_directory};
@@ -16,14 +16,12 @@ ghost use Rattle.plans.specs.ModelPlans.{careful};
 ghost use Rattle.steps.specs.Steps.{FileName};
 ghost use Rattle.steps.specs.CodeRuns.{run_in, SoundRun, Follows};
 ghost use Rattle.transaction.specs.Operations.{op_of, SoundOp};
-ghost use Rattle.wal.specs.Logs.{ops_read, SoundRead};
 ghost use Rattle.operations.specs.Parts.{back_up_standing, back_up_standing_dir, make_missing, back_up_all, copy_all};
 
 use spans::NameRef;
 use steps::{Run, Step};
 use store::Nodes;
 use transaction::Operation;
-use wal::WalRead;
 
 // Renames a file to its backup name. 01, Sixteen numbers, 14: "backup name over 64 bytes".
 fn back_up(
@@ -223,25 +221,20 @@ pub fn apply_operation(
     }
 }
 
-// What the operations that were read do, in their order.
+// What operations do, in their order.
 pub fn apply_operations(
     src: &[u8],
     tree: &mut Nodes,
     staging: &mut Nodes,
     run: Run,
-    w: WalRead,
+    ops: &[Operation],
 ) -> Run
-    requires { SoundRun src.now (run_in tree.old staging.old run) × (SoundRead src.now w × All ValidOp (ops_read src.now w)) }
-    ensures { Follows careful src.now (operation_steps (ops_read src.now w)) (run_in tree.old staging.old run) (run_in tree.new staging.new result) }
+    requires { SoundRun src.now (run_in tree.old staging.old run) × (All (SoundOp src.now) ops.now × All ValidOp (map (op_of src.now) ops.now)) }
+    ensures { Follows careful src.now (operation_steps (map (op_of src.now) ops.now)) (run_in tree.old staging.old run) (run_in tree.new staging.new result) }
 {
-    let n = w.len;
     let mut work = run;
-    let mut done: usize = 0;
-    while done < n {
-        let x = w.ops[done];
-        let op = x.op;
-        work = apply_operation(src, tree, staging, work, op);
-        done += 1;
+    for op in ops {
+        work = apply_operation(src, tree, staging, work, *op);
     }
     work
 }

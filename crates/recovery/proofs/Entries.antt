@@ -1,12 +1,12 @@
 -- The operations that were read from the log: a search through them, and the walk from the last to the first.
 use mathlib.Core.Path.{◌≡◌, refl, sym, ap, ◌∙◌}
-use mathlib.Core.List.{List, [], ◌∷◌, reverse, reverse_aux-append}
+use mathlib.Core.List.{List, [], ◌∷◌, ◌++◌, map, reverse, reverse_aux-append}
 use mathlib.Core.Bool.{true, false, ◌||◌}
-use Prim.Native.Nat.{ℕ, suc, ◌+◌, ◌-◌, ◌≤◌, ◌<◌}
+use Prim.Native.Nat.{ℕ, suc, ◌+◌, ◌≤◌, ◌<◌}
 use native.Mathlib.Numerals.{add-one}
 use native.Mathlib.Omega.{arith}
-use lib.ListN.{length, take, drop, get_or, length-map, get_or-map, drop_of_length-le}
-use lib.Seq.{drop-cons, take_all, take-suc, get_or-take, length-take-le}
+use lib.ListN.{length, drop, get_or, length-map, get_or-map, drop_of_length-le}
+use lib.Seq.{drop-cons}
 use Rattle.basics.specs.Map.{Map}
 use Rattle.basics.specs.Base.{Bytes, any_of}
 use Rattle.model.specs.Operation.{Op}
@@ -19,94 +19,76 @@ use Rattle.plans.specs.ModelPlans.{plain, in_turn_lem}
 use Rattle.store.proofs.Lists.{all_get_d}
 use Rattle.steps.specs.CodeRuns.{LentRun, run_of, SoundRun, Follows}
 use Rattle.transaction.specs.Operations.{op_of, SoundOp}
-use Rattle.wal.specs.declared.Logged.{Logged}
-use Rattle.wal.specs.declared.WalRead.{WalRead}
-use Rattle.wal.specs.Logs.{logged_of, ops_read, SoundLogged, SoundRead}
+use Rattle.transaction.specs.declared.Operation.{Operation}
+use Rattle.basic_laws.specs.Tests.{All}
+use Rattle.transaction.proofs.Lists.{map-append}
 use Rattle.recovery.proofs.Follow.{lawful, follows_as}
 
-module _ {src : Bytes} {w : WalRead} (s : SoundRead src w) where
-  pub length-read : length (ops_read src w) ≡ w.len
-  length-read = length-map (take w.len w.ops) (logged_of src) ∙ length-take-le w.len w.ops (omega (arith, s.size, s.within))
+-- Operations, each with its names in the bytes.
+module _ (src : Bytes) (ops : List Operation) (i : ℕ) (d : Operation) (h : i < length ops) where
+  pub op-at : All (SoundOp src) ops → SoundOp src (get_or ops i d)
+  op-at s = all_get_d (SoundOp src) ops i d s h
 
-  -- The operation at i, what is left from it on, and what stands before it in reverse.
-  module _ (i : ℕ) (d : Logged) (h : i < w.len) where
-    pub op-at : SoundOp src (get_or w.ops i d).op
-    op-at = all_get_d (SoundLogged src) w.ops i d s.sound (omega (arith, s.size, s.within))
+  -- What is left from the operation at i on.
+  pub read-rest : drop i (map (op_of src) ops) ≡ op_of src (get_or ops i d) ∷ drop (i + 1) (map (op_of src) ops)
+  read-rest =
+      drop-cons (map (op_of src) ops) i (op_of src d) (omega (arith, length-map ops (op_of src)))
+      ∙ ap (λ (o : Op). o ∷ drop (suc i) (map (op_of src) ops)) (get_or-map (op_of src) ops i d)
+      ∙ ap (λ (j : ℕ). op_of src (get_or ops i d) ∷ drop j (map (op_of src) ops)) (sym (add-one i))
 
-    pub read_at : get_or (ops_read src w) i (logged_of src d) ≡ op_of src (get_or w.ops i d).op
-    read_at = get_or-map (logged_of src) (take w.len w.ops) i d ∙ ap (logged_of src) (get_or-take w.len w.ops i d h)
-
-    pub read-rest : drop i (ops_read src w) ≡ op_of src (get_or w.ops i d).op ∷ drop (i + 1) (ops_read src w)
-    read-rest =
-        drop-cons (ops_read src w) i (logged_of src d) (omega (arith, length-read))
-        ∙ ap (λ (o : Op). o ∷ drop (suc i) (ops_read src w)) read_at
-        ∙ ap (λ (j : ℕ). op_of src (get_or w.ops i d).op ∷ drop j (ops_read src w)) (sym (add-one i))
-
-    read-last : reverse (take (suc i) (ops_read src w)) ≡ op_of src (get_or w.ops i d).op ∷ reverse (take i (ops_read src w))
-    read-last =
-        ap reverse (take-suc (ops_read src w) i (logged_of src d) (omega (arith, length-read)))
-        ∙ reverse_aux-append (take i (ops_read src w)) (get_or (ops_read src w) i (logged_of src d) ∷ []) []
-        ∙ ap (λ (o : Op). o ∷ reverse (take i (ops_read src w))) read_at
+pub all-split : {A : Type 0} (P : A → Type 0) (l : List A) (a : A) → All P (l ++ a ∷ []) → All P l × P a
+all-split P [] a h = (tt, h.0)
+all-split P (b ∷ l) a h = let q = all-split P l a h.1 in ((h.0, q.0), q.1)
 
 -- `has_new_artifacts`: the operations from i on decide.
-pub record Among (src : Bytes) (m : Map) (w : WalRead) (i : ℕ) : Type 0 where
-  pub sound : SoundRead src w
-  pub within : i ≤ w.len
-  pub same : any_of (is_new_artifact m) (drop i (ops_read src w)) ≡ any_of (is_new_artifact m) (ops_read src w)
+pub record Among (src : Bytes) (m : Map) (ops : List Operation) (i : ℕ) : Type 0 where
+  pub sound : All (SoundOp src) ops
+  pub same : any_of (is_new_artifact m) (drop i (map (op_of src) ops)) ≡ any_of (is_new_artifact m) (map (op_of src) ops)
 
-pub among_start : {src : Bytes} (m : Map) {w : WalRead} → SoundRead src w → Among src m w 0
-among_start m s = record { sound = s; within = omega arith; same = refl }
+pub among_start : {src : Bytes} (m : Map) {ops : List Operation} → All (SoundOp src) ops → Among src m ops 0
+among_start m s = record { sound = s; same = refl }
 
-module _ {src : Bytes} {m : Map} {w : WalRead} {i : ℕ} (a : Among src m w i) where
-  pub none-new : w.len ≤ i → false ≡ any_of (is_new_artifact m) (ops_read src w)
-  none-new h = sym (ap (any_of (is_new_artifact m)) (drop_of_length-le (ops_read src w) {i = i} (omega (arith, length-read a.sound)))) ∙ a.same
+module _ {src : Bytes} {m : Map} {ops : List Operation} {i : ℕ} (a : Among src m ops i) where
+  pub none-new : length ops ≤ i → false ≡ any_of (is_new_artifact m) (map (op_of src) ops)
+  none-new h = sym (ap (any_of (is_new_artifact m)) (drop_of_length-le (map (op_of src) ops) {i = i} (omega (arith, length-map ops (op_of src))))) ∙ a.same
 
-  module _ (d : Logged) (h : i < w.len) where
-    ahead : (is_new_artifact m (op_of src (get_or w.ops i d).op) || any_of (is_new_artifact m) (drop (i + 1) (ops_read src w))) ≡ any_of (is_new_artifact m) (ops_read src w)
-    ahead = sym (ap (any_of (is_new_artifact m)) (read-rest a.sound i d h)) ∙ a.same
+  module _ (d : Operation) (h : i < length ops) where
+    ahead : (is_new_artifact m (op_of src (get_or ops i d)) || any_of (is_new_artifact m) (drop (i + 1) (map (op_of src) ops))) ≡ any_of (is_new_artifact m) (map (op_of src) ops)
+    ahead = sym (ap (any_of (is_new_artifact m)) (read-rest src ops i d h)) ∙ a.same
 
-    pub new-found : is_new_artifact m (op_of src (get_or w.ops i d).op) ≡ true → true ≡ any_of (is_new_artifact m) (ops_read src w)
+    pub new-found : is_new_artifact m (op_of src (get_or ops i d)) ≡ true → true ≡ any_of (is_new_artifact m) (map (op_of src) ops)
     new-found e = sym (rw e) ∙ ahead
 
-    pub not_new : is_new_artifact m (op_of src (get_or w.ops i d).op) ≡ false → Among src m w (i + 1)
-    not_new e = record { sound = a.sound; within = omega arith; same = sym (rw e) ∙ ahead }
+    pub not_new : is_new_artifact m (op_of src (get_or ops i d)) ≡ false → Among src m ops (i + 1)
+    not_new e = record { sound = a.sound; same = sym (rw e) ∙ ahead }
 
--- `remove_new_artifacts`: the first i operations are left.
+-- `remove_new_artifacts`: these operations are left, from the first on.
 module _ (g : Op → Store → List Step) where
-  pub record Back (src : Bytes) (w : WalRead) (start now : LentRun) (i : ℕ) : Type 0 where
-    pub read : SoundRead src w
+  pub record Back (src : Bytes) (ops : List Operation) (start now : LentRun) (left : List Operation) : Type 0 where
+    pub left-sound : All (SoundOp src) left
     pub sound : SoundRun src now
-    pub within : i ≤ w.len
-    pub going : Going plain (seq_over apply g (reverse (ops_read src w))) (seq_over apply g (reverse (take i (ops_read src w)))) (run_of src start) (run_of src now)
+    pub going : Going plain (seq_over apply g (reverse (map (op_of src) ops))) (seq_over apply g (reverse (map (op_of src) left))) (run_of src start) (run_of src now)
 
-  pub back_start : {src : Bytes} {w : WalRead} {run : LentRun} → SoundRead src w → SoundRun src run → Back src w run run w.len
-  back_start {src} {w} {run} s r = record {
-    read = s;
-    sound = r;
-    within = omega arith;
-    going = goes_as lawful (begin lawful) (ap (λ (q : List Op). seq_over apply g (reverse q) (run_of src run).store) (sym (take_all w.len (ops_read src w) (omega (arith, length-read s)))));
-  }
+  pub back_start : {src : Bytes} {ops : List Operation} {run : LentRun} → All (SoundOp src) ops → SoundRun src run → Back src ops run run ops
+  back_start s r = record { left-sound = s; sound = r; going = begin lawful }
 
-  module _ {src : Bytes} {w : WalRead} {start now : LentRun} {i : ℕ} (b : Back src w start now i) where
-    pub back_end : i ≤ 0 → Follows plain src (in_turn g (reverse (ops_read src w))) start now
-    back_end h =
-        let e : i ≡ 0 = omega arith in
+  module _ {src : Bytes} {ops left : List Operation} {start now : LentRun} (b : Back src ops start now left) where
+    pub back_end : left ≡ [] → Follows plain src (in_turn g (reverse (map (op_of src) ops))) start now
+    back_end e =
         follows_as lawful
-        (record { sound = b.sound; does = finish lawful (goes_as lawful b.going (ap (λ (n : ℕ). seq_over apply g (reverse (take n (ops_read src w))) (run_of src now).store) e)) })
-        (in_turn_lem g (reverse (ops_read src w)) _)
+        (record { sound = b.sound; does = finish lawful (goes_as lawful b.going (ap (λ (l : List Operation). seq_over apply g (reverse (map (op_of src) l)) (run_of src now).store) e)) })
+        (in_turn_lem g (reverse (map (op_of src) ops)) _)
 
-    module _ (d : Logged) (h : 0 < i) where
-      pub op-before : SoundOp src (get_or w.ops (i - 1) d).op
-      op-before = op-at b.read (i - 1) d (omega (arith, b.within))
+    module _ (front : List Operation) (op : Operation) (e : left ≡ front ++ op ∷ []) where
+      pub op-before : SoundOp src op
+      op-before = (all-split (SoundOp src) front op (rw e at b.left-sound)).1
 
-      pub back-next : {next : LentRun} → Follows plain src (g (op_of src (get_or w.ops (i - 1) d).op)) now next → Back src w start next (i - 1)
+      pub back-next : {next : LentRun} → Follows plain src (g (op_of src op)) now next → Back src ops start next front
       back-next p =
-          let k : i ≤ w.len = b.within in
-          let e : i ≡ suc (i - 1) = omega arith in
-          let r : reverse (take i (ops_read src w)) ≡ op_of src (get_or w.ops (i - 1) d).op ∷ reverse (take (i - 1) (ops_read src w)) = ap (λ (n : ℕ). reverse (take n (ops_read src w))) e ∙ read-last b.read (i - 1) d (omega arith) in
+          let q : map (op_of src) left ≡ map (op_of src) front ++ op_of src op ∷ [] = rw e (map-append (op_of src) front (op ∷ [])) in
+          let r : reverse (map (op_of src) left) ≡ op_of src op ∷ reverse (map (op_of src) front) = ap reverse q ∙ reverse_aux-append (map (op_of src) front) (op_of src op ∷ []) [] in
           record {
-            read = b.read;
+            left-sound = (all-split (SoundOp src) front op (rw e at b.left-sound)).0;
             sound = p.sound;
-            within = omega arith;
             going = turn lawful (goes_as lawful b.going (ap (λ (q : List Op). seq_over apply g q (run_of src now).store) r)) p.does;
           }

@@ -10,7 +10,8 @@ use Rattle.basic_laws.specs.Tests.{le-leb}
 use Rattle.store.specs.declared.LogRef.{LogRef}
 use Rattle.store.specs.Stores.{log_bytes, SoundLog}
 use Rattle.transaction.specs.Operations.{in_bounds}
-use Rattle.wal.specs.declared.Status.{Status}
+use Rattle.std.specs.Prelude as std
+use Rattle.basics.specs.declared.Status.{Status}
 use Rattle.wal.specs.declared.WalRead.{WalRead}
 use Rattle.wal.specs.Logs.{journal_of, entries_at, entries_of, SoundRead, ReadsLog}
 use Rattle.recovery.specs.Recoveries.{log_part}
@@ -24,7 +25,7 @@ module _ (src : Bytes) (l : LogRef) where
   pub log-part : take (l.start + l.len - l.start) (drop l.start src) ≡ log_part src l
   log-part = let e : l.start + l.len - l.start ≡ l.len = omega arith in ap (λ (n : ℕ). take n (drop l.start src)) e
 
-  pub opened : (r : Status) → l.stands ≡ true → l.status ≡ 0 → journal_of r (entries (log_part src l)) ≡ read_journal (log_part src l) → journal_of r (entries (log_part src l)) ≡ journal (log_bytes src l)
+  pub opened : (r : std.Option Status) → l.stands ≡ true → l.status ≡ 0 → journal_of r (entries (log_part src l)) ≡ read_journal (log_part src l) → journal_of r (entries (log_part src l)) ≡ journal (log_bytes src l)
   unfolding log_bytes
   opened r h m e = rw (h, m) e
 

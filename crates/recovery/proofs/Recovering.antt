@@ -1,14 +1,12 @@
 -- `recover`, `revert` and `keep`: the start, the plan, and what the run comes to.
-use Rattle.std.specs.Prelude.{if◌then◌else◌}
+use Rattle.std.specs.Prelude.{if◌then◌else◌, Some, None}
+use Rattle.std.specs.Prelude as std
 use mathlib.Core.Path.{◌≡◌, refl, sym, ap, subst, ◌∙◌}
-use mathlib.Core.List.{List, [], ◌∷◌}
+use mathlib.Core.List.{List}
 use mathlib.Core.Option.{Option, none, some}
 use mathlib.Core.Bool.{Bool, true, false, ◌||◌}
-use mathlib.Core.Logic.{inl, inr}
 use Prim.Native.Nat.{ℕ, zero, suc}
 use native.Mathlib.Omega.{arith}
-use types.Run.{OneOf}
-use denote.Enum.Declared.{tag_of}
 use Rattle.basics.specs.Map.{Map}
 use Rattle.basics.specs.Base.{Bytes, any_of}
 use Rattle.model.specs.Operation.{Op}
@@ -28,9 +26,8 @@ use Rattle.plans.specs.ModelPlans.{plain}
 use Rattle.steps.specs.Steps.{Fits}
 use Rattle.steps.specs.declared.Run.{Run}
 use Rattle.steps.specs.CodeRuns.{LentRun, run_in, run_of, SoundRun, Fresh, Follows}
-use Rattle.wal.specs.declared.Status.{Status}
-use Rattle.wal.specs.declared.Status.TheVariants.{Absent, Recording, Committing, Held}
-use Rattle.wal.specs.contracts.Status.{the_type}
+use Rattle.basics.specs.declared.Status.{Status}
+use Rattle.basics.specs.declared.Status.TheVariants.{Recording, Committing, Held}
 use Rattle.wal.specs.declared.WalRead.{WalRead}
 use Rattle.wal.specs.Logs.{journal_of, ending_of, ops_read, entries_of}
 use Rattle.recovery.specs.declared.Recovered.{Recovered}
@@ -56,13 +53,11 @@ fault-told (some zero) k e h = absurd (h e)
 fault-told (some (suc m)) k e h = ap told (sym e)
 
 -- A log that is not Held.
-none-held : (src : Bytes) (l : LogRef) (q : Status) → OneOf (0 ∷ 1 ∷ 2 ∷ []) (tag_of the_type q) → is_held (journal_of q (entries (log_part src l))) ≡ false
-none-held src l Absent h = refl
-none-held src l Recording h = refl
-none-held src l Committing h = refl
-none-held src l Held (inl z) = absurd (omega arith)
-none-held src l Held (inr (inl z)) = absurd (omega arith)
-none-held src l Held (inr (inr z)) = absurd (omega arith)
+none-held : (src : Bytes) (l : LogRef) (q : std.Option Status) → (q ≡ Some Held → ⊥) → is_held (journal_of q (entries (log_part src l))) ≡ false
+none-held src l None h = refl
+none-held src l (Some Recording) h = refl
+none-held src l (Some Committing) h = refl
+none-held src l (Some Held) h = absurd (h refl)
 
 module _ (src : Bytes) (tree staging : Words) (s : Store) {u : Store} {limited : Bool} {n : ℕ} {start : Run} (fresh : (t g : Words) → Fresh (store_in t g u) limited n (run_in t g start)) (e : u ≡ unmarked s) where
   abbrev x : Fresh (store_in tree staging u) limited n (run_in tree staging start)
@@ -88,7 +83,7 @@ module _ (src : Bytes) (tree staging : Words) (s : Store) {u : Store} {limited :
   does f z i p = record { number = z; cause = λ h. i; run = λ h. ran f p }
 
   -- Recovery from a log of this status, by the status and by what was read of the log.
-  module _ (status : Status) where
+  module _ (status : std.Option Status) where
     abbrev pub Done : ℕ → ℕ → Words → Words → Run → Type 0
     Done k c t g r =
         Recovers (recovery_from (journal_of status (entries (log_part src s.log))) (store_of src (store_in tree staging s)))
@@ -101,17 +96,17 @@ module _ (src : Bytes) (tree staging : Words) (s : Store) {u : Store} {limited :
         subst (λ (q : Journal). Recovers (recovery_from q (store_of src (store_in tree staging s))) src (store_in tree staging s) limited n t g (record { number = 0; cause = c; run = r })) (sym i)
         (does (in_sequence (recover_parts j)) z k p)
 
-    pub recovers : (q : Status) → status ≡ q → {c : ℕ} {t g : Words} {r : Run} → recover_fault (journal_of q (entries (log_part src s.log))) (map_of src (table_of tree s.tree)) ≡ none
+    pub recovers : (q : std.Option Status) → status ≡ q → {c : ℕ} {t g : Words} {r : Run} → recover_fault (journal_of q (entries (log_part src s.log))) (map_of src (table_of tree s.tree)) ≡ none
         → c ≡ discarded_cause (journal_of q (entries (log_part src s.log)))
         → Follows plain src (in_sequence (recover_parts (journal_of q (entries (log_part src s.log))))) (run_in tree staging start) (run_in t g r) → Done 0 c t g r
-    recovers q h z k p = at_once (journal_of q (entries (log_part src s.log))) (ap (λ (x : Status). journal_of x (entries (log_part src s.log))) h) z k p
+    recovers q h z k p = at_once (journal_of q (entries (log_part src s.log))) (ap (λ (x : std.Option Status). journal_of x (entries (log_part src s.log))) h) z k p
 
-    module _ (h : status ≡ Committing) (w : WalRead) (i : entries_of src w ≡ entries (log_part src s.log)) where
+    module _ (h : status ≡ Some Committing) (w : WalRead) (i : entries_of src w ≡ entries (log_part src s.log)) where
       abbrev j : Journal
       j = committing (ops_read src w) (ending_of w.ending)
 
       read : journal_of status (entries (log_part src s.log)) ≡ j
-      read = ap (λ (x : Status). journal_of x (entries (log_part src s.log))) h ∙ ap (λ (x : Entries). committing x.ops x.end) (sym i)
+      read = ap (λ (x : std.Option Status). journal_of x (entries (log_part src s.log))) h ∙ ap (λ (x : Entries). committing x.ops x.end) (sym i)
 
       pub undoes : {k c : ℕ} {t g : Words} {r : Run} → k ≡ refusal_of (recover_fault j (map_of src (table_of tree s.tree))) → k ≡ 0 → c ≡ discarded_cause j
           → Follows plain src (in_sequence (recover_parts j)) (run_in tree staging start) (run_in t g r) → Done 0 c t g r
@@ -125,19 +120,19 @@ module _ (src : Bytes) (tree staging : Words) (s : Store) {u : Store} {limited :
       }
 
 -- What a log is that was opened, and what is done with it.
-module _ (src : Bytes) (s : LentStore) (status : Status) (e : journal_of status (entries (log_part src s.log)) ≡ journal (log_bytes src s.log)) where
+module _ (src : Bytes) (s : LentStore) (status : std.Option Status) (e : journal_of status (entries (log_part src s.log)) ≡ journal (log_bytes src s.log)) where
   pub as_it_stands : {limited : Bool} {n : ℕ} {t g : Words} {r : Recovered} →
       Recovers (recovery_from (journal_of status (entries (log_part src s.log))) (store_of src s)) src s limited n t g r
       → Recovers (recovery (store_of src s)) src s limited n t g r
   unfolding recover_plan
   as_it_stands {limited} {n} {t} {g} {r} p = subst (λ (j : Journal). Recovers (recovery_from j (store_of src s)) src s limited n t g r) e p
 
-  module _ (h : status ≡ Held) where
+  module _ (h : status ≡ Some Held) where
     is-held : journal (log_bytes src s.log) ≡ held (entries (log_part src s.log)).ops (entries (log_part src s.log)).end
-    is-held = sym e ∙ ap (λ (q : Status). journal_of q (entries (log_part src s.log))) h
+    is-held = sym e ∙ ap (λ (q : std.Option Status). journal_of q (entries (log_part src s.log))) h
 
     pub reverts : {limited : Bool} {n : ℕ} {t g : Words} {r : Recovered} →
-        Recovers (recovery_from (journal_of Committing (entries (log_part src s.log))) (store_of src s)) src s limited n t g r
+        Recovers (recovery_from (journal_of (Some Committing) (entries (log_part src s.log))) (store_of src s)) src s limited n t g r
         → Recovers (reverting (store_of src s)) src s limited n t g r
     unfolding revert_plan
     reverts {limited} {n} {t} {g} {r} p =
@@ -155,7 +150,7 @@ module _ (src : Bytes) (s : LentStore) (status : Status) (e : journal_of status 
 
   -- 18.
   pub refused_18 : {limited : Bool} {n : ℕ} {t g : Words} {r : Recovered} {w : Work} (f : Option ℕ) →
-      w.fault ≡ if_held (store_of src s) f → OneOf (0 ∷ 1 ∷ 2 ∷ []) (tag_of the_type status) → r.number ≡ 18 → Recovers w src s limited n t g r
+      w.fault ≡ if_held (store_of src s) f → (status ≡ Some Held → ⊥) → r.number ≡ 18 → Recovers w src s limited n t g r
   refused_18 f i o z = record {
     number = i ∙ ap (λ (b : Bool). if b then f else some 18) (ap is_held (sym e) ∙ none-held src s.log status o) ∙ ap told (sym z);
     cause = λ y. absurd (omega arith);

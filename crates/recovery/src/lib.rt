@@ -2,9 +2,10 @@
 // file steps, "A directory is listed as it stands when its walk starts, in ascending byte order".
 #![tactic(auto)]
 
-ghost use Rattle.std.specs.Prelude.{◌≡◌, [], ◌∷◌, reverse, true, false, ◌≤◌, length};
+ghost use Rattle.std.specs.Prelude.{◌≡◌, [], ◌∷◌, map, reverse, true, false, ◌≤◌, length};
 ghost use Rattle.basics.specs.Base.{is_some, any_of};
 ghost use Rattle.basics.specs.Map.{look};
+ghost use Rattle.basic_laws.specs.Tests.{All};
 ghost use Rattle.basics.specs.Name.{backup_name};
 ghost use Rattle.model.specs.Log.{entries, journal, absent, committing};
 ghost use Rattle.model.specs.Store.{has_pending_work};
@@ -23,11 +24,12 @@ ghost use Rattle.recovery.specs.Recoveries.{log_part, refusal_of, recovery_from,
 
 pub mod search;
 
+use basics::Status;
 use spans::NameRef;
 use steps::{Run, Step};
 use store::{LogRef, Nodes, Store};
 use transaction::Operation;
-use wal::{Ending, Status, WalRead};
+use wal::{Ending, WalRead};
 
 // Whether the backup of a file stands. One whose name has over 64 bytes stands nowhere.
 fn has_backup(src: &[u8], t: &Nodes, n: usize, dir: NameRef, file: NameRef) -> bool
@@ -108,19 +110,14 @@ pub fn is_new_artifact(src: &[u8], t: &Nodes, n: usize, op: Operation) -> bool
 }
 
 // Whether any of the operations that were read seems to have been applied.
-fn has_new_artifacts(src: &[u8], t: &Nodes, n: usize, w: WalRead) -> bool
-    requires { SoundTable src.now (table_of t.now n) × SoundRead src.now w }
-    ensures { result ≡ any_of (is_new_artifact (map_of src.now (table_of t.now n))) (ops_read src.now w) }
+fn has_new_artifacts(src: &[u8], t: &Nodes, n: usize, ops: &[Operation]) -> bool
+    requires { SoundTable src.now (table_of t.now n) × All (SoundOp src.now) ops.now }
+    ensures { result ≡ any_of (is_new_artifact (map_of src.now (table_of t.now n))) (map (op_of src.now) ops.now) }
 {
-    let k = w.len;
-    let mut i: usize = 0;
-    while i < k {
-        let x = w.ops[i];
-        let op = x.op;
-        if is_new_artifact(src, t, n, op) {
+    for op in ops {
+        if is_new_artifact(src, t, n, *op) {
             return true;
         }
-        i += 1;
     }
     false
 }
@@ -219,18 +216,14 @@ pub fn remove_new_artifacts(
     tree: &mut Nodes,
     staging: &mut Nodes,
     run: Run,
-    w: WalRead,
+    ops: &[Operation],
 ) -> Run
-    requires { SoundRun src.now (run_in tree.old staging.old run) × SoundRead src.now w }
-    ensures { Follows plain src.now (in_turn undo_steps (reverse (ops_read src.now w))) (run_in tree.old staging.old run) (run_in tree.new staging.new result) }
+    requires { SoundRun src.now (run_in tree.old staging.old run) × All (SoundOp src.now) ops.now }
+    ensures { Follows plain src.now (in_turn undo_steps (reverse (map (op_of src.now) ops.now))) (run_in tree.old staging.old run) (run_in tree.new staging.new result) }
 {
     let mut work = run;
-    let mut i: usize = w.len;
-    while 0 < i {
-        i -= 1;
-        let x = w.ops[i];
-        let op = x.op;
-        work = undo_operation(src, tree, staging, work, op);
+    for op in ops.iter().rev() {
+        work = undo_operation(src, tree, staging, work, *op);
     }
     work
 }
@@ -503,21 +496,27 @@ pub fn remove_log_durably(src: &[u8], tree: &mut Nodes, staging: &mut Nodes, run
 }
 
 // Undoes the operations that were read. New artifacts go first: restoring a backup could make a file look like a new one.
-pub fn undo_all(src: &[u8], tree: &mut Nodes, staging: &mut Nodes, run: Run, w: WalRead) -> Run
-    requires { SoundRun src.now (run_in tree.old staging.old run) × SoundRead src.now w }
-    ensures { Follows plain src.now (undo_all (ops_read src.now w)) (run_in tree.old staging.old run) (run_in tree.new staging.new result) }
+pub fn undo_all(
+    src: &[u8],
+    tree: &mut Nodes,
+    staging: &mut Nodes,
+    run: Run,
+    ops: &[Operation],
+) -> Run
+    requires { SoundRun src.now (run_in tree.old staging.old run) × All (SoundOp src.now) ops.now }
+    ensures { Follows plain src.now (undo_all (map (op_of src.now) ops.now)) (run_in tree.old staging.old run) (run_in tree.new staging.new result) }
 {
-    let undone = remove_new_artifacts(src, tree, staging, run, w);
+    let undone = remove_new_artifacts(src, tree, staging, run, ops);
     rollback_partial_commit(src, tree, staging, undone)
 }
 
-// The status of a store's log.
-pub fn open_log(src: &[u8], log: LogRef) -> Status
+// The status of a store's log, if one with a valid header stands.
+pub fn open_log(src: &[u8], log: LogRef) -> Option<Status>
     requires { SoundLog src.now log × (log.status ≡ 0) }
     ensures { journal_of result (entries (log_part src.now log)) ≡ journal (log_bytes src.now log) }
 {
     if !log.stands {
-        return Status::Absent;
+        return None;
     }
     let start = log.start as usize;
     let end = start + log.len as usize;
@@ -536,18 +535,14 @@ fn read_log(src: &[u8], log: LogRef) -> WalRead
 
 // The number that recovery from a Committing log is refused with, 0 for none. 01, Corners, recovery.rs: "Truncated Committing log and
 // any backup, or any new artifact by `has_new_artifacts`: refusal 13."
-fn refusal_of(src: &[u8], t: &Nodes, n: usize, w: WalRead) -> u32
-    requires { SoundTable src.now (table_of t.now n) × SoundRead src.now w }
-    ensures { result ≡ refusal_of (recover_fault (committing (ops_read src.now w) (ending_of w.ending)) (map_of src.now (table_of t.now n))) }
+fn refusal_of(src: &[u8], t: &Nodes, n: usize, w: &WalRead) -> u32
+    requires { SoundTable src.now (table_of t.now n) × SoundRead src.now w.now }
+    ensures { result ≡ refusal_of (recover_fault (committing (ops_read src.now w.now) (ending_of w.now.ending)) (map_of src.now (table_of t.now n))) }
 {
-    let ending = w.ending;
-    match ending {
+    match w.ending {
         Ending::Whole => 0,
         Ending::Truncated(_) => {
-            if search::has_backup_files(src, t, n) {
-                return 13;
-            }
-            if has_new_artifacts(src, t, n, w) {
+            if search::has_backup_files(src, t, n) || has_new_artifacts(src, t, n, &w.ops) {
                 return 13;
             }
             0
@@ -582,15 +577,14 @@ fn recover_committing(
     tree: &mut Nodes,
     staging: &mut Nodes,
     run: Run,
-    w: WalRead,
+    w: &WalRead,
 ) -> Run
-    requires { SoundRun src.now (run_in tree.old staging.old run) × SoundRead src.now w }
-    ensures { Follows plain src.now (in_sequence (recover_parts (committing (ops_read src.now w) (ending_of w.ending)))) (run_in tree.old staging.old run) (run_in tree.new staging.new result) }
+    requires { SoundRun src.now (run_in tree.old staging.old run) × SoundRead src.now w.now }
+    ensures { Follows plain src.now (in_sequence (recover_parts (committing (ops_read src.now w.now) (ending_of w.now.ending)))) (run_in tree.old staging.old run) (run_in tree.new staging.new result) }
 {
-    let ending = w.ending;
-    match ending {
+    match w.ending {
         Ending::Whole => {
-            let undone = undo_all(src, tree, staging, run, w);
+            let undone = undo_all(src, tree, staging, run, &w.ops);
             clean_up(src, tree, staging, undone)
         }
         Ending::Truncated(_) | Ending::Undecodable | Ending::TooMany => clean_up(
@@ -624,7 +618,7 @@ fn recover_from(
     tree: &mut Nodes,
     staging: &mut Nodes,
     s: Store,
-    status: Status,
+    status: Option<Status>,
     limited: bool,
     n: u64,
 ) -> Recovered
@@ -632,34 +626,30 @@ fn recover_from(
     ensures { Recovers (recovery_from (journal_of status (entries (log_part src.now s.log))) (store_of src.now (store_in tree.old staging.old s))) src.now (store_in tree.old staging.old s) limited n tree.new staging.new result }
 {
     let run = steps::start(without_mark(s), limited, n);
-    let log = s.log;
-    match status {
-        Status::Absent => Recovered {
+    let Some(status) = status else {
+        return Recovered {
             number: 0,
             cause: 0,
             run: recover_absent(src, tree, staging, run),
-        },
+        };
+    };
+    match status {
         Status::Recording => Recovered {
             number: 0,
             cause: 0,
             run: clean_up(src, tree, staging, run),
         },
         Status::Committing => {
-            let w = read_log(src, log);
-            let ending = w.ending;
-            let cause = wal::ending_cause(ending);
-            let number = refusal_of(src, tree, s.tree, w);
+            let w = read_log(src, s.log);
+            let cause = w.ending.cause();
+            let number = refusal_of(src, tree, s.tree, &w);
             if number != 0 {
-                return Recovered {
-                    number: number,
-                    cause: cause,
-                    run: run,
-                };
+                return Recovered { number, cause, run };
             }
             Recovered {
                 number: 0,
-                cause: cause,
-                run: recover_committing(src, tree, staging, run, w),
+                cause,
+                run: recover_committing(src, tree, staging, run, &w),
             }
         }
         Status::Held => Recovered {
@@ -682,8 +672,7 @@ pub fn recover(
     requires { Fits src.now (store_in tree.old staging.old s) × ((s.log.status ≡ 0) × (length src.now ≤ 0xFFFF)) }
     ensures { Recovers (recovery (store_of src.now (store_in tree.old staging.old s))) src.now (store_in tree.old staging.old s) limited n tree.new staging.new result }
 {
-    let log = s.log;
-    let status = open_log(src, log);
+    let status = open_log(src, s.log);
     recover_from(src, tree, staging, s, status, limited, n)
 }
 
@@ -710,11 +699,17 @@ pub fn revert(
     requires { Fits src.now (store_in tree.old staging.old s) × ((s.log.status ≡ 0) × (length src.now ≤ 0xFFFF)) }
     ensures { Recovers (reverting (store_of src.now (store_in tree.old staging.old s))) src.now (store_in tree.old staging.old s) limited n tree.new staging.new result }
 {
-    let log = s.log;
-    let status = open_log(src, log);
-    match status {
-        Status::Held => recover_from(src, tree, staging, s, Status::Committing, limited, n),
-        Status::Absent | Status::Recording | Status::Committing => not_held(s),
+    match open_log(src, s.log) {
+        Some(Status::Held) => recover_from(
+            src,
+            tree,
+            staging,
+            s,
+            Some(Status::Committing),
+            limited,
+            n,
+        ),
+        Some(Status::Recording | Status::Committing) | None => not_held(s),
     }
 }
 
@@ -731,10 +726,8 @@ pub fn keep(
     requires { Fits src.now (store_in tree.old staging.old s) × (s.log.status ≡ 0) }
     ensures { Recovers (keeping (store_of src.now (store_in tree.old staging.old s))) src.now (store_in tree.old staging.old s) limited n tree.new staging.new result }
 {
-    let log = s.log;
-    let status = open_log(src, log);
-    match status {
-        Status::Held => {
+    match open_log(src, s.log) {
+        Some(Status::Held) => {
             let run = steps::start(without_mark(s), limited, n);
             let removed = remove_log_durably(src, tree, staging, run);
             Recovered {
@@ -743,6 +736,6 @@ pub fn keep(
                 run: delete_all_backup_files(src, tree, staging, removed),
             }
         }
-        Status::Absent | Status::Recording | Status::Committing => not_held(s),
+        Some(Status::Recording | Status::Committing) | None => not_held(s),
     }
 }

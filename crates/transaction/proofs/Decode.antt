@@ -1,5 +1,5 @@
 -- A payload read field by field against the row of its kind.
-use Rattle.std.specs.Prelude.{if◌then◌else◌, Result, Err}
+use Rattle.std.specs.Prelude.{if◌then◌else◌, Some, None}
 use mathlib.Core.Path.{◌≡◌, refl, sym, ap, ◌∙◌}
 use mathlib.Core.List.{List, [], ◌∷◌, ◌++◌, map, append-nil, append_assoc}
 use mathlib.Core.Bool.{Bool, true, false, ◌&&◌}
@@ -9,8 +9,8 @@ use native.Mathlib.Omega.{arith}
 use native.Mathlib.Numerals.{add-one}
 use lib.Dec.{leb, eqb}
 use lib.ListN.{length, take, drop, set, get_or, length-drop, length-set, drop_of_length-le}
-use lib.Seq.{drop-cons, length-take-le, get_or-take, take-suc-set}
-use borrow.Author.Tests.{leb-true, leb-false, eqb-true, eqb-false}
+use lib.Seq.{drop-cons, length-take-le, take-suc-set}
+use borrow.Author.Tests.{leb-true, leb-false, eqb-true, eqb-false, eq-eqb, ne_eqb}
 use Rattle.basics.specs.Base.{Bytes, case_option, same_bytes, all_of}
 use Rattle.basics.specs.Field.{Field, from_little_endian, fields_from, decode_fields}
 use Rattle.model.specs.Operation.{valid_value}
@@ -20,12 +20,12 @@ use Rattle.spans.specs.declared.NameRef.{NameRef}
 use Rattle.field.specs.Reading.{field_of, Reads, Stands}
 use Rattle.field.proofs.Fields.{no_field}
 use Rattle.field.specs.declared.Item.{Item}
+use Rattle.std.specs.Prelude.{Result, Err}
 use Rattle.field.specs.declared.Broken.{Broken}
-use Rattle.transaction.specs.Rows.{tags_in, match_row, SoundParts, Matches}
+use Rattle.transaction.specs.Rows.{match_row, SoundParts, Matches}
 use Rattle.transaction.proofs.Lists.{map-append, all_set}
 use Rattle.transaction.proofs.Same.{not_same}
 use Rattle.transaction.proofs.Checks.{short-value}
-use Rattle.transaction.proofs.Arms.{no_name}
 
 -- What a list of fields gives under some tags.
 unfoldable pub matched : List ℕ → List Field → Option (List Bytes)
@@ -81,7 +81,7 @@ module _ {s : Bytes} {at : ℕ} {x : Item} (w : Stands s at x) (t : ℕ) (ts : L
   pub row-value : valid_value (field_of s x) ≡ false → match_row (t ∷ ts) (drop at s) ≡ none
   row-value h = refused-by (λ fs. bad_value t ts (field_of s x) fs h)
 
-  pub row_field : x.tag ≡ t → valid_value (field_of s x) ≡ true → match_row (t ∷ ts) (drop at s) ≡ case_option (match_row ts (drop x.end s)) none (λ vs. some ((field_of s x).value ∷ vs))
+  row_field : x.tag ≡ t → valid_value (field_of s x) ≡ true → match_row (t ∷ ts) (drop at s) ≡ case_option (match_row ts (drop x.end s)) none (λ vs. some ((field_of s x).value ∷ vs))
   row_field e h = behind ∙ go (fields_from 0 (drop x.end s)) ∙ ap (λ (o : Option (List Bytes)). case_option o none (λ vs. some ((field_of s x).value ∷ vs))) (sym (row-of-bytes ts (drop x.end s)))
     where
       go : (q : Option (List Field)) → case_option (case_option q none (λ fs. some (field_of s x ∷ fs))) none (matched (t ∷ ts)) ≡ case_option (case_option q none (matched ts)) none (λ vs. some ((field_of s x).value ∷ vs))
@@ -120,17 +120,13 @@ below m n h k = go (leb n m) refl
     go true e = absurd (k (omega (arith, leb-true n m e)))
     go false e = leb-false n m e
 
-pub row-end : (s : Bytes) (at : ℕ) → at ≤ length s → match_row [] (drop at s) ≡ (if eqb at (length s) then some [] else none)
+row-end : (s : Bytes) (at : ℕ) → at ≤ length s → match_row [] (drop at s) ≡ (if eqb at (length s) then some [] else none)
 unfolding fields_from matched
 row-end s at l = row-of-bytes [] (drop at s) ∙ go (eqb at (length s)) refl
   where
     go : (b : Bool) → eqb at (length s) ≡ b → case_option (fields_from 0 (drop at s)) none (matched []) ≡ (if b then some [] else none)
     go true e = rw (drop_of_length-le s {i = at} (omega (arith, eqb-true at (length s) e)))
     go false e = rw (drop-cons s at 0 (below at (length s) l (eqb-false at (length s) e))) (more_bytes (get_or s at 0) (drop (suc at) s))
-
--- Before the first field.
-pub no-parts : (s : Bytes) → SoundParts s (no_name ∷ no_name ∷ no_name ∷ no_name ∷ no_name ∷ [])
-no-parts s = let h : Sound s no_name = record { inside = omega arith; room = omega arith } in record { size = refl; sound = (h, (h, (h, (h, (h, tt))))) }
 
 -- A valid value is a name's part.
 pub spannable : {s : Bytes} {at : ℕ} {x : Item} → Stands s at x → valid_value (field_of s x) ≡ true → length s ≤ 0xFFFF → (x.start < 65536) × (x.end - x.start ≤ 64) × (x.start + (x.end - x.start) ≤ length s)
@@ -139,59 +135,44 @@ spannable {s} {at} {x} w v l =
     let h : length (field_of s x).value ≤ 64 = short-value x.tag (field_of s x).value v in
     (omega arith, omega arith, omega arith)
 
--- `read_row` has read the first i of n fields, up to a place.
-pub record Matching (s : Bytes) (start : ℕ) (row : List ℕ) (n : ℕ) (parts : List NameRef) (at i : ℕ) : Type 0 where
-  pub within : i ≤ n
+-- `read_row` has read the first i fields, up to a place.
+pub record Matching (s : Bytes) (start : ℕ) (row : List ℕ) (parts : List NameRef) (at i : ℕ) : Type 0 where
   pub inside : at ≤ length s
   pub held : SoundParts s parts
-  pub same : case_option (match_row (drop i (take n row)) (drop at s)) none (λ vs. some (map (name_of s) (take i parts) ++ vs)) ≡ match_row (take n row) (drop start s)
+  pub same : case_option (match_row (drop i row) (drop at s)) none (λ vs. some (map (name_of s) (take i parts) ++ vs)) ≡ match_row row (drop start s)
 
-nothing_read : {A : Type 0} (o : Option A) (f : A → A) → ((a : A) → f a ≡ a) → case_option o none (λ a. some (f a)) ≡ o
-nothing_read none f h = refl
-nothing_read (some a) f h = ap some (h a)
-
-pub no_match : (s : Bytes) (start : ℕ) (row : List ℕ) (n : ℕ) (parts : List NameRef) → start ≤ length s → SoundParts s parts → Matching s start row n parts start 0
-no_match s start row n parts h p = record { within = omega arith; inside = h; held = p; same = nothing_read (match_row (take n row) (drop start s)) (λ vs. vs) (λ vs. refl) }
-
-module _ {s : Bytes} {start : ℕ} {row : List ℕ} {n : ℕ} {parts : List NameRef} {at i : ℕ} (w : Matching s start row n parts at i) (k : n ≤ length row) where
+module _ {s : Bytes} {start : ℕ} {row : List ℕ} {parts : List NameRef} {at i : ℕ} (w : Matching s start row parts at i) where
   -- The tags that are left.
-  left : i < n → drop i (take n row) ≡ get_or row i 0 ∷ drop (i + 1) (take n row)
-  left h =
-      let l : length (take n row) ≡ n = length-take-le n row k in
-      rw (add-one i) (drop-cons (take n row) i 0 (omega arith) ∙ ap (λ (t : ℕ). t ∷ drop (suc i) (take n row)) (get_or-take n row i 0 h))
+  left : i < length row → drop i row ≡ get_or row i 0 ∷ drop (i + 1) row
+  left h = rw (add-one i) (drop-cons row i 0 h)
 
-  pub refused : take n row ≡ tags_in row → i < n → match_row (get_or row i 0 ∷ drop (i + 1) (take n row)) (drop at s) ≡ none → Matches s (tags_in row) start (record { fit = false; parts = parts })
-  refused t h e = record { parts = w.held; same = rw (← t) (rw (left h, e) at w.same) }
+  pub refused : i < length row → match_row (get_or row i 0 ∷ drop (i + 1) row) (drop at s) ≡ none → Matches s row start None
+  refused h e = record { parts = tt; same = rw (left h, e) at w.same }
 
-  pub accepted : {x : Item} {r : NameRef} → i < n → n ≤ 5 → Stands s at x → x.tag ≡ get_or row i 0 → valid_value (field_of s x) ≡ true → Names s r (field_of s x).value → Matching s start row n (set parts i r) x.end (i + 1)
+  pub accepted : {x : Item} {r : NameRef} → i < length row → length row ≤ 5 → Stands s at x → x.tag ≡ get_or row i 0 → valid_value (field_of s x) ≡ true → Names s r (field_of s x).value → Matching s start row (set parts i r) x.end (i + 1)
   accepted {x} {r} h b st e v nm =
       let p : take (i + 1) (set parts i r) ≡ take i parts ++ r ∷ [] = rw (add-one i) (take-suc-set parts i r (omega (arith, w.held.size))) in
       let q : map (name_of s) (take (i + 1) (set parts i r)) ≡ map (name_of s) (take i parts) ++ (field_of s x).value ∷ [] = ap (map (name_of s)) p ∙ map-append (name_of s) (take i parts) (r ∷ []) ∙ ap (λ (y : Bytes). map (name_of s) (take i parts) ++ y ∷ []) nm.same in
       record {
-        within = omega arith;
         inside = st.within;
         held = record { size = length-set parts i r ∙ w.held.size; sound = all_set (Sound s) parts i r w.held.sound nm.sound };
-        same = rw q (go (match_row (drop (i + 1) (take n row)) (drop x.end s)) (row_field st (get_or row i 0) (drop (i + 1) (take n row)) e v) ∙ rw (left h) at w.same);
+        same = rw q (go (match_row (drop (i + 1) row) (drop x.end s)) (row_field st (get_or row i 0) (drop (i + 1) row) e v) ∙ rw (left h) at w.same);
       }
     where
       done : List Bytes
       done = map (name_of s) (take i parts)
 
-      go : (o : Option (List Bytes)) → match_row (get_or row i 0 ∷ drop (i + 1) (take n row)) (drop at s) ≡ case_option o none (λ vs. some ((field_of s x).value ∷ vs)) →
-          case_option o none (λ vs. some ((done ++ (field_of s x).value ∷ []) ++ vs)) ≡ case_option (match_row (get_or row i 0 ∷ drop (i + 1) (take n row)) (drop at s)) none (λ vs. some (done ++ vs))
+      go : (o : Option (List Bytes)) → match_row (get_or row i 0 ∷ drop (i + 1) row) (drop at s) ≡ case_option o none (λ vs. some ((field_of s x).value ∷ vs)) →
+          case_option o none (λ vs. some ((done ++ (field_of s x).value ∷ []) ++ vs)) ≡ case_option (match_row (get_or row i 0 ∷ drop (i + 1) row) (drop at s)) none (λ vs. some (done ++ vs))
       go none z = rw z
       go (some vs) z = rw z (ap some (append_assoc done ((field_of s x).value ∷ []) vs))
 
-  pub all-matched : take n row ≡ tags_in row → n ≤ i → Matches s (tags_in row) start (record { fit = eqb at (length s); parts = parts })
-  all-matched t h =
-      let l : length (take n row) ≡ n = length-take-le n row k in
-      let z : drop i (take n row) ≡ [] = drop_of_length-le (take n row) {i = i} (omega arith) in
-      let c : length (tags_in row) ≡ i = ap length (sym t) ∙ omega (arith, w.within) in
-      record { parts = w.held; same = rw (c, ← t) (go (eqb at (length s)) ∙ rw (z, row-end s at w.inside) at w.same) }
-    where
-      done : List Bytes
-      done = map (name_of s) (take i parts)
+  module _ (h : i ≡ length row) where
+    all-read : case_option (if eqb at (length s) then some [] else none) none (λ vs. some (map (name_of s) (take i parts) ++ vs)) ≡ match_row row (drop start s)
+    all-read = rw (drop_of_length-le row {i = i} (omega arith), row-end s at w.inside) at w.same
 
-      go : (b : Bool) → (if b then some done else none) ≡ case_option (if b then some [] else none) none (λ vs. some (done ++ vs))
-      go true = ap some (sym (append-nil done))
-      go false = refl
+    pub all-matched : at ≡ length s → Matches s row start (Some parts)
+    all-matched e = record { parts = w.held; same = rw (← h) (ap some (sym (append-nil (map (name_of s) (take i parts)))) ∙ rw (eq-eqb at (length s) e) at all-read) }
+
+    pub bytes-behind : (at ≡ length s → ⊥) → Matches s row start None
+    bytes-behind n = record { parts = tt; same = rw (ne_eqb at (length s) n) at all-read }

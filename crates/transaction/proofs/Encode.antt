@@ -1,125 +1,100 @@
--- Fields of an operation, written one behind the other.
-use mathlib.Core.Path.{◌≡◌, refl, sym, ap, ap₂, ◌∙◌}
-use mathlib.Core.List.{List, [], ◌∷◌, ◌++◌, map}
-use mathlib.Core.Bool.{Bool, true, false}
+-- Fields of an operation, one behind the other.
+use mathlib.Core.Path.{◌≡◌, refl, sym, ap, ◌∙◌}
+use mathlib.Core.List.{List, [], ◌∷◌, ◌++◌, map, append_assoc, append-nil}
+use mathlib.Core.Bool.{Bool}
 use mathlib.Core.Option.{Option, none, some}
-use Prim.Native.Nat.{ℕ, zero, suc, ◌+◌, ◌*◌, ◌≤◌, ◌<◌}
+use Prim.Native.Nat.{ℕ, ◌+◌, ◌-◌, ◌*◌, ◌%◌, ◌/◌, ◌≤◌, ◌<◌}
 use native.Mathlib.Omega.{arith}
 use native.Mathlib.Numerals.{add-one}
-use lib.ListN.{length, take, drop, get_or, length-append, length-map}
-use lib.Seq.{take-suc, take_all, length-take-le, get_or-take, take-append_seam}
+use lib.ListN.{length, take, drop, get_or, length-drop}
+use lib.Seq.{take-suc, take_all}
+use Rattle.std.proofs.lemmas.List.{nil_from_length}
 use Rattle.basics.specs.Base.{Bytes}
-use Rattle.basics.specs.Field.{Field, encode_field, encode_fields}
-use Rattle.model.specs.Operation.{Op, write, delete, delete_all, create_collection, delete_collection, copy_collection, field_table, field_tags, kind, values, tagged, encode_payload}
-use Rattle.basic_laws.specs.FieldLaws.{encode_append, encode_one}
-use Rattle.spans.specs.Spans.{name_of, length_of, Sound, Decides}
+use Rattle.basics.specs.Field.{little_endian, encode_field, encode_fields}
+use Rattle.spans.specs.Spans.{name_of, length_of, Sound}
 use Rattle.spans.specs.declared.NameRef.{NameRef}
 use Rattle.spans.proofs.Parts.{length-name}
-use Rattle.field.specs.Writing.{written, field, written_field}
-use Rattle.field.proofs.Written.{written_then, written-nil, written-front, length-written, encoded_length, field-short}
-use Rattle.transaction.proofs.Lists.{map_at}
-use Rattle.transaction.specs.Operations.{op_of, SoundOp, payload_of, Fields, Encodes, WritesOp}
-use Rattle.transaction.specs.Rows.{column_of, Columns, Puts}
+use Rattle.field.specs.Writing.{written, field}
+use Rattle.field.proofs.Written.{written-nil}
+use Rattle.arrayvec.specs.ArrayVec.{ArrayVec}
+use Rattle.transaction.specs.Operations.{op_of, SoundOp, Encodes, WritesOp}
 use Rattle.transaction.specs.declared.Operation.{Operation}
-use Rattle.transaction.specs.declared.Payload.{Payload}
+use Rattle.model.specs.Operation.{Op, write, delete, delete_all, create_collection, delete_collection, copy_collection, field_table, field_tags, kind, values, tagged, encode_payload}
+use Rattle.basic_laws.specs.Tests.{All}
+use Rattle.transaction.specs.Rows.{kind_number, column_of, SoundColumn, row_payload}
+use Rattle.transaction.specs.declared.Kind.{Kind}
+use Rattle.transaction.specs.declared.Kind.TheVariants.{Write, Delete, DeleteAll, CreateCollection, DeleteCollection, CopyCollection, MarkedWrite}
+use Rattle.transaction.proofs.Arms.{five_tags}
 use Rattle.transaction.specs.declared.Column.{Column}
-use Rattle.transaction.specs.declared.Column.TheVariants.{Name, Byte}
 
--- What the arms of `put_column` write.
-module _ (src : Bytes) {tag at : ℕ} {out new : Bytes} {v : Column} where
-  pub byte_put : (b : ℕ) → v ≡ Byte b → new ≡ written_field at (field tag (b ∷ [])) out → Puts src tag v at out new 4
-  byte_put b e p = rw e (record {
-    out = p ∙ field-short at (field tag (b ∷ [])) out (omega arith);
-    size = sym (encoded_length (field tag (b ∷ [])));
-    small = omega arith;
-  })
+-- A field's bytes, pushed one by one, where one byte holds its length.
+pub pushed : (old : Bytes) (tag n : ℕ) (v : Bytes) → n ≡ length v → n < 256 → ((((old ++ tag ∷ []) ++ n ∷ []) ++ 0 ∷ []) ++ v) ≡ old ++ encode_field (field tag v)
+unfolding encode_field little_endian
+pushed old tag n v e h =
+    let low : length v % 256 ≡ n = omega arith in
+    let high : length v / 256 % 256 ≡ 0 = omega arith in
+    rw (low, high) (simp append_assoc)
 
-  pub name-put : {n : ℕ} (r : NameRef) → v ≡ Name r → Sound src r → new ≡ written at (encode_field (field tag (name_of src r))) out → n ≡ length_of r → Puts src tag v at out new (3 + n)
-  name-put r e s p l = rw e (record {
-    out = p;
-    size = omega (arith, l, encoded_length (field tag (name_of src r)), length-name s);
-    small = omega (arith, l, s.room);
-  })
+-- One byte more of a name; all of them.
+pub name-more : {src : Bytes} {r : NameRef} {b : ℕ} (i : ℕ) (start : Bytes) → Sound src r → i < length_of r → b ≡ get_or (name_of src r) i 0 → (start ++ take i (name_of src r)) ++ b ∷ [] ≡ start ++ take (i + 1) (name_of src r)
+name-more {src} {r} i start s h e = rw (e, add-one i, take-suc (name_of src r) i 0 (omega (arith, length-name s))) (append_assoc start (take i (name_of src r)) (get_or (name_of src r) i 0 ∷ []))
 
--- Fields by their places.
-tagged-at : (ts : List ℕ) (vs : List Bytes) (i : ℕ) (d : Field) → i < length ts → i < length vs → get_or (tagged ts vs) i d ≡ field (get_or ts i 0) (get_or vs i [])
-unfolding tagged
-tagged-at [] vs i d h g = absurd (omega arith)
-tagged-at (t ∷ ts) [] i d h g = absurd (omega arith)
-tagged-at (t ∷ ts) (v ∷ vs) zero d h g = refl
-tagged-at (t ∷ ts) (v ∷ vs) (suc i) d h g = tagged-at ts vs i d (omega arith) (omega arith)
+pub name-whole : {src : Bytes} {r : NameRef} (i : ℕ) (start : Bytes) → Sound src r → length_of r ≤ i → start ++ take i (name_of src r) ≡ start ++ name_of src r
+name-whole {src} {r} i start s h = rw (take_all i (name_of src r) (omega (arith, length-name s)))
 
-length-tagged : (ts : List ℕ) (vs : List Bytes) → length ts ≡ length vs → length (tagged ts vs) ≡ length ts
-unfolding tagged
-length-tagged [] vs e = refl
-length-tagged (t ∷ ts) [] e = absurd (omega arith)
-length-tagged (t ∷ ts) (v ∷ vs) e = ap suc (length-tagged ts vs (omega arith))
+-- `row_of` has written the fields of some tags, and these are left.
+pub record Writing (src : Bytes) (k : Kind) (values : List Column) (items : Bytes) (tags : List ℕ) (left : List Column) : Type 0 where
+  pub sound : All (SoundColumn src) left
+  pub room : length items + 67 * length tags ≤ 335
+  pub same : items ++ encode_fields (tagged tags (map (column_of src) left)) ≡ row_payload src k values
 
--- The first n columns under the first n tags.
-unfoldable pub row_fields : Bytes → List ℕ → List Column → ℕ → List Field
-row_fields src row cs n = tagged (take n row) (map (column_of src) (take n cs))
+kind_tag : (k : Kind) → field_tags (kind_number k) ≡ 1 ∷ drop 1 (field_tags (kind_number k))
+unfolding field_tags field_table
+kind_tag Write = refl
+kind_tag Delete = refl
+kind_tag DeleteAll = refl
+kind_tag CreateCollection = refl
+kind_tag DeleteCollection = refl
+kind_tag CopyCollection = refl
+kind_tag MarkedWrite = refl
 
--- `fields_of` has written the first i of n fields.
-pub record Encoding (src : Bytes) (row : List ℕ) (cs : List Column) (n : ℕ) (start : Bytes) (bytes : Bytes) (at i : ℕ) : Type 0 where
-  pub within : i ≤ 5
-  pub whole : length start ≡ 335
-  pub size : length bytes ≡ 335
-  pub room : at ≤ 67 * i
-  pub place : at ≡ length (encode_fields (take i (row_fields src row cs n)))
-  pub same : bytes ≡ written 0 (encode_fields (take i (row_fields src row cs n))) start
+module _ (src : Bytes) (k : Kind) where
+  pub one_tag : {tags : List ℕ} → tags ≡ field_tags (kind_number k) → 1 ≤ length tags
+  one_tag e = omega (arith, ap length (e ∙ kind_tag k))
 
-pub no_fields : (src : Bytes) (row : List ℕ) (cs : List Column) (n : ℕ) (start : Bytes) → length start ≡ 335 → Encoding src row cs n start start 0 0
-unfolding encode_fields
-no_fields src row cs n start e = record { within = omega arith; whole = e; size = e; room = omega arith; place = refl; same = sym (written-nil 0 start) }
-
-module _ {src : Bytes} {row : List ℕ} {cs : List Column} {n : ℕ} {start bytes : Bytes} {at i : ℕ} (w : Encoding src row cs n start bytes at i) (k : n ≤ length row) (q : n ≤ length cs) where
-  pub one_more : {new : Bytes} {m : ℕ} (d : Column) → i < n → n ≤ 5 → Puts src (get_or row i 0) (get_or cs i d) at bytes new m → Encoding src row cs n start new (at + m) (i + 1)
-  unfolding row_fields
-  one_more {new} {m} d h b p =
-      let fs : List Field = tagged (take n row) (map (column_of src) (take n cs)) in
-      let f : Field = field (get_or row i 0) (column_of src (get_or cs i d)) in
-      let lr : length (take n row) ≡ n = length-take-le n row k in
-      let lc : length (take n cs) ≡ n = length-take-le n cs q in
-      let lm : length (map (column_of src) (take n cs)) ≡ n = length-map (take n cs) (column_of src) ∙ lc in
-      let it : get_or fs i f ≡ f = tagged-at _ _ i f (omega arith) (omega arith) ∙ ap₂ field (get_or-take n row i 0 h) (map_at (column_of src) (take n cs) i d [] (omega arith) ∙ ap (column_of src) (get_or-take n cs i d h)) in
-      let lf : length fs ≡ n = length-tagged _ _ (omega arith) ∙ lr in
-      let next : take (i + 1) fs ≡ take i fs ++ f ∷ [] = rw (add-one i) (take-suc fs i f (omega arith) ∙ ap (λ (g : Field). take i fs ++ g ∷ []) it) in
-      let all : encode_fields (take (i + 1) fs) ≡ encode_fields (take i fs) ++ encode_field f = ap encode_fields next ∙ encode_append (take i fs) (f ∷ []) ∙ ap (encode_fields (take i fs) ++◌) (encode_one f) in
-      let len : length (encode_fields (take (i + 1) fs)) ≡ at + m = ap length all ∙ length-append (encode_fields (take i fs)) (encode_field f) ∙ omega (arith, w.place, p.size) in
+  -- The kind's own field stands.
+  pub kind_written : {values : List Column} {items tags left : List ℕ} → All (SoundColumn src) values → items ≡ encode_field (field 1 (kind_number k ∷ [])) → length items ≤ 67 →
+      tags ≡ field_tags (kind_number k) → left ≡ take (length tags - 1) (drop 1 tags) → Writing src k values items left values
+  unfolding row_payload tagged encode_fields
+  kind_written {values} {items} {tags} {left} s e l t f =
+      let whole : left ≡ drop 1 (field_tags (kind_number k)) = f ∙ take_all (length tags - 1) (drop 1 tags) (omega (arith, length-drop 1 tags)) ∙ ap (drop 1) t in
       record {
-        within = omega arith;
-        whole = w.whole;
-        size = ap length p.out ∙ length-written at _ bytes ∙ w.size;
-        room = omega (arith, w.room, p.small);
-        place = sym len;
-        same = written_then 0 at (encode_fields (take i fs)) (encode_field f) start w.same p.out (omega (arith, w.place)) (omega (arith, w.whole, w.room, p.size, p.small)) ∙ ap (λ (x : Bytes). written 0 x start) (sym all);
+        sound = s;
+        room = omega (arith, ap length whole, length-drop 1 (field_tags (kind_number k)), five_tags k);
+        same = rw (e, whole, kind_tag k) refl;
       }
 
-  pub all-written : n ≤ i → take at bytes ≡ encode_fields (row_fields src row cs n)
-  unfolding row_fields
-  all-written h =
-      let fs : List Field = tagged (take n row) (map (column_of src) (take n cs)) in
-      let lr : length (take n row) ≡ n = length-take-le n row k in
-      let lm : length (map (column_of src) (take n cs)) ≡ n = length-map (take n cs) (column_of src) ∙ length-take-le n cs q in
-      let lf : length fs ≡ n = length-tagged _ _ (omega arith) ∙ lr in
-      let e : take i fs ≡ fs = take_all i fs (omega arith) in
-      let v : Bytes = encode_fields fs in
-      let l : at ≡ length v = w.place ∙ ap (λ (x : List Field). length (encode_fields x)) e in
-      let b : bytes ≡ v ++ drop (length v) start = w.same ∙ ap (λ (x : List Field). written 0 (encode_fields x) start) e ∙ written-front v start (omega (arith, w.whole, w.room, w.within)) in
-      rw (l, b) (take-append_seam v (drop (length v) start))
+module _ {src : Bytes} {k : Kind} {values : List Column} {items : Bytes} {tags : List ℕ} {left : List Column} (w : Writing src k values items tags left) where
+  pub field-written : {new : Bytes} {t : ℕ} {v : Column} {ts : List ℕ} {vs : List Column} → tags ≡ t ∷ ts → left ≡ v ∷ vs → new ≡ items ++ encode_field (field t (column_of src v)) → length new ≤ length items + 67 →
+      Writing src k values new ts vs
+  unfolding tagged encode_fields
+  field-written {new} {t} {v} {ts} {vs} a b e l = record {
+    sound = (rw b at w.sound).1;
+    room = omega (arith, w.room, ap length a);
+    same = rw e (append_assoc items (encode_field (field t (column_of src v))) (encode_fields (tagged ts (map (column_of src) vs))) ∙ rw (a, b) at w.same);
+  }
 
--- The fields of an operation's row are its payload.
-pub encodes : {src : Bytes} {row : List ℕ} {cs : List Column} {n : ℕ} {start bytes : Bytes} {at i : ℕ} (o : Operation) → Encoding src row cs n start bytes at i → length row ≡ 5 → n ≤ 5 → n ≤ i →
-    take n row ≡ field_tags (kind (op_of src o)) → Columns o cs → Fields src o (record { bytes = bytes; len = at })
-unfolding row_fields encode_payload
-encodes {src} {row} {cs} {n} o w r b h t c =
-    let k : n ≡ length (field_tags (kind (op_of src o))) = sym (length-take-le n row (omega arith)) ∙ ap length t in
-    let v : map (column_of src) (take n cs) ≡ (kind (op_of src o) ∷ []) ∷ values (op_of src o) = rw k (c.same src) in
-    record {
-      size = w.size;
-      within = omega (arith, w.room, w.within);
-      same = all-written w (omega arith) (omega (arith, c.size)) h ∙ ap encode_fields (ap₂ tagged t v);
-    }
+  pub no-tag : length tags ≡ 0 → items ≡ row_payload src k values
+  unfolding tagged encode_fields
+  no-tag e = sym (append-nil items) ∙ rw (nil_from_length tags e) at w.same
+
+  pub no_value : length left ≡ 0 → items ≡ row_payload src k values
+  unfolding tagged encode_fields
+  no_value e = sym (append-nil items) ∙ go tags (rw (nil_from_length left e) at w.same)
+    where
+      go : (ts : List ℕ) → items ++ encode_fields (tagged ts []) ≡ row_payload src k values → items ++ [] ≡ row_payload src k values
+      go [] h = h
+      go (t ∷ ts) h = h
 
 -- Every payload has its kind's field.
 kind-first : (o : Op) → 1 ≤ length (encode_payload o)
@@ -135,27 +110,16 @@ kind-first (create_collection c) = omega arith
 kind-first (delete_collection c) = omega arith
 kind-first (copy_collection a b x) = omega arith
 
--- What `is_sound` answered decides what the payload is.
-module _ {src : Bytes} {o : Operation} {b : Bool} (d : Decides (SoundOp src o) b) where
-  pub all-fields : {p : Payload} → b ≡ true → Fields src o p → Encodes src o p
-  all-fields t f = record { size = f.size; within = f.within; sound = λ _. f.same; unsound = λ n. absurd (n (d.yes t)) }
-
-  pub no_payload : {bytes : Bytes} → b ≡ false → length bytes ≡ 335 → Encodes src o (record { bytes = bytes; len = 0 })
-  no_payload t l = record { size = l; within = omega arith; sound = λ h. absurd (d.no t h); unsound = λ _. refl }
-
--- What is known of a payload: how long it is, and that it is empty only where nothing is to be written.
-module _ {src : Bytes} {o : Operation} {p : Payload} (e : Encodes src o p) where
-  pub payload-size : p.len ≡ length (payload_of p)
-  payload-size = sym (length-take-le p.len p.bytes (omega (arith, e.size, e.within)))
-
-  pub payload-out : {at : ℕ} {out new : Bytes} → new ≡ written at (payload_of p) out → WritesOp src o (encode_payload (op_of src o)) at out new p.len
+-- What is known of a payload: it is empty only where nothing is to be written.
+module _ {src : Bytes} {o : Operation} {p : ArrayVec ℕ} (e : Encodes src o p) where
+  pub payload-out : {at : ℕ} {out new : Bytes} → new ≡ written at p.items out → WritesOp src o (encode_payload (op_of src o)) at out new (length p.items)
   payload-out {at} {out} {new} w = record {
-    sound = λ h. record { same = rw (← (e.sound h)) w; size = payload-size ∙ ap length (e.sound h) };
-    unsound = λ h. (w ∙ ap (λ (v : Bytes). written at v out) (e.unsound h) ∙ written-nil at out, payload-size ∙ ap length (e.unsound h));
+    sound = λ h. record { same = rw (← (e.sound h)) w; size = ap length (e.sound h) };
+    unsound = λ h. (w ∙ rw (e.unsound h) (written-nil at out), ap length (e.unsound h));
   }
 
-  pub empty-unsound : p.len ≡ 0 → SoundOp src o → ⊥
-  empty-unsound z h = omega (arith, kind-first (op_of src o), ap length (e.sound h), payload-size)
+  pub empty-unsound : length p.items ≡ 0 → SoundOp src o → ⊥
+  empty-unsound z h = omega (arith, kind-first (op_of src o), ap length (e.sound h))
 
-  pub some-sound : {A : Type 0} → (p.len ≡ 0 → ⊥) → (SoundOp src o → ⊥) → A
-  some-sound n h = absurd (n (payload-size ∙ ap length (e.unsound h)))
+  pub some-sound : {A : Type 0} → (length p.items ≡ 0 → ⊥) → (SoundOp src o → ⊥) → A
+  some-sound n h = absurd (n (ap length (e.unsound h)))

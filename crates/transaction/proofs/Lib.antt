@@ -1,8 +1,7 @@
-pub mod Lists
-pub mod Same
-pub mod Table
-pub mod Checks
 pub mod Arms
+pub mod Checks
 pub mod Decode
-pub mod Payloads
 pub mod Encode
+pub mod Lists
+pub mod Payloads
+pub mod Same

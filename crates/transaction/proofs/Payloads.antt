@@ -1,14 +1,17 @@
 -- What a payload decodes to, by the row of its kind, and in which bytes its names lie.
-use Rattle.std.specs.Prelude.{if◌then◌else◌, Result, Err}
+use Rattle.std.specs.Prelude.{if◌then◌else◌, Some, None, Ok, Err, Result, slice_get}
+use Rattle.std.specs.Result.{result_ok}
+use Rattle.std.proofs.lemmas.Option.{none-some, same_Some}
+use Rattle.std.specs.Prelude as std
 use mathlib.Core.Path.{◌≡◌, refl, sym, ap, subst, ◌∙◌}
 use mathlib.Core.List.{List, [], ◌∷◌, map}
 use mathlib.Core.Bool.{Bool, true, false, ◌&&◌}
 use mathlib.Core.Option.{Option, none, some}
-use Prim.Native.Nat.{ℕ, zero, suc, ◌-◌, ◌≤◌, ◌<◌}
+use Prim.Native.Nat.{ℕ, zero, suc, ◌-◌, ◌≤◌}
 use native.Mathlib.Omega.{arith}
 use lib.Dec.{leb}
 use lib.ListN.{length, take, drop, get_or, get_elem?, take-append-drop, drop_of_length-le}
-use borrow.Author.Tests.{leb-true, leb-false, le-leb, lt-leb}
+use borrow.Author.Tests.{leb-true, leb-false, le-leb}
 use Rattle.basics.specs.Base.{Bytes, case_option, same_bytes, all_of}
 use Rattle.basics.specs.Field.{Field, fields_from, decode_fields}
 use Rattle.model.specs.Operation.{field_tags, makers, valid_value, op_of_fields, decode_payload}
@@ -19,14 +22,15 @@ use Rattle.spans.proofs.Prefix.{prefix_sound, prefix_name, map_same}
 use Rattle.field.specs.Reading.{field_of, Reads, Stands}
 use Rattle.field.proofs.Fields.{no_field}
 use Rattle.field.specs.declared.Item.{Item}
+use Rattle.std.specs.Prelude.{Result, Err}
 use Rattle.field.specs.declared.Broken.{Broken}
 use Rattle.transaction.specs.Operations.{Bounds, in_bounds, part, decoded_at, Decodes}
-use Rattle.transaction.specs.Rows.{match_row, SoundParts, Matches, made, Makes}
-use Rattle.transaction.specs.declared.Decoded.{Decoded}
-use Rattle.transaction.specs.declared.Decoded.TheVariants.{Undecodable}
-use Rattle.transaction.specs.declared.Values.{Values}
-use Rattle.transaction.proofs.Same.{and_right}
-use Rattle.transaction.proofs.Arms.{made_row}
+use Rattle.transaction.specs.Rows.{kind_number, NamesKind, match_row, SoundParts, names_in, Matches, made, Makes}
+use Rattle.transaction.specs.declared.Kind.{Kind}
+use Rattle.transaction.specs.declared.Kind.TheVariants.{Write, Delete, DeleteAll, CreateCollection, DeleteCollection, CopyCollection, MarkedWrite}
+use Rattle.transaction.specs.declared.UnknownKind.{UnknownKind}
+use Rattle.transaction.specs.declared.Operation.{Operation}
+use Rattle.transaction.proofs.Arms.{made_row, no_kind}
 use Rattle.transaction.proofs.Decode.{matched, row-of-bytes}
 
 -- A payload whose first field stands there decodes by the row of its kind.
@@ -83,20 +87,7 @@ module _ (e : ℕ) (src : Bytes) where
   pub wide_parts : {l : List NameRef} → SoundParts (take e src) l → SoundParts src l
   wide_parts {l} h = record { size = h.size; sound = all_imp wide_sound l h.sound }
 
--- The tests of `in_bounds_lem`, and what it says.
 module _ (src : Bytes) (start end : ℕ) where
-  pub end-first : end < start → false ≡ in_bounds src start end
-  unfolding in_bounds
-  end-first h = rw (lt-leb start end h)
-
-  pub past_end : length src < end → false ≡ in_bounds src start end
-  unfolding in_bounds
-  past_end h = rw (lt-leb end (length src) h, and_right (leb start end))
-
-  pub last-test : start ≤ end → end ≤ length src → leb (length src) 0xFFFF ≡ in_bounds src start end
-  unfolding in_bounds
-  last-test a b = rw (le-leb start end a, le-leb end (length src) b)
-
   pub bounds : in_bounds src start end ≡ true → Bounds src start end
   unfolding in_bounds
   bounds h =
@@ -105,9 +96,10 @@ module _ (src : Bytes) (start end : ℕ) where
       record { ordered = leb-true start end q.0; within = leb-true end (length src) q.1; short = leb-true (length src) 0xFFFF p.1 }
 
 pub in_bounds_lem : {src : Bytes} {start end : ℕ} → Bounds src start end → in_bounds src start end ≡ true
-in_bounds_lem {src} {start} {end} b = sym (last-test src start end b.ordered b.within) ∙ le-leb (length src) 0xFFFF b.short
+unfolding in_bounds
+in_bounds_lem {src} {start} {end} b = rw (le-leb start end b.ordered, le-leb end (length src) b.within) (le-leb (length src) 0xFFFF b.short)
 
-pub nowhere : {src : Bytes} {start end : ℕ} → in_bounds src start end ≡ false → Decodes src start end Undecodable
+pub nowhere : {src : Bytes} {start end : ℕ} → in_bounds src start end ≡ false → Decodes src start end None
 unfolding decoded_at
 nowhere h = record { sound = tt; same = rw h }
 
@@ -120,18 +112,55 @@ module _ {src : Bytes} {start end : ℕ} (b : Bounds src start end) where
   there : decoded_at src start end ≡ decode_payload (drop start (take end src))
   there = decoded-there ∙ ap decode_payload (part-drop start end src b.ordered)
 
-  pub undecodable : decode_payload (drop start (take end src)) ≡ none → Decodes src start end Undecodable
+  pub undecodable : decode_payload (drop start (take end src)) ≡ none → Decodes src start end None
   undecodable h = record { sound = tt; same = sym (there ∙ h) }
 
-  module _ (k : ℕ) {x : Item} {v : Values} (w : Stands (take end src) start x) (z : k ≡ get_or (field_of (take end src) x).value 0 0) (m : Matches (take end src) (field_tags k) start v) where
-    found : decode_payload (drop start (take end src)) ≡ case_option (if v.fit then some (map (name_of (take end src)) (take (length (field_tags k)) v.parts)) else none) none (made k)
-    found = by_row k w z ∙ ap (λ (o : Option (List Bytes)). case_option o none (made k)) (sym m.same)
+  module _ {x : Item} (w : Stands (take end src) start x) where
+    -- No kind: the first field has no byte, or one that no row has as its number.
+    pub unknown : (k : ℕ) → k ≡ get_or (field_of (take end src) x).value 0 0 → ((kind : Kind) → k ≡ kind_number kind → ⊥) → Decodes src start end None
+    unknown k z n = undecodable (by_row k w z ∙ go (match_row (field_tags k) (drop start (take end src))))
+      where
+        go : (o : Option (List Bytes)) → case_option o none (made k) ≡ none
+        go none = refl
+        go (some vs) = no_kind k vs n
 
-    pub no-fit : v.fit ≡ false → Decodes src start end Undecodable
-    no-fit f = undecodable (found ∙ rw f)
+    module _ (kind : Kind) (z : kind_number kind ≡ get_or (field_of (take end src) x).value 0 0) where
+      found : {v : std.Option (List NameRef)} → Matches (take end src) (field_tags (kind_number kind)) start v →
+          decode_payload (drop start (take end src)) ≡ case_option (names_in (take end src) (length (field_tags (kind_number kind))) v) none (made (kind_number kind))
+      found m = by_row (kind_number kind) w z ∙ ap (λ (o : Option (List Bytes)). case_option o none (made (kind_number kind))) (sym m.same)
 
-    pub fits : {d : Decoded} → v.fit ≡ true → Makes src k v.parts d → Decodes src start end d
-    fits f d = record {
-      sound = d.sound;
-      same = d.same ∙ sym (there ∙ found ∙ rw f (made_row (take end src) k v.parts m.parts.size ∙ ap (made k) (wide_names end src v.parts m.parts.sound)));
-    }
+      pub no-fit : Matches (take end src) (field_tags (kind_number kind)) start None → Decodes src start end None
+      no-fit m = undecodable (found m)
+
+      pub fits : {parts : List NameRef} {o : Operation} → Matches (take end src) (field_tags (kind_number kind)) start (Some parts) → Makes src kind parts o → Decodes src start end (Some o)
+      fits {parts} m d = record {
+        sound = d.sound;
+        same = d.same ∙ sym (there ∙ found m ∙ made_row (take end src) kind parts m.parts.size ∙ ap (made (kind_number kind)) (wide_names end src parts m.parts.sound));
+      }
+
+-- What the steps of `decode_operation` say of the first field's byte.
+pub no_byte : (v : Bytes) → None ≡ slice_get v 0 → 0 ≡ get_or v 0 0
+no_byte [] e = refl
+no_byte (b ∷ v) e = absurd (none-some b e)
+
+pub first_byte : (v : Bytes) {b : ℕ} → Some b ≡ slice_get v 0 → b ≡ get_or v 0 0
+first_byte [] e = absurd (none-some _ (sym e))
+first_byte (a ∷ v) {b} e = same_Some b a e
+
+pub kind_of : {byte : ℕ} {kind : Kind} (r : Result Kind UnknownKind) → Some kind ≡ result_ok r → NamesKind byte r → byte ≡ kind_number kind
+kind_of {byte} {kind} (Ok k) e h = rw (same_Some kind k e) h
+kind_of (Err u) e h = absurd (none-some _ (sym e))
+
+pub kindless : {byte : ℕ} (r : Result Kind UnknownKind) → None ≡ result_ok r → NamesKind byte r → (kind : Kind) → byte ≡ kind_number kind → ⊥
+kindless (Ok k) e h = absurd (none-some k e)
+kindless (Err u) e h = h
+
+-- 0 stands for no kind.
+pub not-zero : (kind : Kind) → 0 ≡ kind_number kind → ⊥
+not-zero Write e = omega arith
+not-zero Delete e = omega arith
+not-zero DeleteAll e = omega arith
+not-zero CreateCollection e = omega arith
+not-zero DeleteCollection e = omega arith
+not-zero CopyCollection e = omega arith
+not-zero MarkedWrite e = omega arith

@@ -1,5 +1,6 @@
 -- What an `Operation` stands for, and what decoding answers.
-use Rattle.std.specs.Prelude.{◌≡◌, ℕ, ◌-◌, ◌≤◌, [], Bool, ◌&&◌, length, take, drop, leb, if◌then◌else◌}
+use Rattle.std.specs.Prelude.{◌≡◌, ℕ, ◌-◌, ◌≤◌, [], Bool, ◌&&◌, length, take, drop, leb, if◌then◌else◌, IfSome, Some, None}
+use Rattle.std.specs.Prelude as std
 use Rattle.std.proofs.Math.Option.{Option, none, some}
 use Rattle.basics.specs.Base.{Bytes}
 use Rattle.model.specs.Operation.{Op, write, delete, delete_all, create_collection, delete_collection, copy_collection, encode_payload, decode_payload}
@@ -7,9 +8,7 @@ use Rattle.field.specs.Writing.{Writes}
 use Rattle.spans.specs.Spans.{name_of, Sound}
 use Rattle.transaction.specs.declared.Operation.{Operation}
 use Rattle.transaction.specs.declared.Operation.TheVariants as code
-use Rattle.transaction.specs.declared.Decoded.{Decoded}
-use Rattle.transaction.specs.declared.Decoded.TheVariants.{Is, Undecodable}
-use Rattle.transaction.specs.declared.Payload.{Payload}
+use Rattle.arrayvec.specs.ArrayVec.{ArrayVec}
 
 abbrev pub op_of : Bytes → Operation → Op
 op_of src (code.Write c k s) = write (record { collection = name_of src c; key = name_of src k; staged = name_of src s; mark = none })
@@ -30,13 +29,10 @@ SoundOp src (code.DeleteCollection c) = Sound src c
 SoundOp src (code.CopyCollection a b x) = Sound src a × Sound src b
 SoundOp src (code.MarkedWrite c k s x) = Sound src c × (Sound src k × Sound src s)
 
-abbrev pub decoded_of : Bytes → Decoded → Option Op
-decoded_of src (Is o) = some (op_of src o)
-decoded_of src Undecodable = none
-
-abbrev pub SoundDecoded : Bytes → Decoded → Type 0
-SoundDecoded src (Is o) = SoundOp src o
-SoundDecoded src Undecodable = Unit {0}
+-- What a decoder's answer stands for: the operation, or none where the bytes do not decode.
+abbrev pub decoded_of : Bytes → std.Option Operation → Option Op
+decoded_of src (Some o) = some (op_of src o)
+decoded_of src None = none
 
 -- A part of the bytes that spans can point into: their starts are numbers of two bytes.
 pub record Bounds (src : Bytes) (start end : ℕ) : Type 0 where
@@ -55,26 +51,14 @@ unfoldable pub decoded_at : Bytes → ℕ → ℕ → Option Op
 decoded_at src start end = if in_bounds src start end then decode_payload (part src start end) else none
 
 -- What `decode_operation` answers.
-pub record Decodes (src : Bytes) (start end : ℕ) (d : Decoded) : Type 0 where
-  pub sound : SoundDecoded src d
+pub record Decodes (src : Bytes) (start end : ℕ) (d : std.Option Operation) : Type 0 where
+  pub sound : IfSome d (SoundOp src)
   pub same : decoded_of src d ≡ decoded_at src start end
 
--- The bytes of a payload.
-abbrev pub payload_of : Payload → Bytes
-payload_of p = take p.len p.bytes
-
--- What `fields_of` makes of an operation whose names lie in the bytes.
-pub record Fields (src : Bytes) (o : Operation) (p : Payload) : Type 0 where
-  pub size : length p.bytes ≡ 335
-  pub within : p.len ≤ 335
-  pub same : payload_of p ≡ encode_payload (op_of src o)
-
--- What `payload_of` makes of any operation: nothing where its names do not all lie in the bytes.
-pub record Encodes (src : Bytes) (o : Operation) (p : Payload) : Type 0 where
-  pub size : length p.bytes ≡ 335
-  pub within : p.len ≤ 335
-  pub sound : SoundOp src o → payload_of p ≡ encode_payload (op_of src o)
-  pub unsound : (SoundOp src o → ⊥) → payload_of p ≡ []
+-- What `payload_of` makes of any operation: nothing where its names do not all lie in the bytes. A payload has room for five fields of 3 + 64 bytes.
+pub record Encodes (src : Bytes) (o : Operation) (p : ArrayVec ℕ) : Type 0 where
+  pub sound : SoundOp src o → p.items ≡ encode_payload (op_of src o)
+  pub unsound : (SoundOp src o → ⊥) → p.items ≡ []
 
 -- What a function does that writes bytes made of an operation: nothing is written where its names do not all lie in the bytes.
 pub record WritesOp (src : Bytes) (o : Operation) (bytes : Bytes) (at : ℕ) (before after : Bytes) (n : ℕ) : Type 0 where

@@ -1,14 +1,19 @@
 // The operations, of seven kinds, and their payload: transaction.rs; 01, How a store is handed over, "The payload stands in for rkyv".
 #![tactic(auto)]
 
-ghost use Rattle.std.specs.Prelude.{◌≡◌, List, [], ◌∷◌, ℕ, ◌≤◌, length, get_or, take, if◌then◌else◌};
+ghost use Rattle.std.specs.Prelude.{◌≡◌, List, [], ◌∷◌, ℕ, ◌+◌, ◌≤◌, ◌++◌, length};
 ghost use Rattle.basics.specs.Base.{same_bytes};
-ghost use Rattle.model.specs.Operation.{field_tags, kind, is_mark, valid_value, encode_payload};
+ghost use Rattle.basics.specs.Field.{encode_field};
+ghost use Rattle.model.specs.Operation.{field_tags, is_mark, valid_value, encode_payload};
 ghost use Rattle.field.specs.Writing.{field};
 ghost use Rattle.spans.specs.Spans.{name_of, Sound, Decides};
-ghost use Rattle.transaction.specs.Operations.{op_of, SoundOp, in_bounds, Decodes, Fields, Encodes, WritesOp};
-ghost use Rattle.transaction.specs.Rows.{tags_in, SoundParts, Matches, Makes, SoundColumn, Columns, Puts};
+ghost use Rattle.arrayvec.specs.ArrayVec.{array_vec_len};
+ghost use Rattle.basic_laws.specs.Tests.{All};
+ghost use Rattle.transaction.specs.Operations.{op_of, SoundOp, in_bounds, Decodes, Encodes, WritesOp};
+ghost use Rattle.transaction.specs.Rows.{kind_number, NamesKind, SoundParts, Matches, Makes, column_of, SoundColumn, row_payload};
 
+use Column::{Byte, Name};
+use arrayvec::ArrayVec;
 use spans::NameRef;
 
 // A recorded operation. Its names are parts of the lent bytes.
@@ -27,24 +32,73 @@ pub enum Operation {
     MarkedWrite(NameRef, NameRef, NameRef, bool),
 }
 
-#[derive(Clone, Copy)]
-pub enum Decoded {
-    Is(Operation),
-    Undecodable,
+// What an unused place of a fixed-size vector holds.
+impl Default for Operation {
+    fn default() -> Operation {
+        Operation::DeleteAll(spans::EMPTY)
+    }
 }
 
-// A payload's bytes: those before `len`. Five fields have at most 3 + 64 bytes each.
-#[derive(Clone, Copy)]
-pub struct Payload {
-    pub bytes: [u8; 335],
-    pub len: usize,
+// A payload's bytes. Five fields have at most 3 + 64 bytes each.
+pub type Payload = ArrayVec<u8, 335>;
+
+// The kinds by the bytes that stand for them. 02, item 4: "A new kind 7, marked Write".
+#[derive(Clone, Copy, Debug, PartialEq, Eq)]
+enum Kind {
+    Write = 1,
+    Delete,
+    DeleteAll,
+    CreateCollection,
+    DeleteCollection,
+    CopyCollection,
+    MarkedWrite,
 }
 
-// The values under a row's tags as parts of the bytes, where the fields fit the row.
-#[derive(Clone, Copy)]
-struct Values {
-    fit: bool,
-    parts: [NameRef; 5],
+// A byte that stands for no kind.
+#[derive(Clone, Copy, Debug, PartialEq, Eq)]
+struct UnknownKind;
+
+impl From<Kind> for u8 {
+    ghost from_gives = { λ kind byte. byte ≡ kind_number kind };
+
+    fn from(kind: Kind) -> u8 {
+        kind as u8
+    }
+}
+
+impl TryFrom<u8> for Kind {
+    type Error = UnknownKind;
+
+    ghost try_from_gives = { NamesKind };
+
+    fn try_from(byte: u8) -> Result<Kind, UnknownKind> {
+        match byte {
+            1 => Ok(Kind::Write),
+            2 => Ok(Kind::Delete),
+            3 => Ok(Kind::DeleteAll),
+            4 => Ok(Kind::CreateCollection),
+            5 => Ok(Kind::DeleteCollection),
+            6 => Ok(Kind::CopyCollection),
+            7 => Ok(Kind::MarkedWrite),
+            _ => Err(UnknownKind),
+        }
+    }
+}
+
+impl Kind {
+    // The tags of a kind's fields. 01: "The fields of each kind stand in one constant table of six rows"; 02, item 4: "the table's seventh row".
+    #[tactic(auto, unfolding(model::specs::Operation::field_tags, model::specs::Operation::field_table))]
+    fn tags(self) -> &'static [u8]
+        ensures { result.now ≡ field_tags (kind_number self) }
+    {
+        match self {
+            Kind::Write => &[1, 2, 3, 4],
+            Kind::Delete => &[1, 2, 3],
+            Kind::DeleteAll | Kind::CreateCollection | Kind::DeleteCollection => &[1, 2],
+            Kind::CopyCollection => &[1, 2, 5, 6],
+            Kind::MarkedWrite => &[1, 2, 3, 4, 7],
+        }
+    }
 }
 
 // A value to be written: a name, or one byte.
@@ -54,130 +108,45 @@ enum Column {
     Byte(u8),
 }
 
-// 01: "The fields of each kind stand in one constant table of six rows"; 02, item 4: "the table's seventh row". The tags of a kind, 0 behind the
-// last.
-const FIELD_TABLE: [[u8; 5]; 7] = [
-    [1, 2, 3, 4, 0],
-    [1, 2, 3, 0, 0],
-    [1, 2, 0, 0, 0],
-    [1, 2, 0, 0, 0],
-    [1, 2, 0, 0, 0],
-    [1, 2, 5, 6, 0],
-    [1, 2, 3, 4, 7],
-];
-
-// The row of a kind, counted from 1; an empty one for what is no kind.
-fn row_of(kind: u8) -> [u8; 5]
-    ensures { tags_in result ≡ field_tags kind }
-{
-    if kind < 1 {
-        return [0; 5];
-    }
-    if 7 < kind {
-        return [0; 5];
-    }
-    let i = (kind - 1) as usize;
-    FIELD_TABLE[i]
-}
-
-// How many fields a row has.
-fn count_fields(row: [u8; 5]) -> usize
-    ensures { (result ≤ 5) × (take result row ≡ tags_in row) }
-{
-    let mut n: usize = 0;
-    while n < 5 {
-        if row[n] == 0 {
-            return n;
-        }
-        n += 1;
-    }
-    n
-}
-
-// The first byte, 0 where there is none.
-fn first(v: &[u8]) -> u8
-    ensures { result ≡ get_or v.now 0 0 }
-{
-    if v.len() == 0 {
-        return 0;
-    }
-    v[0]
-}
-
-// Whether a value is this one byte.
-fn is_byte(v: &[u8], b: u8) -> bool
-    ensures { result ≡ same_bytes v.now (b ∷ []) }
-{
-    if v.len() != 1 {
-        return false;
-    }
-    v[0] == b
-}
-
 // Whether a tag's value is one byte that is 0 or 1.
 fn is_mark(tag: u8) -> bool
     ensures { result ≡ is_mark tag }
 {
-    if tag == 6 {
-        return true;
-    }
-    tag == 7
+    tag == 6 || tag == 7
 }
 
 // Whether a field's value is valid: the kind has one byte, a mark is 0 or 1, all else is a name.
+#[tactic(auto, unfolding(model::specs::Operation::valid_value))]
 fn valid_value(tag: u8, v: &[u8]) -> bool
     ensures { result ≡ valid_value (field tag v.now) }
 {
     if tag == 1 {
-        return v.len() == 1;
+        v.len() == 1
+    } else if is_mark(tag) {
+        matches!(v, [0 | 1])
+    } else {
+        paths::sanitize_path_segment(v)
     }
-    if is_mark(tag) {
-        if is_byte(v, 0) {
-            return true;
-        }
-        return is_byte(v, 1);
-    }
-    paths::sanitize_path_segment(v)
 }
 
-// The values of the fields from `start` on. 01: "Ascending tags, exactly these, all names valid, nothing behind."
-fn read_row(s: &[u8], start: usize, row: [u8; 5]) -> Values
-    requires { (start ≤ length s.now) × (length s.now ≤ 0xFFFF) }
-    ensures { Matches s.now (tags_in row) start result }
+// The values of the fields from `start` on, as parts of the bytes. 01: "Ascending tags, exactly these, all names valid, nothing behind."
+fn read_row(s: &[u8], start: usize, row: &[u8]) -> Option<[NameRef; 5]>
+    requires { (length row.now ≤ 5) × ((start ≤ length s.now) × (length s.now ≤ 0xFFFF)) }
+    ensures { Matches s.now row.now start result }
 {
     let mut parts = [spans::EMPTY; 5];
-    let n = count_fields(row);
     let mut at = start;
-    let mut i: usize = 0;
-    while i < n {
+    for (i, tag) in row.iter().enumerate() {
         let Ok(x) = field::read_field(s, at) else {
-            return Values {
-                fit: false,
-                parts: parts,
-            };
+            return None;
         };
-        let from = x.start;
-        let end = x.end;
-        if x.tag != row[i] {
-            return Values {
-                fit: false,
-                parts: parts,
-            };
+        if x.tag != *tag || !valid_value(x.tag, &s[x.start..x.end]) {
+            return None;
         }
-        if !valid_value(x.tag, &s[from..end]) {
-            return Values {
-                fit: false,
-                parts: parts,
-            };
-        }
-        parts[i] = spans::span(s, from, end - from);
-        at = end;
-        i += 1;
+        parts[i] = spans::span(s, x.start, x.end - x.start);
+        at = x.end;
     }
-    Values {
-        fit: at == s.len(),
-        parts: parts,
-    }
+    if at == s.len() { Some(parts) } else { None }
 }
 
 // Whether a part of the bytes is the byte 1.
@@ -185,154 +154,49 @@ fn is_marked(src: &[u8], r: NameRef) -> bool
     requires { Sound src.now r }
     ensures { result ≡ same_bytes (name_of src.now r) (1 ∷ []) }
 {
-    if spans::length_of(r) != 1 {
-        return false;
-    }
-    spans::byte_at(src, r, 0) == 1
+    spans::length_of(r) == 1 && spans::byte_at(src, r, 0) == 1
 }
 
 // The operation of a kind and the values under its row's tags.
-fn operation_of(src: &[u8], kind: u8, parts: [NameRef; 5]) -> Decoded
+fn operation_of(src: &[u8], kind: Kind, parts: [NameRef; 5]) -> Operation
     requires { SoundParts src.now parts }
     ensures { Makes src.now kind parts result }
 {
-    let a = parts[1];
-    let b = parts[2];
-    let c = parts[3];
-    let d = parts[4];
+    let [_, a, b, c, d] = parts;
     match kind {
-        1 => Decoded::Is(Operation::Write(a, b, c)),
-        2 => Decoded::Is(Operation::Delete(a, b)),
-        3 => Decoded::Is(Operation::DeleteAll(a)),
-        4 => Decoded::Is(Operation::CreateCollection(a)),
-        5 => Decoded::Is(Operation::DeleteCollection(a)),
-        6 => Decoded::Is(Operation::CopyCollection(a, b, is_marked(src, c))),
-        7 => Decoded::Is(Operation::MarkedWrite(a, b, c, is_marked(src, d))),
-        _ => Decoded::Undecodable,
+        Kind::Write => Operation::Write(a, b, c),
+        Kind::Delete => Operation::Delete(a, b),
+        Kind::DeleteAll => Operation::DeleteAll(a),
+        Kind::CreateCollection => Operation::CreateCollection(a),
+        Kind::DeleteCollection => Operation::DeleteCollection(a),
+        Kind::CopyCollection => Operation::CopyCollection(a, b, is_marked(src, c)),
+        Kind::MarkedWrite => Operation::MarkedWrite(a, b, c, is_marked(src, d)),
     }
 }
 
 // Whether spans can point into the part between two places: their starts are numbers of two bytes.
+#[tactic(auto, unfolding(crate::specs::Operations::in_bounds))]
 pub fn in_bounds(src: &[u8], start: usize, end: usize) -> bool
     ensures { result ≡ in_bounds src.now start end }
 {
-    if end < start {
-        return false;
-    }
-    if src.len() < end {
-        return false;
-    }
-    src.len() <= 0xFFFF
+    start <= end && end <= src.len() && src.len() <= 0xFFFF
 }
 
 // The operation of the payload between two places: the kind's field says which row the fields must fit.
-pub fn decode_operation(src: &[u8], start: usize, end: usize) -> Decoded
+pub fn decode_operation(src: &[u8], start: usize, end: usize) -> Option<Operation>
     ensures { Decodes src.now start end result }
 {
     if !in_bounds(src, start, end) {
-        return Decoded::Undecodable;
+        return None;
     }
     let s = &src[..end];
     let Ok(x) = field::read_field(s, start) else {
-        return Decoded::Undecodable;
+        return None;
     };
-    let from = x.start;
-    let to = x.end;
-    let kind = first(&s[from..to]);
-    let v = read_row(s, start, row_of(kind));
-    if !v.fit {
-        return Decoded::Undecodable;
-    }
-    let parts = v.parts;
-    operation_of(src, kind, parts)
-}
-
-// The kind of an operation.
-fn kind_of(op: Operation) -> u8
-    ensures { (s : List ℕ) → result ≡ kind (op_of s op) }
-{
-    match op {
-        Operation::Write(_, _, _) => 1,
-        Operation::Delete(_, _) => 2,
-        Operation::DeleteAll(_) => 3,
-        Operation::CreateCollection(_) => 4,
-        Operation::DeleteCollection(_) => 5,
-        Operation::CopyCollection(_, _, _) => 6,
-        Operation::MarkedWrite(_, _, _, _) => 7,
-    }
-}
-
-// 01: "0x06 destination existed, one byte 0 or 1"; 02, item 4: "tag 0x07 is one byte, 1 if the key's file stood when it was recorded, else 0".
-fn mark_of(stood: bool) -> u8
-    ensures { result ≡ (if stood then 1 else 0) }
-{
-    if stood { 1 } else { 0 }
-}
-
-// What stands under the tags of an operation's row.
-fn columns_of(op: Operation) -> [Column; 5]
-    ensures { Columns op result }
-{
-    let none = Column::Byte(0);
-    match op {
-        Operation::Write(c, k, s) => {
-            [
-                Column::Byte(1),
-                Column::Name(c),
-                Column::Name(k),
-                Column::Name(s),
-                none,
-            ]
-        }
-        Operation::Delete(c, k) => [
-            Column::Byte(2),
-            Column::Name(c),
-            Column::Name(k),
-            none,
-            none,
-        ],
-        Operation::DeleteAll(c) => [Column::Byte(3), Column::Name(c), none, none, none],
-        Operation::CreateCollection(c) => [Column::Byte(4), Column::Name(c), none, none, none],
-        Operation::DeleteCollection(c) => [Column::Byte(5), Column::Name(c), none, none, none],
-        Operation::CopyCollection(a, b, x) => {
-            let mark = mark_of(x);
-            [
-                Column::Byte(6),
-                Column::Name(a),
-                Column::Name(b),
-                Column::Byte(mark),
-                none,
-            ]
-        }
-        Operation::MarkedWrite(c, k, s, x) => {
-            let mark = mark_of(x);
-            [
-                Column::Byte(7),
-                Column::Name(c),
-                Column::Name(k),
-                Column::Name(s),
-                Column::Byte(mark),
-            ]
-        }
-    }
-}
-
-// A field written at `at`, and how long it is.
-fn put_column(src: &[u8], tag: u8, value: Column, out: &mut [u8], at: usize) -> usize
-    requires { SoundColumn src.now value }
-    ensures { Puts src.now tag value at out.old out.new result }
-{
-    match value {
-        Column::Byte(b) => {
-            let v = [b];
-            field::write_field(out, at, tag, &v);
-            4
-        }
-        Column::Name(r) => {
-            names::put_name_field(src, r, out, at, tag);
-            3 + spans::length_of(r)
-        }
-    }
+    let byte = s[x.start..x.end].first()?;
+    let kind = Kind::try_from(*byte).ok()?;
+    let parts = read_row(s, start, kind.tags())?;
+    Some(operation_of(src, kind, parts))
 }
 
 // Whether two names lie in the bytes.
@@ -347,35 +211,75 @@ pub fn is_sound(src: &[u8], op: Operation) -> bool
     ensures { Decides (SoundOp src.now op) result }
 {
     match op {
-        Operation::Write(c, k, s) => spans::is_sound(src, c) && are_sound(src, k, s),
-        Operation::Delete(c, k) => are_sound(src, c, k),
-        Operation::DeleteAll(c) => spans::is_sound(src, c),
-        Operation::CreateCollection(c) => spans::is_sound(src, c),
-        Operation::DeleteCollection(c) => spans::is_sound(src, c),
-        Operation::CopyCollection(a, b, _) => are_sound(src, a, b),
-        Operation::MarkedWrite(c, k, s, _) => spans::is_sound(src, c) && are_sound(src, k, s),
+        Operation::Write(c, k, s) | Operation::MarkedWrite(c, k, s, _) => {
+            spans::is_sound(src, c) && are_sound(src, k, s)
+        }
+        Operation::Delete(a, b) | Operation::CopyCollection(a, b, _) => are_sound(src, a, b),
+        Operation::DeleteAll(c) | Operation::CreateCollection(c) | Operation::DeleteCollection(c) =>
+            spans::is_sound(src, c),
     }
 }
 
-// The fields of an operation, one behind the other, by the row of its kind.
+// A field behind what a payload has.
+fn push_field(src: &[u8], tag: u8, value: Column, payload: &mut Payload)
+    requires { SoundColumn src.now value × (array_vec_len payload.old + 67 ≤ 335) }
+    ensures items { payload.new.items ≡ payload.old.items ++ encode_field (field tag (column_of src.now value)) }
+    ensures len { array_vec_len payload.new ≤ array_vec_len payload.old + 67 }
+{
+    payload.push(tag);
+    match value {
+        Byte(b) => {
+            payload.push(1);
+            payload.push(0);
+            payload.push(b);
+        }
+        Name(r) => {
+            let n = spans::length_of(r);
+            payload.push(n as u8);
+            payload.push(0);
+            for i in 0..n {
+                payload.push(spans::byte_at(src, r, i));
+            }
+        }
+    }
+}
+
+// The fields of a kind's row: the kind, and the values behind it.
+fn row_of(src: &[u8], kind: Kind, values: &[Column]) -> Payload
+    requires { All (SoundColumn src.now) values.now }
+    ensures { result.items ≡ row_payload src.now kind values.now }
+{
+    let mut payload = ArrayVec::new();
+    push_field(src, 1, Byte(u8::from(kind)), &mut payload);
+    for (tag, value) in kind.tags()[1..].iter().zip(values) {
+        push_field(src, *tag, *value, &mut payload);
+    }
+    payload
+}
+
+// The fields of an operation, one behind the other, by the row of its kind. 01: "0x06 destination existed, one byte 0 or 1"; 02, item 4: "tag 0x07 is
+// one byte, 1 if the key's file stood when it was recorded, else 0".
+#[tactic(auto, unfolding(crate::specs::Rows::row_payload, model::specs::Operation::encode_payload, model::specs::Operation::kind, model::specs::Operation::values))]
 fn fields_of(src: &[u8], op: Operation) -> Payload
     requires { SoundOp src.now op }
-    ensures { Fields src.now op result }
+    ensures { result.items ≡ encode_payload (op_of src.now op) }
 {
-    let row = row_of(kind_of(op));
-    let n = count_fields(row);
-    let columns = columns_of(op);
-    let mut bytes = [0u8; 335];
-    let mut at: usize = 0;
-    let mut i: usize = 0;
-    while i < n {
-        let c = columns[i];
-        at += put_column(src, row[i], c, &mut bytes, at);
-        i += 1;
-    }
-    Payload {
-        bytes: bytes,
-        len: at,
+    match op {
+        Operation::Write(c, k, s) => row_of(src, Kind::Write, &[Name(c), Name(k), Name(s)]),
+        Operation::Delete(c, k) => row_of(src, Kind::Delete, &[Name(c), Name(k)]),
+        Operation::DeleteAll(c) => row_of(src, Kind::DeleteAll, &[Name(c)]),
+        Operation::CreateCollection(c) => row_of(src, Kind::CreateCollection, &[Name(c)]),
+        Operation::DeleteCollection(c) => row_of(src, Kind::DeleteCollection, &[Name(c)]),
+        Operation::CopyCollection(a, b, existed) => row_of(
+            src,
+            Kind::CopyCollection,
+            &[Name(a), Name(b), Byte(u8::from(existed))],
+        ),
+        Operation::MarkedWrite(c, k, s, stood) => row_of(
+            src,
+            Kind::MarkedWrite,
+            &[Name(c), Name(k), Name(s), Byte(u8::from(stood))],
+        ),
     }
 }
 
@@ -384,11 +288,9 @@ pub fn payload_of(src: &[u8], op: Operation) -> Payload
     ensures { Encodes src.now op result }
 {
     if is_sound(src, op) {
-        return fields_of(src, op);
-    }
-    Payload {
-        bytes: [0u8; 335],
-        len: 0,
+        fields_of(src, op)
+    } else {
+        ArrayVec::new()
     }
 }
 
@@ -396,9 +298,7 @@ pub fn payload_of(src: &[u8], op: Operation) -> Payload
 pub fn encode_operation(src: &[u8], op: Operation, out: &mut [u8], at: usize) -> usize
     ensures { WritesOp src.now op (encode_payload (op_of src.now op)) at out.old out.new result }
 {
-    let p = payload_of(src, op);
-    let bytes = p.bytes;
-    let n = p.len;
-    field::put_bytes(out, at, &bytes[..n]);
-    n
+    let payload = payload_of(src, op);
+    field::put_bytes(out, at, &payload);
+    payload.len()
 }

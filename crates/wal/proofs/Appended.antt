@@ -12,9 +12,9 @@ use Rattle.model.specs.Operation.{encode_payload}
 use Rattle.laws.specs.AppendLaws.{entry_length}
 use Rattle.field.specs.Writing.{written, Writes}
 use Rattle.field.proofs.Written.{written_then, written-room, written_none}
-use Rattle.transaction.specs.Operations.{op_of, payload_of, Encodes, WritesOp}
+use Rattle.transaction.specs.Operations.{op_of, Encodes, WritesOp}
 use Rattle.transaction.specs.declared.Operation.{Operation}
-use Rattle.transaction.specs.declared.Payload.{Payload}
+use Rattle.arrayvec.specs.ArrayVec.{ArrayVec}
 use Rattle.transaction.proofs.Encode.{empty-unsound, some-sound}
 
 -- The checksum goes behind the first four bytes of the header.
@@ -36,9 +36,9 @@ module _ (at n : ℕ) (p out : Bytes) (l : n ≡ length p) where
   entry-none h = record { same = written_none at (entry p) out (omega (arith, entry_length p)); size = omega (arith, entry_length p) }
 
 -- The entry of an operation: that of its payload, and none without one.
-module _ {src : Bytes} {o : Operation} {p : Payload} {at : ℕ} {out : Bytes} (e : Encodes src o p) where
-  pub no-entry : p.len ≡ 0 → WritesOp src o (entry (encode_payload (op_of src o))) at out out 0
+module _ {src : Bytes} {o : Operation} {p : ArrayVec ℕ} {at : ℕ} {out : Bytes} (e : Encodes src o p) where
+  pub no-entry : length p.items ≡ 0 → WritesOp src o (entry (encode_payload (op_of src o))) at out out 0
   no-entry z = record { sound = λ h. absurd (empty-unsound e z h); unsound = λ _. (refl, refl) }
 
-  pub one_entry : {new : Bytes} {n : ℕ} → (p.len ≡ 0 → ⊥) → Writes (entry (payload_of p)) at out new n → WritesOp src o (entry (encode_payload (op_of src o))) at out new n
+  pub one_entry : {new : Bytes} {n : ℕ} → (length p.items ≡ 0 → ⊥) → Writes (entry p.items) at out new n → WritesOp src o (entry (encode_payload (op_of src o))) at out new n
   one_entry z w = record { sound = λ h. rw (← (e.sound h)) w; unsound = λ h. some-sound e z h }

@@ -1,5 +1,9 @@
 -- The tests of `entry_at` and of `checked`, one by one.
-use Rattle.std.specs.Prelude.{if◌then◌else◌}
+use Rattle.std.specs.Prelude.{if◌then◌else◌, Ok, Err, Some, None, unwrap_or}
+use Rattle.std.specs.Prelude as std
+use Rattle.std.specs.Slice.{IsGetRangeResult}
+use denote.Ref.{Bor}
+use mathlib.Core.Logic.{inl, inr}
 use mathlib.Core.Path.{◌≡◌, refl, sym, ap, ◌∙◌}
 use mathlib.Core.List.{[]}
 use mathlib.Core.Bool.{Bool, true, false, ◌&&◌}
@@ -22,7 +26,6 @@ use Rattle.transaction.proofs.Same.{and_right}
 use Rattle.wal.specs.Logs.{payload_at, cause_of, PayloadHead, EntryAt}
 use Rattle.wal.specs.declared.Cause as code
 use Rattle.wal.specs.declared.Cause.TheVariants.{HeaderShort, PayloadMissing, ChecksumWrong}
-use Rattle.wal.specs.declared.Entry.TheVariants.{Payload, Truncated}
 use Rattle.wal.proofs.Checksums.{same_number, enough, too_few}
 
 -- Parts between bounds that hold, and that do not.
@@ -39,6 +42,12 @@ module _ (log : Bytes) (start end : ℕ) where
   unfolding payload_at
   past_end h = rw (lt-leb end (length log) h, and_right (leb start end))
 
+-- A part that was asked for, or an empty one.
+pub got : (log : Bytes) (start end : ℕ) (r : std.Option (Bor Bytes)) (d : Bor Bytes) → d.now ≡ [] → IsGetRangeResult log start end r → (unwrap_or r d).now ≡ payload_at log start end
+got log start end (Some x) d e h = h.0.2 ∙ part-there log start end h.0.0 h.0.1
+got log start end None d e (inl h, k) = e ∙ end-first log start end h
+got log start end None d e (inr h, k) = e ∙ past_end log start end h
+
 -- The model's test at a place of the log.
 module _ (log : Bytes) (at : ℕ) where
   unfoldable whole : ℕ → Bool
@@ -52,11 +61,11 @@ module _ (log : Bytes) (at : ℕ) where
   unfoldable missing : ℕ → Cause
   missing n = if at_least 8 (drop at log) then (if leb 1 n && at_least n (drop (at + 8) log) then checksum_wrong else payload_missing) else header_short
 
-  truncated : (c : code.Cause) (n : ℕ) → n ≡ from_little_endian (take 4 (drop (at + 4) log)) → whole n ≡ false → cause_of c ≡ missing n → EntryAt log at (Truncated c)
+  truncated : (c : code.Cause) (n : ℕ) → n ≡ from_little_endian (take 4 (drop (at + 4) log)) → whole n ≡ false → cause_of c ≡ missing n → EntryAt log at (Err c)
   unfolding missing first_cause
   truncated c n e h k = record { bounded = tt; same = sym (first n e ∙ rw h); told = k ∙ rw (e, drop-drop 4 at log, drop-drop 8 at log) }
 
-  pub no-head : length log - at < 8 → EntryAt log at (Truncated HeaderShort)
+  pub no-head : length log - at < 8 → EntryAt log at (Err HeaderShort)
   unfolding whole missing
   no-head h = let f = too_few 8 (drop at log) (omega (arith, length-drop at log)) in truncated HeaderShort (from_little_endian (take 4 (drop (at + 4) log))) refl (rw f) (rw f)
 
@@ -81,11 +90,11 @@ module _ {log : Bytes} {at n : ℕ} (w : Headed log at n) where
   has-head : at_least 8 (drop at log) ≡ true
   has-head = enough 8 (drop at log) (omega (arith, w.head, length-drop at log))
 
-  pub no_payload : n ≡ 0 → EntryAt log at (Truncated PayloadMissing)
+  pub no_payload : n ≡ 0 → EntryAt log at (Err PayloadMissing)
   unfolding whole missing
   no_payload z = truncated log at PayloadMissing n size (rw (has-head, z)) (rw (has-head, z))
 
-  pub cut_off : length log - (at + 8) < n → EntryAt log at (Truncated PayloadMissing)
+  pub cut_off : length log - (at + 8) < n → EntryAt log at (Err PayloadMissing)
   unfolding whole missing
   cut_off h =
       let f = too_few n (drop (at + 8) log) (omega (arith, length-drop (at + 8) log)) in
@@ -111,11 +120,11 @@ module _ {log : Bytes} {at n end crc : ℕ} (w : Framed log at n end crc) where
   there : leb 1 n && at_least n (drop (at + 8) log) ≡ true
   there = rw (le-leb 1 n (positive n w.some_bytes), enough n (drop (at + 8) log) (omega (arith, w.inside, length-drop (at + 8) log)))
 
-  framed-wrong : (u32_at log at ≡ crc → ⊥) → EntryAt log at (Truncated ChecksumWrong)
+  framed-wrong : (u32_at log at ≡ crc → ⊥) → EntryAt log at (Err ChecksumWrong)
   unfolding missing
   framed-wrong q = truncated log at ChecksumWrong n (size w.headed) (checked ∙ ne_eqb (u32_at log at) crc q) (rw (has-head w.headed, there))
 
-  framed-right : u32_at log at ≡ crc → EntryAt log at (Payload (at + 8) end)
+  framed-right : u32_at log at ≡ crc → EntryAt log at (Ok (record { start = at + 8; end = end }))
   framed-right q = record {
     bounded = (refl, (omega (arith, w.end_is, positive n w.some_bytes), omega (arith, w.end_is, w.inside, w.headed.head)));
     same = ap some payload ∙ sym (first log at n (size w.headed) ∙ rw (checked ∙ eq-eqb (u32_at log at) crc q));
@@ -135,8 +144,8 @@ module _ {log : Bytes} {at start end crc : ℕ} (h : PayloadHead log at start en
     fits = f;
   }
 
-  pub wrong_crc : (u32_at log at ≡ crc → ⊥) → EntryAt log at (Truncated ChecksumWrong)
+  pub wrong_crc : (u32_at log at ≡ crc → ⊥) → EntryAt log at (Err ChecksumWrong)
   wrong_crc q = framed-wrong framed q
 
-  pub is-entry : u32_at log at ≡ crc → EntryAt log at (Payload start end)
+  pub is-entry : u32_at log at ≡ crc → EntryAt log at (Ok (record { start = start; end = end }))
   is-entry q = rw h.starts (framed-right framed q)

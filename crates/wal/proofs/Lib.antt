@@ -3,4 +3,3 @@ pub mod Headers
 pub mod Heads
 pub mod Appended
 pub mod Walks
-pub mod TakenAhead

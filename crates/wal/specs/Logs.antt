@@ -1,5 +1,7 @@
 -- What the answers about a log say of the model's log.
-use Rattle.std.specs.Prelude.{◌≡◌, ℕ, ◌+◌, ◌≤◌, ◌<◌, List, [], map, Bool, true, false, ◌&&◌, length, take, drop, leb, if◌then◌else◌}
+use Rattle.std.specs.Prelude.{◌≡◌, ℕ, ◌+◌, ◌≤◌, ◌<◌, List, [], map, ◌&&◌, length, take, drop, leb, if◌then◌else◌, Result, Ok, Err, Some, None, IfSome, MatchResult}
+use Rattle.std.specs.Prelude as std
+use Rattle.std.specs.declared.ops.Range.{Range}
 use Rattle.std.proofs.Math.Option.{Option, none, some}
 use Rattle.basics.specs.Base.{Bytes}
 use Rattle.basics.specs.Crc32.{crc32}
@@ -9,38 +11,25 @@ use Rattle.model.specs.Log as model
 use Rattle.basic_laws.specs.Tests.{All}
 use Rattle.field.specs.Reading.{u32_at}
 use Rattle.transaction.specs.Operations.{op_of, SoundOp, in_bounds, part}
-use Rattle.wal.specs.declared.Status.{Status}
-use Rattle.wal.specs.declared.Status.TheVariants.{Absent, Recording, Committing, Held}
+use Rattle.basics.specs.declared.Status.{Status}
+use Rattle.basics.specs.declared.Status.TheVariants.{Recording, Committing, Held}
+use Rattle.arrayvec.specs.ArrayVec.{array_vec_len}
 use Rattle.wal.specs.declared.Cause.{Cause}
 use Rattle.wal.specs.declared.Cause.TheVariants.{HeaderShort, PayloadMissing, ChecksumWrong}
-use Rattle.wal.specs.declared.Entry.{Entry}
-use Rattle.wal.specs.declared.Entry.TheVariants as entry
-use Rattle.wal.specs.declared.Ahead.{Ahead}
 use Rattle.wal.specs.declared.Ending.{Ending}
 use Rattle.wal.specs.declared.Ending.TheVariants as code
-use Rattle.wal.specs.declared.Logged.{Logged}
 use Rattle.wal.specs.declared.WalRead.{WalRead}
 
--- The log as commit and recovery see it, by its status and its entries.
-abbrev pub journal_of : Status → Entries → Journal
-journal_of Absent r = absent
-journal_of Recording r = recording r.ops r.end
-journal_of Committing r = committing r.ops r.end
-journal_of Held r = held r.ops r.end
+-- The log as commit and recovery see it, by its status and its entries; absent where it has no valid header.
+abbrev pub journal_of : std.Option Status → Entries → Journal
+journal_of None r = absent
+journal_of (Some Recording) r = recording r.ops r.end
+journal_of (Some Committing) r = committing r.ops r.end
+journal_of (Some Held) r = held r.ops r.end
 
 -- The payload between two places; nothing where these are out of bounds.
 unfoldable pub payload_at : Bytes → ℕ → ℕ → Bytes
 payload_at log start end = if leb start end && leb end (length log) then part log start end else []
-
--- The payload whose bounds an answer holds.
-abbrev pub entry_of : Bytes → Entry → Option Bytes
-entry_of log (entry.Payload start end) = some (part log start end)
-entry_of log (entry.Truncated c) = none
-
--- A payload stands behind the eight bytes of its entry's head, and is not empty.
-abbrev pub Bounded : Bytes → ℕ → Entry → Type 0
-Bounded log at (entry.Payload start end) = (start ≡ at + 8) × ((start < end) × (end ≤ length log))
-Bounded log at (entry.Truncated c) = Unit {0}
 
 -- The causes, by the model's names.
 abbrev pub cause_of : Cause → model.Cause
@@ -48,10 +37,24 @@ cause_of HeaderShort = model.header_short
 cause_of PayloadMissing = model.payload_missing
 cause_of ChecksumWrong = model.checksum_wrong
 
+-- An entry: where its payload starts and ends; or how it is broken.
+abbrev pub Entry : Type 0
+Entry = Result (Range ℕ) Cause
+
+-- The payload whose bounds an answer holds.
+abbrev pub entry_of : Bytes → Entry → Option Bytes
+entry_of log (Ok r) = some (part log r.start r.end)
+entry_of log (Err c) = none
+
+-- A payload stands behind the eight bytes of its entry's head, and is not empty.
+abbrev pub Bounded : Bytes → ℕ → Entry → Type 0
+Bounded log at (Ok r) = (r.start ≡ at + 8) × ((r.start < r.end) × (r.end ≤ length log))
+Bounded log at (Err c) = Unit {0}
+
 -- An entry that is not whole says how it is broken.
 abbrev pub Told : Bytes → ℕ → Entry → Type 0
-Told log at (entry.Payload start end) = Unit {0}
-Told log at (entry.Truncated c) = cause_of c ≡ first_cause (drop at log)
+Told log at (Ok r) = Unit {0}
+Told log at (Err c) = cause_of c ≡ first_cause (drop at log)
 
 -- An entry of the log, held to its checksum.
 pub record EntryAt (log : Bytes) (at : ℕ) (e : Entry) : Type 0 where
@@ -66,32 +69,14 @@ pub record PayloadHead (log : Bytes) (at start end : ℕ) : Type 0 where
   pub some_bytes : start < end
   pub inside : end ≤ length log
 
-abbrev pub HeadSays : Bytes → ℕ → Entry → Type 0
-HeadSays log at (entry.Payload start end) = PayloadHead log at start end
-HeadSays log at (entry.Truncated c) = EntryAt log at (entry.Truncated c)
-
 -- What `entry_at` answers: where the payload stands, or how the entry is broken.
-pub record HeadAt (log : Bytes) (at : ℕ) (e : Entry) : Type 0 where
-  pub found : HeadSays log at e
-
--- A number is another one, where it is known.
-abbrev pub IfKnown : Bool → ℕ → ℕ → Type 0
-IfKnown true n m = n ≡ m
-IfKnown false n m = Unit {0}
+abbrev pub HeadAt : Bytes → ℕ → Entry → Type 0
+HeadAt log at (Ok r) = PayloadHead log at r.start r.end
+HeadAt log at (Err c) = EntryAt log at (Err c)
 
 -- The checksum of the payload that the head at a place says, where it is known.
-pub record Known (log : Bytes) (at : ℕ) (a : Ahead) : Type 0 where
-  pub right : IfKnown a.known a.sum (crc32 (payload_at log (at + 8) (at + 8 + u32_at log (at + 4))))
-
--- The same of the entry behind this one.
-abbrev pub KnownBehind : Bytes → Entry → Ahead → Type 0
-KnownBehind log (entry.Payload start end) a = Known log end a
-KnownBehind log (entry.Truncated c) a = Unit {0}
-
--- A payload that is handed out ends at this place.
-abbrev pub EndsAt : ℕ → Entry → Type 0
-EndsAt last (entry.Payload start end) = end ≡ last
-EndsAt last (entry.Truncated c) = Unit {0}
+abbrev pub Known : Bytes → ℕ → std.Option ℕ → Type 0
+Known log at ahead = IfSome ahead (λ sum. sum ≡ crc32 (payload_at log (at + 8) (at + 8 + u32_at log (at + 4))))
 
 abbrev pub ending_of : Ending → model.Ending
 ending_of code.Whole = model.whole
@@ -99,24 +84,17 @@ ending_of (code.Truncated c) = model.truncated (cause_of c)
 ending_of code.Undecodable = model.undecodable
 ending_of code.TooMany = model.too_many
 
--- The operations that were read: those before `len`.
-abbrev pub logged_of : Bytes → Logged → Op
-logged_of src l = op_of src l.op
-
+-- The operations that were read.
 abbrev pub ops_read : Bytes → WalRead → List Op
-ops_read src r = map (logged_of src) (take r.len r.ops)
+ops_read src r = map (op_of src) r.ops.items
 
 abbrev pub entries_of : Bytes → WalRead → Entries
 entries_of src r = record { ops = ops_read src r; end = ending_of r.ending }
 
--- All names of the operations lie in the bytes.
-abbrev pub SoundLogged : Bytes → Logged → Type 0
-SoundLogged src l = SoundOp src l.op
-
+-- All names of the operations lie in the bytes, and there are at most 32 of them.
 pub record SoundRead (src : Bytes) (r : WalRead) : Type 0 where
-  pub size : length r.ops ≡ 32
-  pub within : r.len ≤ 32
-  pub sound : All (SoundLogged src) r.ops
+  pub within : array_vec_len r.ops ≤ 32
+  pub sound : All (SoundOp src) r.ops.items
 
 -- The entries of the log between two places; where spans cannot point there, nothing is decoded.
 unfoldable pub entries_at : Bytes → ℕ → ℕ → Entries

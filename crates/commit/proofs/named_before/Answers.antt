@@ -1,19 +1,20 @@
-use native.Mathlib.Omega.{arith}
 use mathlib.Core.Path.{sym, ◌∙◌}
-use Rattle.commit.proofs.Namings.{earlier-start, named-op, named_here, not-here, not_named}
+use Rattle.std.proofs.lemmas.List.{nil_from_length}
+use Rattle.commit.proofs.Namings.{named-op, named_here, not-here, not_named}
 use Rattle.commit.proofs.named_before.Goals as goal
 
-pub loop-i-init : goal.loop-i-init
-loop-i-init c = earlier-start c.requires.0.0 c.requires.0.1 c.requires.1
-
 pub same-requires : goal.same-requires
-same-requires c = (c.loop-i.invariant.sound, (c.collection_of-other.ensures _ (named-op c.loop-i.invariant _ (omega arith))).sound)
+same-requires c = (c.loop-op.invariant.sound, (c.collection_of.ensures _ (named-op c.loop-op.invariant _ _ c.in-Some.ensures.steps)).sound)
 
 pub returns-then-same : goal.returns-then-same
-returns-then-same c = named_here c.loop-i.invariant _ (omega arith) (c.collection_of-other.ensures _ (named-op c.loop-i.invariant _ (omega arith))) (sym c.same.ensures ∙ c.if-same.true)
+returns-then-same c =
+    let s = c.in-Some.ensures.steps in
+    named_here c.loop-op.invariant _ _ s (c.collection_of.ensures _ (named-op c.loop-op.invariant _ _ s)) (sym c.same.ensures ∙ c.if-same.true)
 
-pub loop-i-preserved : goal.loop-i-preserved
-loop-i-preserved c = not-here c.loop-i.invariant _ (omega arith) (c.collection_of-other.ensures _ (named-op c.loop-i.invariant _ (omega arith))) (sym c.same.ensures ∙ c.if-same.false)
+pub loop-op-preserved : goal.loop-op-preserved
+loop-op-preserved c =
+    let s = c.in-Some.ensures.steps in
+    not-here c.loop-op.invariant _ _ s (c.collection_of.ensures _ (named-op c.loop-op.invariant _ _ s)) (sym c.same.ensures ∙ c.if-same.false)
 
 pub returns : goal.returns
-returns c = not_named c.loop-i.invariant (omega arith)
+returns c = not_named c.loop-op.invariant (nil_from_length _ c.in-None.ensures.steps.0)

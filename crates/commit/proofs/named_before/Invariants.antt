@@ -1,9 +1,6 @@
--- `named_before`: the operations before i are still to be asked.
+-- `named_before`: the operations that the iterator has left are still to be asked.
 use Rattle.commit.proofs.Namings.{Earlier}
 use Rattle.commit.proofs.named_before.Given as goal
 
-abbrev pub invariant-loop-i : goal.invariant-loop-i
-invariant-loop-i l = Earlier l.src l.w l.n l.dir l.i
-
-abbrev pub decreases-loop-i : goal.decreases-loop-i
-decreases-loop-i l = l.i
+abbrev pub invariant-loop-op : goal.invariant-loop-op
+invariant-loop-op l = Earlier l.src l.ops l.dir l.op-iterator.iter.rest.now

@@ -3,7 +3,7 @@ use mathlib.Core.Path.{sym, ◌∙◌}
 use Rattle.plans.proofs.MachineLaws.{stays}
 use Rattle.steps.specs.CodeRuns.{run_in}
 use Rattle.recovery.proofs.Follow.{lawful}
-use Rattle.commit.proofs.Namings.{syncing-start, next-op, syncing-skip, syncing-next, syncing-end}
+use Rattle.commit.proofs.Namings.{syncing-start, seen-sound, next-op, syncing-skip, syncing-next, syncing-end}
 use Rattle.commit.proofs.sync_collection_dirs.Goals as goal
 use Rattle.commit.proofs.sync_collection_dirs.Goals.{then-not-named_before, else-not-named_before}
 
@@ -14,7 +14,7 @@ pub loop-i-init : goal.loop-i-init
 loop-i-init c = syncing-start c.requires.1 c.requires.0
 
 pub named_before-requires : goal.named_before-requires
-named_before-requires c = ((c.loop-i.invariant.read, c.loop-i.invariant.within), (c.collection_of-dir.ensures _ (next-op c.loop-i.invariant _ (omega arith))).sound)
+named_before-requires c = (seen-sound c.loop-i.invariant, (c.collection_of-dir.ensures _ (next-op c.loop-i.invariant _ (omega arith))).sound)
 
 pub sync_existing-work-requires : goal.sync_existing-work-requires
 sync_existing-work-requires c = (c.loop-i.invariant.sound, (c.collection_of-dir.ensures _ (next-op c.loop-i.invariant _ (omega arith))).sound)

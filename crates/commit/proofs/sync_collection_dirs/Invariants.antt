@@ -1,11 +1,7 @@
 -- `sync_collection_dirs`: the operations from i on are left.
-use Prim.Native.Nat.{◌-◌}
 use Rattle.steps.specs.CodeRuns.{run_in}
 use Rattle.commit.proofs.Namings.{Syncing}
 use Rattle.commit.proofs.sync_collection_dirs.Given as goal
 
 abbrev pub invariant-loop-i : goal.invariant-loop-i
-invariant-loop-i l = Syncing l.src l.w (run_in l.initial.tree l.initial.staging l.initial.work) (run_in l.tree l.staging l.work) l.i
-
-abbrev pub decreases-loop-i : goal.decreases-loop-i
-decreases-loop-i l = l.n - l.i
+invariant-loop-i l = Syncing l.src l.ops (run_in l.initial.tree l.initial.staging l.initial.work) (run_in l.tree l.staging l.work) l.i

@@ -3,7 +3,7 @@ use Rattle.key_set.proofs.Deletes.{deleting, all-deleted, may_delete, one-missin
 use Rattle.key_set.proofs.delete_each.Goals as goal
 
 pub loop-i-init : goal.loop-i-init
-loop-i-init c = deleting c.requires.1 c.requires.0
+loop-i-init c = deleting c.requires.1.0 c.requires.1.1 c.requires.0
 
 pub delete_one-d-requires : goal.delete_one-d-requires
 delete_one-d-requires c = may_delete c.loop-i.invariant _ (omega arith)

@@ -28,7 +28,7 @@ with_log-t-requires c =
 
 pub delete_each-d-requires : goal.delete_each-d-requires
 delete_each-d-requires c =
-    may_delete c.requires c.fill-g.ensures c.if-n-g-gt-OPERATION_LIMIT.false c.if-not-g.false c.read_wal-w.ensures (ap (λ (t : Store). store_in c.args.tree.now c.args.staging.now t) c.with_log-t.ensures)
+    rw c.deref.ensures.0 (may_delete c.requires c.fill-g.ensures c.if-n-g-gt-OPERATION_LIMIT.false c.if-not-g.false c.read_wal-w.ensures (ap (λ (t : Store). store_in c.args.tree.now c.args.staging.now t) c.with_log-t.ensures))
 
 pub shape_of-src-then-not-d : goal.shape_of-src-then-not-d
 shape_of-src-then-not-d c =
@@ -36,11 +36,11 @@ shape_of-src-then-not-d c =
 
 pub returns-then-not-d : goal.returns-then-not-d
 returns-then-not-d c =
-    left_alone refl (ap outcome (missing-key c.requires c.fill-g.ensures c.if-n-g-gt-OPERATION_LIMIT.false c.if-not-g.false c.read_wal-w.ensures (ap (λ (t : Store). store_in c.args.tree.now c.args.staging.now t) c.with_log-t.ensures) c.delete_each-d.ensures c.if-not-d.true))
+    left_alone refl (ap outcome (missing-key c.requires c.fill-g.ensures c.if-n-g-gt-OPERATION_LIMIT.false c.if-not-g.false c.read_wal-w.ensures (ap (λ (t : Store). store_in c.args.tree.now c.args.staging.now t) c.with_log-t.ensures) (rw c.deref.ensures.0 at c.delete_each-d.ensures) c.if-not-d.true))
 
 pub hand_image-requires : goal.hand_image-requires
 hand_image-requires c =
-    image-stands c.requires c.fill-g.ensures c.if-n-g-gt-OPERATION_LIMIT.false c.if-not-g.false c.read_wal-w.ensures (ap (λ (t : Store). store_in c.args.tree.now c.args.staging.now t) c.with_log-t.ensures) c.delete_each-d.ensures c.if-not-d.false
+    image-stands c.requires c.fill-g.ensures c.if-n-g-gt-OPERATION_LIMIT.false c.if-not-g.false c.read_wal-w.ensures (ap (λ (t : Store). store_in c.args.tree.now c.args.staging.now t) c.with_log-t.ensures) (rw c.deref.ensures.0 at c.delete_each-d.ensures) c.if-not-d.false
 
 pub shape_of-src : goal.shape_of-src
 shape_of-src c =
@@ -48,5 +48,5 @@ shape_of-src c =
 
 pub returns : goal.returns
 returns c =
-    let e = ap outcome (all-deleted c.requires c.fill-g.ensures c.if-n-g-gt-OPERATION_LIMIT.false c.if-not-g.false c.read_wal-w.ensures (ap (λ (t : Store). store_in c.args.tree.now c.args.staging.now t) c.with_log-t.ensures) c.delete_each-d.ensures c.if-not-d.false) in
+    let e = ap outcome (all-deleted c.requires c.fill-g.ensures c.if-n-g-gt-OPERATION_LIMIT.false c.if-not-g.false c.read_wal-w.ensures (ap (λ (t : Store). store_in c.args.tree.now c.args.staging.now t) c.with_log-t.ensures) (rw c.deref.ensures.0 at c.delete_each-d.ensures) c.if-not-d.false) in
     gives refl (sym (ap (λ (a : Answer). a.number) e)) (sym (ap (λ (a : Answer). a.image) e)) c.hand_image.ensures

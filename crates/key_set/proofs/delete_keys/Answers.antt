@@ -34,7 +34,7 @@ pub delete_in-requires : goal.delete_in-requires
 delete_in-requires c =
     let o = c.open_image-o.ensures in
     let h = c.if-o-ne0.false in
-    ready (o.held h) (c.open_transaction-t.ensures c.open_image-o.new.tree c.open_image-o.new.staging) c.if-not-t.false c.count_keys-k.ensures c.if-k-eq0.false (omega arith) (search rules) (leb-true _ _ (o.roomy h))
+    rw c.len-n.ensures.value (ready (o.held h) (c.open_transaction-t.ensures c.open_image-o.new.tree c.open_image-o.new.staging) c.if-not-t.false c.count_keys-k.ensures c.if-k-eq0.false (omega arith) (search rules) (leb-true _ _ (o.roomy h)))
 
 pub returns : goal.returns
 returns c =

@@ -7,4 +7,4 @@ pub returns-then-not-log : goal.returns-then-not-log
 returns-then-not-log c = no-journal _ _ (not-true _ c.if-not-log.true)
 
 pub returns : goal.returns
-returns c = opened _ _ c.open_wal.result (not-false _ c.if-not-log.false) c.requires.1 (rw (log-part c.args.src.now c.args.log) at c.open_wal.ensures)
+returns c = opened _ _ c.open_wal.result (not-false _ c.if-not-log.false) c.requires.1 (rw (log-part c.args.src.now c.args.log) at c.open_wal.ensures.journal)

@@ -1,10 +1,6 @@
 -- `transaction::read_row` meets its contract: a field a turn, against the row's tags.
-use Prim.Native.Nat.{◌-◌}
 use Rattle.transaction.proofs.Decode.{Matching}
 use Rattle.transaction.proofs.read_row.Given as goal
 
 abbrev pub invariant-loop-i : goal.invariant-loop-i
-invariant-loop-i l = Matching l.s l.start l.row l.n l.parts l.at l.i
-
-abbrev pub decreases-loop-i : goal.decreases-loop-i
-decreases-loop-i l = l.n - l.i
+invariant-loop-i l = Matching l.s l.start l.row l.parts l.at l.i

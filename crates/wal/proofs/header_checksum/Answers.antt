@@ -1,11 +1,15 @@
--- `wal::header_checksum` meets its contract: the two constants are computed.
+-- `wal::header_checksum` meets its contract: the three numbers are computed.
 use Rattle.basics.specs.Crc32.{add_polynomial, shift, shifts, feed_byte, register, crc32}
 use Rattle.wal.proofs.header_checksum.Goals as goal
 
-pub returns-in-0 : goal.returns-in-0
+pub returns-in-Recording : goal.returns-in-Recording
 unfolding crc32 register feed_byte shifts shift add_polynomial
-returns-in-0 c = rw c.in-0.is
+returns-in-Recording c = rw c.in-Recording.is
 
-pub returns-in-1 : goal.returns-in-1
+pub returns-in-Committing : goal.returns-in-Committing
 unfolding crc32 register feed_byte shifts shift add_polynomial
-returns-in-1 c = rw c.in-1.is
+returns-in-Committing c = rw c.in-Committing.is
+
+pub returns-in-Held : goal.returns-in-Held
+unfolding crc32 register feed_byte shifts shift add_polynomial
+returns-in-Held c = rw c.in-Held.is

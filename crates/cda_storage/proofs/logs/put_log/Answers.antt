@@ -1,9 +1,9 @@
 -- `cda_storage::logs::put_log`: the header, then the bytes behind it.
-use lib.ListN.{get_or}
+use Rattle.basics.specs.Status.{status_byte}
 use Rattle.cda_storage.proofs.CanonicalLogs.{log-put}
 use Rattle.cda_storage.proofs.logs.put_log.Goals as goal
 
 pub returns : goal.returns
 returns c =
-    log-put (get_or c.args.log.now 1 0) c.args.log.now c.args.out.now c.requires.0 c.requires.1 c.rewrite_header.ensures
-    c.put_bytes.ensures
+    log-put (status_byte c.args.status) c.args.log.now c.args.out.now c.requires.0 c.requires.1
+    (rw c.from.ensures at c.rewrite_header.ensures) c.put_bytes.ensures

@@ -7,7 +7,7 @@ pub returns-then-not-t : goal.returns-then-not-t
 returns-then-not-t c = nothing_open c.open_transaction-t.ensures c.requires.0.sound c.if-not-t.true
 
 pub apply_inner-run-requires : goal.apply_inner-run-requires
-apply_inner-run-requires c = (record { sound = c.requires.0.sound; within = c.requires.1 }, ((c.open_transaction-t.ensures [] []).held, ops_open c.args.self.store c.open_transaction-t.ensures c.if-not-t.false))
+apply_inner-run-requires c = (record { sound = c.requires.0.sound; within = c.requires.1 }, (rw c.deref.ensures.0 (c.open_transaction-t.ensures [] []).held.sound, rw c.deref.ensures.0 (ops_open c.args.self.store c.open_transaction-t.ensures c.if-not-t.false)))
 
 pub returns-then-stopped : goal.returns-then-stopped
 returns-then-stopped c = mark-stays (c.open_transaction-t.ensures c.args.tree.now c.args.staging.now) c.if-not-t.false c.apply_inner-run.ensures c.if-stopped.true

@@ -1,5 +1,6 @@
 // The exported entries for C: each is the function of crate cda_storage that has its name, under the same contract. C lends a slice as a pointer and a
-// length; host/include/cda_storage.h has the declarations.
+// length; host/include/cda_storage.h has the declarations. The C interface has no Result and takes no slice back: an entry answers a number, and hands
+// lengths and causes on through `&mut`.
 #![tactic(auto)]
 
 ghost use Rattle.answers.specs.Answers as answers;

@@ -1,5 +1,5 @@
 // The update rotation for C: the function of crate rotation under the same contract. It stands beside the exports of crate cda_storage_c, in a library of
-// its own.
+// its own. It answers a number and a length through `&mut`, since the C interface has no Result.
 #![tactic(auto)]
 
 ghost use Rattle.answers.specs.Rotate.{rotate};

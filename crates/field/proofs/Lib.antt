@@ -1,3 +1,3 @@
 pub mod Written
 pub mod Numbers
-pub mod Fields
+pub mod Reading

@@ -1,11 +1,12 @@
 -- What stands at a place. 01, How a store is handed over: "A field is a tag (1 byte), a length (2 bytes, little-endian) and that many
 -- value bytes."
-use Rattle.std.specs.Prelude.{◌≡◌, ℕ, ◌+◌, ◌-◌, ◌≤◌, ◌<◌, [], ◌∷◌, ◌++◌, length, take, drop, leb, if◌then◌else◌, Result, Ok, Err}
+use Rattle.std.specs.Prelude.{◌≡◌, ℕ, ◌+◌, ◌-◌, ◌≤◌, ◌<◌, [], ◌∷◌, ◌++◌, length, take, drop, leb, if◌then◌else◌, Result, Ok, Err, Option, None, Some}
 use Rattle.std.proofs.Math.Option.{none, some}
 use Rattle.basics.specs.Base.{Bytes, case_option}
 use Rattle.basics.specs.Field.{Field, from_little_endian, encode_field, fields_from}
 use Rattle.field.specs.declared.Item.{Item}
 use Rattle.field.specs.declared.Broken.{Broken}
+use Rattle.field.specs.declared.Fields.{Fields}
 use Rattle.field.specs.declared.Broken.TheVariants.{NoHeader, NoValue}
 
 -- The number of the four bytes at a place, little-endian; 0 where they are not all there.
@@ -42,3 +43,13 @@ abbrev pub Reads : Bytes → ℕ → Result Item Broken → Type 0
 Reads s at (Ok x) = Stands s at x
 Reads s at (Err NoHeader) = Headless s at
 Reads s at (Err NoValue) = Valueless s at
+
+-- Where the fields go on: behind the one that was read; at the end of the bytes where no field stands.
+abbrev pub place_behind : Bytes → Result Item Broken → ℕ
+place_behind s (Ok x) = x.end
+place_behind s (Err b) = length s
+
+-- What `Fields` hands out and what becomes of it: what stands at its place, up to the end of the bytes.
+abbrev pub GivesField : Fields → Option (Result Item Broken) → Fields → Type 0
+GivesField w None v = (length w.bytes.now ≤ w.at) × (v ≡ w)
+GivesField w (Some r) v = (w.at < length w.bytes.now) × Reads w.bytes.now w.at r × (v.bytes ≡ w.bytes) × (v.at ≡ place_behind w.bytes.now r)

@@ -2,10 +2,11 @@
 // there, or has no room, the answer says so or nothing is written.
 #![tactic(auto)]
 
-ghost use Rattle.std.specs.Prelude.{◌≡◌, [], ◌∷◌, ◌-◌};
+ghost use Rattle.std.specs.Prelude.{◌≡◌, [], ◌∷◌, ◌-◌, length};
+ghost use Rattle.std.specs.Iterator.{at_most};
 ghost use Rattle.basics.specs.Field.{little_endian};
 ghost use Rattle.field.specs.Writing.{written, field, written_field};
-ghost use Rattle.field.specs.Reading.{u32_at, Reads};
+ghost use Rattle.field.specs.Reading.{u32_at, Reads, GivesField};
 
 // A field's tag and the bounds of its value; the next field stands at `end`.
 #[derive(Clone, Copy, Debug, PartialEq, Eq)]
@@ -26,8 +27,10 @@ pub enum Broken {
 pub fn u32_at(s: &[u8], at: usize) -> u32
     ensures { result ≡ u32_at s.now at }
 {
-    if 4 <= s.len().saturating_sub(at) {
-        u32::from_le_bytes([s[at], s[at + 1], s[at + 2], s[at + 3]])
+    if let Some(rest) = s.get(at..)
+        && let Some(four) = rest.first_chunk::<4>()
+    {
+        u32::from_le_bytes(*four)
     } else {
         0
     }
@@ -52,6 +55,43 @@ pub fn read_field(s: &[u8], at: usize) -> Result<Item, Broken>
     })
 }
 
+// The fields of some bytes, one behind the other, from a place on.
+#[derive(Clone, Copy)]
+pub struct Fields<'a> {
+    pub bytes: &'a [u8],
+    pub at: usize,
+}
+
+impl<'a> Fields<'a> {
+    // All of them.
+    pub fn of(bytes: &'a [u8]) -> Self
+        ensures { (result.bytes ≡ bytes.entry) × (result.at ≡ 0) }
+    {
+        Fields { bytes, at: 0 }
+    }
+}
+
+// Up to the end of the bytes. Where no field stands it is not known where the next one would: that is told, and is the last.
+impl Iterator for Fields<'_> {
+    type Item = Result<Item, Broken>;
+
+    ghost next_gives = { GivesField };
+
+    ghost remaining = { λ w. at_most (length w.bytes.now - w.at) };
+
+    fn next(&mut self) -> Option<Result<Item, Broken>> {
+        if self.bytes.len() <= self.at {
+            return None;
+        }
+        let found = read_field(self.bytes, self.at);
+        self.at = match found {
+            Ok(x) => x.end,
+            Err(_) => self.bytes.len(),
+        };
+        Some(found)
+    }
+}
+
 // Some bytes written at `at`. Here and below nothing is written where there is no room for all.
 pub fn put_bytes(out: &mut [u8], at: usize, s: &[u8])
     ensures { out.new ≡ written at s.now out.old }
@@ -65,6 +105,7 @@ pub fn put_bytes(out: &mut [u8], at: usize, s: &[u8])
 pub fn put_u8(out: &mut [u8], at: usize, b: u8)
     ensures { out.new ≡ written at (b ∷ []) out.old }
 {
+    // Not by `get_mut`: the library's contract of it doesn't say what the slice holds after the write.
     if at < out.len() {
         out[at] = b;
     }

@@ -1,3 +1,4 @@
 pub mod Order
 pub mod Same
 pub mod Lower
+pub mod Eights

@@ -1,14 +1,17 @@
--- A number's digits, counted from the last one and written from the last one.
+-- A number's digits, counted by the logarithm to ten and written from the last one.
 use mathlib.Core.Path.{◌≡◌, refl, sym, ap, ◌∙◌}
 use mathlib.Core.Bool.{Bool, true, false}
-use mathlib.Core.List.{[], ◌∷◌, ◌++◌, append-nil, append_assoc}
-use Prim.Native.Nat.{ℕ, zero, suc, ◌+◌, ◌-◌, ◌/◌, ◌%◌, ◌≤◌, ◌<◌}
+use mathlib.Core.List.{[], ◌∷◌, ◌++◌, append_assoc}
+use Prim.Native.Nat.{ℕ, zero, suc, ◌+◌, ◌-◌, ◌*◌, ◌/◌, ◌%◌, ◌^◌, ◌≤◌, ◌<◌}
+use native.Mathlib.Nat.{pow-zero, pow-suc}
 use native.Mathlib.Omega.{arith}
 use native.Mathlib.Numerals.{add-one}
 use lib.ListN.{length, take, drop, set, length-append, length-set}
 use lib.Seq.{length-take-le, append_snoc, set_split, take-set-le, drop_at}
 use lib.Dec.{leb}
 use borrow.Author.Tests.{leb-true, leb-false}
+use Rattle.std.specs.Prelude.{Option, None, Some, IfNone, IfSome}
+use Rattle.std.specs.Option.{unwrap_or}
 use Rattle.basics.specs.Base.{Bytes}
 use Rattle.answers.specs.Answers.{decimal}
 use Rattle.field.specs.Writing.{written}
@@ -16,51 +19,50 @@ use Rattle.field.proofs.Written.{written-room, written-nil}
 use Rattle.answer_laws.specs.DecimalLaws.{no_digits, one-digit, more_digits, tens}
 use Rattle.text.specs.Digits.{Digits}
 
--- The loop of `digits`: behind the digits of `rest` stand k - 1 more, and at most `left` are not yet counted.
-pub record Shortening (n rest k : ℕ) : Type 0 where
-  pub left : ℕ
-  pub places : k + left ≡ 10
-  pub small : rest < tens (suc left)
-  pub passed : Bytes
-  pub size : length passed + 1 ≡ k
-  pub same : (m : ℕ) → decimal (m + k) n ≡ decimal (suc m) rest ++ passed
+-- The library's powers of ten are the laws'.
+power : (k : ℕ) → 10 ^ k ≡ tens k
+power zero = pow-zero 10
+power (suc k) = rw (pow-suc 10 k, power k) (omega arith)
 
-pub shortening : {n : ℕ} → n < tens 10 → Shortening n n 1
-shortening {n} h = record { left = 9; places = refl; small = h; passed = []; size = refl; same = λ m. rw add-one (sym (append-nil (decimal (suc m) n))) }
+one-le-tens : (k : ℕ) → 1 ≤ tens k
+one-le-tens zero = omega arith
+one-le-tens (suc k) = omega (arith, one-le-tens k)
 
-module _ {n rest k : ℕ} (w : Shortening n rest k) where
-  pub in_places : k ≤ 10
-  in_places = omega (arith, w.places)
+-- A number fills k places: more places change nothing.
+record Fills (n k : ℕ) : Type 0 where
+  more : (m : ℕ) → decimal (m + k) n ≡ decimal k n
+  size : length (decimal k n) ≡ k
 
-  pub shortened : 9 < rest → Shortening n (rest / 10) (k + 1)
-  shortened h = go w.left w.places w.small
-    where
-      go : (left : ℕ) → k + left ≡ 10 → rest < tens (suc left) → Shortening n (rest / 10) (k + 1)
-      go zero p s = absurd (omega arith)
-      go (suc left) p s = record {
-        left = left;
-        places = omega arith;
-        small = omega arith;
-        passed = (0x30 + rest % 10) ∷ w.passed;
-        size = omega (arith, w.size);
-        same = λ m.
-            let e : m + (k + 1) ≡ suc m + k = omega arith in
-            ap (λ (j : ℕ). decimal j n) e ∙ w.same (suc m) ∙ ap (λ (d : Bytes). d ++ w.passed) (more_digits (suc m) rest h) ∙ append_snoc (decimal (suc m) (rest / 10)) (0x30 + rest % 10) w.passed;
-      }
+one_fills : (n : ℕ) → n ≤ 9 → Fills n 1
+one_fills n h = record {
+  more = λ m. let e : m + 1 ≡ suc m = omega arith in ap (λ (j : ℕ). decimal j n) e ∙ one-digit m n h ∙ sym (one-digit 0 n h);
+  size = ap length (one-digit 0 n h);
+}
 
-  module _ (h : rest ≤ 9) where
-    ending : (m : ℕ) → decimal (m + k) n ≡ (0x30 + rest) ∷ w.passed
-    ending m = w.same m ∙ ap (λ (d : Bytes). d ++ w.passed) (one-digit m rest h)
-
-    fewest : decimal k n ≡ (0x30 + rest) ∷ w.passed
-    fewest = let e : k ≡ 0 + k = omega arith in ap (λ (j : ℕ). decimal j n) e ∙ ending 0
-
-    pub all_digits : Digits n k
-    all_digits = record {
-      bound = in_places;
-      same = let e : 10 - k + k ≡ 10 = omega (arith, w.places) in fewest ∙ sym (ending (10 - k)) ∙ ap (λ (j : ℕ). decimal j n) e;
-      size = ap length fewest ∙ omega (arith, w.size);
+fills : (k n : ℕ) → tens k ≤ n → n < tens (suc k) → Fills n (suc k)
+fills zero n l h = one_fills n (omega arith)
+fills (suc k) n l h =
+    let w : Fills (n / 10) (suc k) = fills k (n / 10) (omega arith) (omega arith) in
+    let b : 9 < n = omega (arith, one-le-tens k) in
+    let last : Bytes = (0x30 + n % 10) ∷ [] in
+    record {
+      more = λ m.
+          let e : m + suc (suc k) ≡ suc (m + suc k) = omega arith in
+          ap (λ (j : ℕ). decimal j n) e ∙ more_digits (m + suc k) n b ∙ ap (λ (d : Bytes). d ++ last) (w.more m) ∙ sym (more_digits (suc k) n b);
+      size = ap length (more_digits (suc k) n b) ∙ length-append (decimal (suc k) (n / 10)) last ∙ omega (arith, w.size);
     }
+
+filled : {n k : ℕ} → k ≤ 10 → Fills n k → Digits n k
+filled {n} {k} h w = record {
+  bound = h;
+  same = let e : 10 - k + k ≡ 10 = omega arith in sym (ap (λ (j : ℕ). decimal j n) (sym e) ∙ w.more (10 - k));
+  size = w.size;
+}
+
+-- What the library's logarithm says.
+pub by-logarithm : {n : ℕ} (o : Option ℕ) → IfNone o (n ≡ 0) → IfSome o (λ k. 10 ^ k ≤ n) → IfSome o (λ k. n < 10 * 10 ^ k) → IfSome o (λ k. k < 10) → Digits n (unwrap_or o 0 + 1)
+by-logarithm {n} None z l h b = filled (omega arith) (one_fills n (omega arith))
+by-logarithm {n} (Some k) z l h b = rw add-one (filled (omega arith) (fills k n (rw power at l) (rw power at h)))
 
 -- A digit that stands behind others, stored first.
 stored_last : (at : ℕ) (a : Bytes) (d : ℕ) (out : Bytes) → at + length a < length out → written at (a ++ d ∷ []) out ≡ written at a (set out (at + length a) d)

@@ -6,17 +6,11 @@ ghost use Rattle.answers.specs.Answers.{decimal};
 ghost use Rattle.field.specs.Writing.{written};
 ghost use Rattle.text.specs.Digits.{Digits};
 
-// How many digits a number has in decimal.
+// How many digits a number has in decimal: one more than its logarithm to ten, and 0 has one.
 pub fn digits(n: u32) -> usize
     ensures { Digits n result }
 {
-    let mut rest = n;
-    let mut k: usize = 1;
-    while 9 < rest {
-        rest = rest / 10;
-        k += 1;
-    }
-    k
+    n.checked_ilog10().unwrap_or(0) as usize + 1
 }
 
 // The last digit of a number.
@@ -31,11 +25,9 @@ pub fn put_decimal(n: u32, out: &mut [u8], at: usize)
     requires { at + length (decimal 10 n) ≤ length out.old }
     ensures { out.new ≡ written at (decimal 10 n) out.old }
 {
-    let mut i = digits(n);
     let mut rest = n;
-    while 0 < i {
-        i -= 1;
+    for i in (0..digits(n)).rev() {
         out[at + i] = last_digit(rest);
-        rest = rest / 10;
+        rest /= 10;
     }
 }

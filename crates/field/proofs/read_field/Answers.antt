@@ -1,7 +1,7 @@
 -- `field::read_field` meets its contract, one lemma for each answer. The length is right since a slice's elements are bytes.
 use mathlib.Core.Path.{◌∙◌}
 use native.Mathlib.Omega.{arith}
-use Rattle.field.proofs.Fields.{headless, valueless, stands}
+use Rattle.field.proofs.Reading.{headless, valueless, stands}
 use Rattle.field.proofs.Numbers.{number-two}
 use Rattle.field.proofs.read_field.Goals as goal
 

@@ -1,15 +1,8 @@
-use native.Mathlib.Omega.{arith}
-use Rattle.text.proofs.Decimal.{shortening, shortened, in_places, all_digits}
+-- `digits` meets its contract: the logarithm to ten is one less than the digits, and 0 has one digit.
+use Rattle.text.proofs.Decimal.{by-logarithm}
 use Rattle.text.proofs.digits.Goals as goal
 
-pub loop-rest-init : goal.loop-rest-init
-loop-rest-init c = shortening (omega arith)
-
-pub overflow_add-k : goal.overflow_add-k
-overflow_add-k c = omega (arith, in_places c.loop-rest.invariant)
-
-pub loop-rest-preserved : goal.loop-rest-preserved
-loop-rest-preserved c = shortened c.loop-rest.invariant c.loop-rest-test.true
-
 pub returns : goal.returns
-returns c = all_digits c.loop-rest.invariant c.loop-rest-test.false
+returns c =
+    let e = c.checked_ilog10.ensures in
+    rw c.unwrap_or.ensures (by-logarithm c.checked_ilog10.result e.none e.power_le e.next_power_gt e.bound)

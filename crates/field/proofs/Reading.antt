@@ -6,7 +6,7 @@ use Prim.Native.Nat.{ℕ, zero, suc, ◌+◌, ◌-◌, ◌≤◌, ◌<◌}
 use native.Mathlib.Omega.{arith}
 use native.Mathlib.Numerals.{add-one}
 use lib.ListN.{length, take, drop, get_or, length-drop, drop_of_length-le, take-append-drop}
-use lib.Seq.{drop-cons, drop-drop, length-take-le}
+use lib.Seq.{take_all, drop-cons, drop-drop, length-take-le}
 use borrow.Author.Tests.{le-leb, lt-leb}
 use Rattle.std.specs.Prelude.{Result, Ok, Err}
 use Rattle.basics.specs.Base.{Bytes}
@@ -35,6 +35,14 @@ module _ (s : Bytes) (at : ℕ) where
 
   pub number_read : 4 ≤ length s - at → from_little_endian (get_or s at 0 ∷ get_or s (at + 1) 0 ∷ get_or s (at + 2) 0 ∷ get_or s (at + 3) 0 ∷ []) ≡ u32_at s at
   number_read h = sym (number-there (omega arith) ∙ rw (four s at (omega arith)))
+
+  -- The library's first four bytes of those from a place on.
+  pub first-four : {rest bytes : Bytes} → rest ≡ take (length s - at) (drop at s) → 4 ≤ length rest → bytes ≡ take 4 rest
+      → bytes ≡ get_or s at 0 ∷ get_or s (at + 1) 0 ∷ get_or s (at + 2) 0 ∷ get_or s (at + 3) 0 ∷ []
+  first-four e h f =
+      let all : take (length s - at) (drop at s) ≡ drop at s = take_all (length s - at) (drop at s) (omega (arith, length-drop at s)) in
+      let l : at + 4 ≤ length s = omega (arith, length-drop at s, rw (e, all) at h) in
+      f ∙ rw (e, all, four s at l)
 
   pub number-missing : length s - at < 4 → 0 ≡ u32_at s at
   unfolding u32_at

@@ -6,25 +6,28 @@ use Prim.Native.Nat.{ℕ, zero, suc, ◌+◌, ◌*◌, ◌≤◌, ◌<◌}
 use native.Mathlib.Omega.{arith}
 use lib.Dec.{ltb}
 use lib.ListN.{length, take, drop, get_or}
-use lib.Seq.{take-add, drop-drop}
 use borrow.Author.Tests.{ltb-true, ltb-false}
 use Rattle.basics.specs.Order.{then_cmp, cmp_nat, cmp_name}
 use Rattle.basics.specs.Base.{Bytes}
-use Rattle.std.specs.Int.{w32, from_be_bytes}
+use Rattle.std.specs.Int.{w32, w64, from_be_bytes}
 use Rattle.basic_laws.specs.OrderLaws.{nat_laws, cmp_less, cmp_greater}
 use Rattle.basic_laws.specs.Tests.{All}
 use Rattle.basic_laws.specs.FieldLaws.{Byte}
-use Rattle.field.proofs.Fields.{four}
+use Rattle.field.proofs.Reading.{four}
 use Rattle.spans.specs.Spans.{onto, from_big_endian}
 
+-- The library's number of the four bytes at a place, and of the eight.
 pub four-there : (s : Bytes) (at : ℕ) → at + 4 ≤ length s → from_be_bytes w32 (get_or s at 0 ∷ get_or s (at + 1) 0 ∷ get_or s (at + 2) 0 ∷ get_or s (at + 3) 0 ∷ []) ≡ from_big_endian (take 4 (drop at s))
 unfolding from_big_endian onto
 four-there s at h = rw (four s at h) (omega arith)
 
--- Two numbers of four bytes are one of eight.
-pub eight-there : (s : Bytes) (at : ℕ) {low high : ℕ} → at + 8 ≤ length s → low ≡ from_big_endian (take 4 (drop (at + 4) s)) → high ≡ from_big_endian (take 4 (drop at s)) → low + 0x1_0000_0000 * high ≡ from_big_endian (take 8 (drop at s))
+pub eight-there : (s : Bytes) (at : ℕ) → at + 8 ≤ length s → from_be_bytes w64 (get_or s at 0 ∷ get_or s (at + 1) 0 ∷ get_or s (at + 2) 0 ∷ get_or s (at + 3) 0 ∷ get_or s (at + 4) 0 ∷ get_or s (at + 5) 0 ∷ get_or s (at + 6) 0 ∷ get_or s (at + 7) 0 ∷ []) ≡ from_big_endian (take 8 (drop at s))
 unfolding from_big_endian onto
-eight-there s at h e f = rw (e, f, take-add 4 4 (drop at s), drop-drop 4 at s, four s at (omega arith), four s (at + 4) (omega arith)) (omega arith)
+eight-there s at h =
+    let a : at + 4 + 1 ≡ at + 5 = omega arith in
+    let b : at + 4 + 2 ≡ at + 6 = omega arith in
+    let c : at + 4 + 3 ≡ at + 7 = omega arith in
+    rw (four s at (omega arith), four s (at + 4) (omega arith), a, b, c) (omega arith)
 
 -- The lesser number stays below, whatever bytes come behind.
 onto-less : (k m n : ℕ) (a b : Bytes) → m < n → k ≤ length a → k ≤ length b → All Byte (take k a) → All Byte (take k b) → onto m (take k a) < onto n (take k b)

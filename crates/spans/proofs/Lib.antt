@@ -4,3 +4,5 @@ pub mod Walk
 pub mod Backups
 pub mod Prefix
 pub mod Sounds
+pub mod Written
+pub mod Chains

@@ -1,13 +1,13 @@
 -- The length and the bytes of what a `NameRef` stands for.
 use mathlib.Core.Path.{◌≡◌, refl, sym, ap, ◌∙◌}
-use mathlib.Core.List.{[], ◌∷◌, ◌++◌}
-use mathlib.Core.Bool.{Bool, true, false, ◌&&◌}
-use Prim.Native.Nat.{ℕ, zero, suc, ◌+◌, ◌*◌, ◌-◌, ◌%◌, ◌≤◌, ◌<◌}
+use mathlib.Core.List.{[], ◌∷◌, ◌++◌, append_assoc, append-nil}
+use mathlib.Core.Bool.{true, ◌&&◌}
+use Prim.Native.Nat.{ℕ, zero, suc, ◌+◌, ◌*◌, ◌-◌, ◌≤◌, ◌<◌}
 use native.Mathlib.Omega.{arith}
 use lib.ListN.{length, take, drop, get_or, length-append, length-drop, get_or-append}
-use lib.Dec.{ltb, eqb}
-use lib.Seq.{length-take-le, take-take, take-append-le, get_or-take, get_or-drop, get_or-append-add, drop-drop}
-use borrow.Author.Tests.{ltb-true, ltb-false, eqb-true}
+use lib.Dec.{eqb}
+use lib.Seq.{length-take-le, take_all, take-take, take-append-le, drop-append-le, drop-append_seam, get_or-take, get_or-drop, drop-drop}
+use borrow.Author.Tests.{eqb-true}
 use Rattle.basics.specs.Order.{Name}
 use Rattle.basics.specs.Base.{Bytes, same_bytes}
 use Rattle.basics.specs.Name.{backup_name, backup_extension}
@@ -34,26 +34,30 @@ first-bytes (suc k) n i h =
     let l : length (backups k n) ≡ length n + k * 4 = length-backups k n in
     get_or-append (backups k n) dot_bak 0 i (omega arith) ∙ first-bytes k n i h
 
-last-bytes : (k : ℕ) (n : Name) (i : ℕ) → length n ≤ i → i < length n + k * 4 → get_or (backups k n) i 0 ≡ get_or dot_bak ((i - length n) % 4) 0
-unfolding backup_name backup_extension
-last-bytes zero n i h g = absurd (omega arith)
-last-bytes (suc k) n i h g = go (ltb i (length (backups k n))) refl (length-backups k n) (λ g. last-bytes k n i h g)
-  where
-    go : (t : Bool) → ltb i (length (backups k n)) ≡ t → length (backups k n) ≡ length n + k * 4
-        → (i < length n + k * 4 → get_or (backups k n) i 0 ≡ get_or dot_bak ((i - length n) % 4) 0) → get_or (backups k n ++ dot_bak) i 0 ≡ get_or dot_bak ((i - length n) % 4) 0
-    go true t l ih =
-        let a : i < length (backups k n) = ltb-true _ _ t in
-        get_or-append (backups k n) dot_bak 0 i a ∙ ih (omega arith)
-    go false t l ih =
-        let a : length (backups k n) ≤ i = ltb-false _ _ t in
-        let b : i ≡ length (backups k n) + (i - length (backups k n)) = omega arith in
-        let c : (i - length n) % 4 ≡ i - length (backups k n) = omega arith in
-        rw c (ap (λ (j : ℕ). get_or (backups k n ++ dot_bak) j 0) b ∙ get_or-append-add (backups k n) dot_bak (i - length (backups k n)) 0)
-
 take-backups : (k : ℕ) (n : Name) (i : ℕ) → i ≤ length n → take i (backups k n) ≡ take i n
 unfolding backup_name backup_extension
 take-backups zero n i h = refl
 take-backups (suc k) n i h = take-append-le i (backups k n) dot_bak (omega (arith, length-backups k n)) ∙ take-backups k n i h
+
+-- What stands behind a name, as bytes of its own: the first bytes of the longest.
+behind : (k : ℕ) (n : Name) → backups k n ≡ n ++ backups k []
+unfolding backup_name backup_extension
+behind zero n = sym (append-nil n)
+behind (suc k) n = ap (λ (l : Name). backup_name l) (behind k n) ∙ append_assoc n (backups k []) dot_bak
+
+again : (j k : ℕ) (n : Name) → backups (j + k) n ≡ backups j (backups k n)
+again zero k n =
+    let z : 0 + k ≡ k = omega arith in
+    ap (λ (m : ℕ). backups m n) z
+again (suc j) k n =
+    let z : suc j + k ≡ suc (j + k) = omega arith in
+    ap (λ (m : ℕ). backups m n) z ∙ ap backup_name (again j k n)
+
+pub taken : (n k : ℕ) → k ≡ n → n ≤ 16 → take (k * 4) (backups 16 []) ≡ backups n []
+taken n k e h =
+    let z : 16 ≡ 16 - n + n = omega arith in
+    let l : length (backups n []) ≡ n * 4 = length-backups n [] ∙ omega arith in
+    rw e (ap (λ (m : ℕ). take (n * 4) (backups m [])) z ∙ ap (take (n * 4)) (again (16 - n) n []) ∙ take-backups (16 - n) (backups n []) (n * 4) (omega arith) ∙ take_all (n * 4) (backups n []) (omega arith))
 
 module _ {src : Bytes} {r : NameRef} (s : Sound src r) where
   span : length (take r.len (drop r.start src)) ≡ r.len
@@ -72,11 +76,28 @@ module _ {src : Bytes} {r : NameRef} (s : Sound src r) where
       let l : length (take r.len (drop r.start src)) ≡ r.len = span in
       rw e (sym (first-bytes r.baks (take r.len (drop r.start src)) i (omega arith) ∙ get_or-take r.len (drop r.start src) i 0 h ∙ get_or-drop r.start src i 0))
 
-  pub past-span : (n i : ℕ) → n ≡ r.len → n ≤ i → i < length_of r → get_or dot_bak ((i - n) % 4) 0 ≡ get_or (name_of src r) i 0
+  -- The q bytes from p on are the span, and b what stands behind it.
+  module _ (p q : ℕ) (b : Bytes) (e : p ≡ r.start) (f : q ≡ r.len) (h : b ≡ backups r.baks []) where
+    cut : take (p + q - p) (drop p src) ≡ take r.len (drop r.start src)
+    cut = let z : r.start + r.len - r.start ≡ r.len = omega arith in rw (e, f, z)
+
+    pub both : take (p + q - p) (drop p src) ++ b ≡ name_of src r
+    unfolding name_of
+    both = rw (cut, h) (sym (behind r.baks (take r.len (drop r.start src))))
+
+    pub both-lengths : (length (take (p + q - p) (drop p src)) ≡ r.len) × (length b ≡ r.baks * 4)
+    both-lengths = (ap length cut ∙ span, ap length h ∙ length-backups r.baks [] ∙ omega arith)
+
+  -- What is left of both behind their first bytes.
+  pub left : (a b : Bytes) (at : ℕ) → a ++ b ≡ name_of src r → length a ≡ r.len → at ≤ r.len → take (length a - at) (drop at a) ++ b ≡ drop at (name_of src r)
+  left a b at e l h = rw (take_all (length a - at) (drop at a) (omega (arith, length-drop at a))) (sym (drop-append-le at a b (omega arith)) ∙ ap (drop at) e)
+
+  -- What stands behind the span.
+  pub past : (at : ℕ) → at ≡ r.len → drop at (name_of src r) ≡ backups r.baks []
   unfolding name_of
-  past-span n i e h g =
-      let l : n ≡ length (take r.len (drop r.start src)) = e ∙ sym span in
-      rw l (sym (last-bytes r.baks (take r.len (drop r.start src)) i (omega arith) (omega arith)))
+  past at e =
+      let l : at ≡ length (take r.len (drop r.start src)) = e ∙ sym span in
+      rw (behind r.baks (take r.len (drop r.start src)), l) (drop-append_seam (take r.len (drop r.start src)) (backups r.baks []))
 
   front : (i : ℕ) → i ≤ r.len → take i (name_of src r) ≡ take i (drop r.start src)
   unfolding name_of

@@ -1,19 +1,25 @@
 -- Two names compared byte by byte, and by fours and eights.
-use mathlib.Core.Path.{◌≡◌, sym, ap₂, ◌∙◌}
-use mathlib.Core.List.{[], ◌∷◌}
-use Prim.Native.Nat.{ℕ, ◌+◌, ◌≤◌, ◌<◌}
+use mathlib.Core.Path.{◌≡◌, refl, sym, ap, ap₂, ◌∙◌}
+use mathlib.Core.List.{[], ◌∷◌, ◌++◌}
+use Prim.Native.Nat.{ℕ, zero, suc, min, ◌+◌, ◌≤◌, ◌<◌}
+use Prim.Native.Nat.compare
 use native.Mathlib.Numerals.{add-one}
 use native.Mathlib.Omega.{arith}
 use lib.ListN.{length, take, drop, get_or, length-drop, drop_of_length-le}
 use lib.Seq.{drop-cons, drop-drop}
-use Rattle.basics.specs.Order.{Cmp, lt, eq, gt, then_cmp, cmp_nat, cmp_name}
+use Rattle.std.specs.declared.cmp.Ordering.{Ordering}
+use Rattle.std.specs.Ordering.{nat_cmp}
+use Rattle.std.proofs.lemmas.Cmp.{ranked, by_ranked}
+use Rattle.basics.specs.Order.{Cmp, then_cmp, cmp_nat, cmp_name}
 use Rattle.basics.specs.Base.{Bytes}
+use Rattle.basics.specs.Name.{backup_name, backup_extension}
 use Rattle.basic_laws.specs.OrderLaws.{nat_laws, cmp_less, cmp_greater}
 use Rattle.basic_laws.specs.Tests.{All, all-at, all_take, all_drop}
 use Rattle.basic_laws.specs.FieldLaws.{Byte}
-use Rattle.spans.specs.Spans.{name_of, length_of, from_big_endian, Sound}
+use Rattle.paths.specs.Compare.{order_of}
+use Rattle.spans.specs.Spans.{backups, name_of, length_of, from_big_endian, Sound}
 use Rattle.spans.specs.declared.NameRef.{NameRef}
-use Rattle.spans.proofs.Parts.{length-name, part-in_span}
+use Rattle.spans.proofs.Parts.{dot_bak, past, length-name, part-in_span}
 use Rattle.spans.proofs.Eights.{numbers-decide}
 
 -- What is left of both names behind their first i bytes decides.
@@ -43,22 +49,20 @@ module _ {src : Bytes} {a b : NameRef} {whole : Cmp} {i x y : ℕ} (w : Walk src
       let right : y ∷ drop (i + 1) (name_of src b) ≡ drop i (name_of src b) = rw q (sym (rest i w.right-sound r)) in
       ap₂ cmp_name left right ∙ w.same
 
-  pub less : x < y → lt ≡ whole
-  less h = rw (cmp_less x y h) at open_up
+  pub decided : (x ≡ y → ⊥) → (r : Ordering) → r ≡ nat_cmp x y → order_of r ≡ whole
+  decided d r h = by_ranked (x < y) (x ≡ y) (y < x) r (ranked x y r h)
+      (λ p l. rw p (rw (cmp_less x y l) at open_up))
+      (λ p e. absurd (d e))
+      (λ p g. rw p (rw (cmp_greater x y g) at open_up))
 
-  pub greater : y < x → gt ≡ whole
-  greater h = rw (cmp_greater x y h) at open_up
-
-  pub next : x ≤ y → y ≤ x → Walk src a b whole (i + 1)
-  next h k =
-      let e : x ≡ y = omega arith in
-      record {
-        left-sound = w.left-sound;
-        right-sound = w.right-sound;
-        in_left_lem = omega arith;
-        in_right_lem = omega arith;
-        same = rw (e, nat_laws.reflexive y) at open_up;
-      }
+  pub next : x ≡ y → Walk src a b whole (i + 1)
+  next e = record {
+    left-sound = w.left-sound;
+    right-sound = w.right-sound;
+    in_left_lem = omega arith;
+    in_right_lem = omega arith;
+    same = rw (e, nat_laws.reflexive y) at open_up;
+  }
 
 -- The k bytes at i have the numbers x and y, in both spans.
 module _ {src : Bytes} {a b : NameRef} {whole : Cmp} {p q i x y : ℕ} (k : ℕ) (w : Walk src a b whole i) (bytes : (i : ℕ) → Byte (get_or src i 0)) (u : p ≡ a.start) (v : q ≡ b.start) (l : i + k ≤ a.len) (r : i + k ≤ b.len)
@@ -71,13 +75,11 @@ module _ {src : Bytes} {a b : NameRef} {whole : Cmp} {p q i x y : ℕ} (k : ℕ)
       rw (e, f, ← g, ← h, ← (drop-drop k i (name_of src a)), ← (drop-drop k i (name_of src b)))
       (numbers-decide k (drop i (name_of src a)) (drop i (name_of src b)) (omega (arith, length-drop i (name_of src a), length-name w.left-sound)) (omega (arith, length-drop i (name_of src b), length-name w.right-sound)) (rw g (small (p + i))) (rw h (small (q + i))) ∙ w.same)
 
-  pub number-less : x < y → lt ≡ whole
-  number-less h = rw (cmp_less x y h) at numbered
-
-  pub number-greater : (x ≡ y → ⊥) → y ≤ x → gt ≡ whole
-  number-greater d h =
-      let g : y < x = omega arith in
-      rw (cmp_greater x y g) at numbered
+  pub number-decides : (x ≡ y → ⊥) → (r : Ordering) → r ≡ nat_cmp x y → order_of r ≡ whole
+  number-decides d r h = by_ranked (x < y) (x ≡ y) (y < x) r (ranked x y r h)
+      (λ p l. rw p (rw (cmp_less x y l) at numbered))
+      (λ p z. absurd (d z))
+      (λ p g. rw p (rw (cmp_greater x y g) at numbered))
 
   pub number_same : {j : ℕ} → j ≡ i + k → x ≡ y → Walk src a b whole j
   number_same d z = record {
@@ -88,12 +90,27 @@ module _ {src : Bytes} {a b : NameRef} {whole : Cmp} {p q i x y : ℕ} (k : ℕ)
     same = rw d (rw (z, nat_laws.reflexive y) at numbered);
   }
 
-module _ {src : Bytes} {a b : NameRef} {whole : Cmp} {i : ℕ} (w : Walk src a b whole i) where
-  pub short : length_of a ≤ i → i < length_of b → lt ≡ whole
-  short l r = rw (done i w.left-sound l, rest i w.right-sound r) at w.same
+-- Two names of which one begins with the other, as where their spans end together or nothing stands behind them: the shorter is less.
+more_behind : (k : ℕ) → backups (suc k) [] ≡ dot_bak ++ backups k []
+unfolding backup_name backup_extension
+more_behind zero = refl
+more_behind (suc k) = ap (◌++ dot_bak) (more_behind k)
 
-  pub long : i < length_of a → length_of b ≤ i → gt ≡ whole
-  long l r = rw (rest i w.left-sound l, done i w.right-sound r) at w.same
+behind_compare : (j k : ℕ) → cmp_name (backups j []) (backups k []) ≡ cmp_nat j k
+behind_compare zero zero = refl
+behind_compare zero (suc k) = rw (more_behind k) (sym (cmp_less zero (suc k) (omega arith)))
+behind_compare (suc j) zero = rw (more_behind j) (sym (cmp_greater (suc j) zero (omega arith)))
+behind_compare (suc j) (suc k) = rw (more_behind j, more_behind k, compare.suc-suc) (behind_compare j k)
 
-  pub both : length_of a ≤ i → length_of b ≤ i → eq ≡ whole
-  both l r = rw (done i w.left-sound l, done i w.right-sound r) at w.same
+ranked_as : (x y n m : ℕ) → (n < m → x < y) → (m < n → y < x) → (n ≡ m → x ≡ y) → (r : Ordering) → r ≡ nat_cmp n m → order_of r ≡ cmp_nat x y
+ranked_as x y n m l g e r h = by_ranked (n < m) (n ≡ m) (m < n) r (ranked n m r h) (λ p q. rw (p, cmp_less x y (l q))) (λ p q. rw (p, e q, nat_laws.reflexive y)) (λ p q. rw (p, cmp_greater x y (g q)))
+
+module _ {src : Bytes} {a b : NameRef} (s : Sound src a) (t : Sound src b) (at n m : ℕ) (e : n ≡ length_of a) (f : m ≡ length_of b) (r : Ordering) (h : r ≡ nat_cmp n m) where
+  pub same_spans : at ≡ a.len → at ≡ b.len → order_of r ≡ cmp_name (drop at (name_of src a)) (drop at (name_of src b))
+  same_spans p q = rw (past s at p, past t at q, behind_compare a.baks b.baks) (ranked_as a.baks b.baks n m (λ l. omega arith) (λ l. omega arith) (λ l. omega arith) r h)
+
+  pub only_spans : at ≡ min a.len b.len → a.baks ≡ 0 → b.baks ≡ 0 → order_of r ≡ cmp_name (drop at (name_of src a)) (drop at (name_of src b))
+  only_spans p x y = by_ranked (n < m) (n ≡ m) (m < n) r (ranked n m r h)
+      (λ g l. rw (g, done at s (omega arith), rest at t (omega arith)))
+      (λ g l. rw (g, done at s (omega arith), done at t (omega arith)))
+      (λ g l. rw (g, rest at s (omega arith), done at t (omega arith)))

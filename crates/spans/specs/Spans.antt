@@ -4,7 +4,7 @@ use Rattle.std.proofs.Math.Option.{none, some}
 use Rattle.basics.specs.Limits.{name_limit}
 use Rattle.basics.specs.Order.{Name}
 use Rattle.basics.specs.Base.{Bytes}
-use Rattle.basics.specs.Name.{backup_name, original_name}
+use Rattle.basics.specs.Name.{valid_name, backup_name, original_name}
 use Rattle.spans.specs.declared.NameRef.{NameRef}
 
 -- So many times the backup name of a name.
@@ -32,6 +32,11 @@ pub record Decides (fact : Type 0) (answer : Bool) : Type 0 where
 pub record Names (src : Bytes) (r : NameRef) (n : Name) : Type 0 where
   pub sound : Sound src r
   pub same : name_of src r ≡ n
+
+-- A given name that was tested: where it is valid it stands in the bytes.
+abbrev pub Given : Bytes → Option NameRef → Name → Type 0
+Given src None n = valid_name n ≡ false
+Given src (Some r) n = (valid_name n ≡ true) × Names src r n
 
 -- The number of some bytes, the most significant first, where n is the number of those before them.
 unfoldable pub onto : ℕ → Bytes → ℕ

@@ -1,17 +1,20 @@
 #![tactic(auto)]
 
-ghost use Rattle.std.specs.Prelude.{◌≡◌, List, [], ◌∷◌, ℕ, ◌≤◌, ◌<◌, ◌+◌, ◌*◌, length, get_or, take, drop};
+ghost use Rattle.std.specs.Prelude.{◌≡◌, [], ◌≤◌, ◌<◌, ◌+◌, ◌*◌, ◌++◌, length, take, drop, min};
 ghost use Rattle.basics.specs.Limits.{name_limit};
 ghost use Rattle.basics.specs.Order.{cmp_name};
 ghost use Rattle.basics.specs.Base.{same_bytes};
 ghost use Rattle.basics.specs.Name.{is_backup, is_tmp};
-ghost use Rattle.basic_laws.specs.NameLaws.{ends_in};
 ghost use Rattle.paths.specs.Compare.{order_of};
-ghost use Rattle.spans.specs.Spans.{name_of, length_of, from_big_endian, Sound, Decides, Names, Backup, Original};
+ghost use Rattle.spans.specs.Spans.{backups, name_of, length_of, from_big_endian, Sound, Decides, Names, Backup, Original};
 
 use std::cmp::Ordering;
 
-// A name that stands in the lent bytes, with ".bak" behind it some times: `name_of` (specs/Spans.antt).
+// A name that stands in the lent bytes, with ".bak" behind it some times: `name_of` (specs/Spans.antt). It is a place in them and no slice: a
+// backup's name stands nowhere in the lent bytes, and there is no heap to put it. And a node whose names hold their slices has 56 bytes in place
+// of 12: the same tables, written in Rust, took 0.72 µs to fill so in place of 0.18, and a file's rename 0.52 in place of 0.38 with names of
+// 12 bytes, 0.70 in place of 0.59 with names of 60. The bytes are a parameter beside a table and no field of it, since then every clause would have
+// to say that they are still the same bytes.
 #[derive(Clone, Copy, Debug, Default, PartialEq, Eq)]
 pub struct NameRef {
     pub start: u16,
@@ -19,7 +22,8 @@ pub struct NameRef {
     pub baks: u8,
 }
 
-const DOT_BAK: [u8; 4] = *b".bak";
+// ".bak" as often as a name of at most 64 bytes has it behind it.
+const BAKS: &[u8] = b".bak.bak.bak.bak.bak.bak.bak.bak.bak.bak.bak.bak.bak.bak.bak.bak";
 
 // The empty name: a directory's own file name, and the directory name of a staging file.
 pub const EMPTY: NameRef = NameRef {
@@ -58,22 +62,27 @@ pub fn is_sound(src: &[u8], r: NameRef) -> bool
     length_of(r) <= basics::NAME_LIMIT
 }
 
-// One byte of a name.
-pub fn byte_at(src: &[u8], r: NameRef, i: usize) -> u8
-    requires { Sound src.now r × (i < length_of r) }
-    ensures { result ≡ get_or (name_of src.now r) i 0 }
+// ".bak" so many times.
+fn baks(n: u8) -> &'static [u8]
+    requires { n ≤ 16 }
+    ensures { result.now ≡ backups n [] }
 {
-    let len = usize::from(r.len);
-    if i < len {
-        let at = usize::from(r.start) + i;
-        src[at]
-    } else {
-        let k = (i - len) % 4;
-        DOT_BAK[k]
-    }
+    &BAKS[..usize::from(n) * 4]
+}
+
+// A name's bytes: its part of the lent bytes, and ".bak" behind it some times.
+pub fn slices(src: &[u8], r: NameRef) -> (&[u8], &'static [u8])
+    requires { Sound src.now r }
+    ensures whole { result.0.now ++ result.1.now ≡ name_of src.now r }
+    ensures lengths { (length result.0.now ≡ r.len) × (length result.1.now ≡ r.baks * 4) }
+{
+    let start = usize::from(r.start);
+    let part = &src[start..start + usize::from(r.len)];
+    (part, baks(r.baks))
 }
 
 // The number of the four bytes at `at`, and of the eight, the most significant first: the order of the numbers is that of the bytes.
+// Byte by byte, which is one load: `first_chunk` and `unwrap` leave a test in the loop of `compare`.
 fn four_at(src: &[u8], at: usize) -> u32
     requires { at + 4 ≤ length src.now }
     ensures { result ≡ from_big_endian (take 4 (drop at src.now)) }
@@ -85,12 +94,21 @@ fn eight_at(src: &[u8], at: usize) -> u64
     requires { at + 8 ≤ length src.now }
     ensures { result ≡ from_big_endian (take 8 (drop at src.now)) }
 {
-    four_at(src, at + 4) as u64 + 0x1_0000_0000 * (four_at(src, at) as u64)
+    u64::from_be_bytes([
+        src[at],
+        src[at + 1],
+        src[at + 2],
+        src[at + 3],
+        src[at + 4],
+        src[at + 5],
+        src[at + 6],
+        src[at + 7],
+    ])
 }
 
 // 01, Listings and file steps: "in ascending byte order, a shorter name before a longer one that begins with it". First the bytes that both have
 // in their spans, by eights, by four and one by one, then those behind. By the library's order of two slices (`paths::compare`) a rename takes
-// 0.35 µs where it takes 0.30 so, with names of 12 bytes, and 0.44 for 0.41 with names of 60.
+// 0.28 µs where it takes 0.14 so, with names of 12 bytes, and 0.43 for 0.22 with names of 60.
 pub fn compare(src: &[u8], a: NameRef, b: NameRef) -> Ordering
     requires { Sound src.now a × Sound src.now b }
     ensures { order_of result ≡ cmp_name (name_of src.now a) (name_of src.now b) }
@@ -103,10 +121,7 @@ pub fn compare(src: &[u8], a: NameRef, b: NameRef) -> Ordering
         let x = eight_at(src, p + i);
         let y = eight_at(src, q + i);
         if x != y {
-            if x < y {
-                return Ordering::Less;
-            }
-            return Ordering::Greater;
+            return x.cmp(&y);
         }
         i += 8;
     }
@@ -126,54 +141,38 @@ fn compare_spans(src: &[u8], a: NameRef, b: NameRef, at: usize) -> Ordering
         let x = four_at(src, p + i);
         let y = four_at(src, q + i);
         if x != y {
-            if x < y {
-                return Ordering::Less;
-            }
-            return Ordering::Greater;
+            return x.cmp(&y);
         }
         i += 4;
     }
     while i < m {
         let x = src[p + i];
         let y = src[q + i];
-        if x < y {
-            return Ordering::Less;
-        }
-        if y < x {
-            return Ordering::Greater;
+        if x != y {
+            return x.cmp(&y);
         }
         i += 1;
     }
     compare_from(src, a, b, i)
 }
 
-// The order of two names whose bytes before `at` are equal.
+// The order of two names whose bytes before `at` are equal, where one of the spans ends there. Inlined into `compare` it makes a rename take
+// 0.24 µs in place of 0.14.
+#[inline(never)]
 fn compare_from(src: &[u8], a: NameRef, b: NameRef, at: usize) -> Ordering
-    requires { (Sound src.now a × Sound src.now b) × ((at ≤ length_of a) × (at ≤ length_of b)) }
+    requires { (Sound src.now a × Sound src.now b) × (at ≡ min a.len b.len) }
     ensures { order_of result ≡ cmp_name (drop at (name_of src.now a)) (drop at (name_of src.now b)) }
 {
-    let n = length_of(a);
-    let m = length_of(b);
-    let mut i = at;
-    while i < n {
-        if m <= i {
-            return Ordering::Greater;
-        }
-        let x = byte_at(src, a, i);
-        let y = byte_at(src, b, i);
-        if x < y {
-            return Ordering::Less;
-        }
-        if y < x {
-            return Ordering::Greater;
-        }
-        i += 1;
+    // One begins with the other.
+    if a.len == b.len || (a.baks == 0 && b.baks == 0) {
+        return length_of(a).cmp(&length_of(b));
     }
-    if i < m {
-        Ordering::Less
-    } else {
-        Ordering::Equal
-    }
+    let (x, x_baks) = slices(src, a);
+    let (y, y_baks) = slices(src, b);
+    x[at..]
+        .iter()
+        .chain(x_baks)
+        .cmp(y[at..].iter().chain(y_baks))
 }
 
 // Whether two names are the same. Names at one place are, and their bytes are not looked at.
@@ -184,28 +183,15 @@ pub fn same(src: &[u8], a: NameRef, b: NameRef) -> bool
     a == b || compare(src, a, b).is_eq()
 }
 
-// Whether a name ends in a dot and three given bytes, behind at least one byte.
-fn ends_in(src: &[u8], r: NameRef, x: u8, y: u8, z: u8) -> bool
-    requires { Sound src.now r }
-    ensures { result ≡ ends_in (0x2E ∷ x ∷ y ∷ z ∷ []) (name_of src.now r) }
-{
-    let n = length_of(r);
-    if n <= 4 {
-        return false;
-    }
-    let a = byte_at(src, r, n - 4);
-    let b = byte_at(src, r, n - 3);
-    let c = byte_at(src, r, n - 2);
-    let d = byte_at(src, r, n - 1);
-    a == 0x2E && (b == x && (c == y && d == z))
-}
-
 // Whether a name is a backup name: its extension is "bak" (recovery.rs, `BACKUP_EXTENSION`).
 pub fn is_backup(src: &[u8], r: NameRef) -> bool
     requires { Sound src.now r }
     ensures { result ≡ is_backup (name_of src.now r) }
 {
-    ends_in(src, r, 0x62, 0x61, 0x6B)
+    if r.baks > 0 {
+        return 4 < length_of(r);
+    }
+    paths::is_backup(slices(src, r).0)
 }
 
 // Whether a name has the extension of staging files, "tmp" (recovery.rs, `STAGING_EXTENSION`).
@@ -213,7 +199,7 @@ pub fn is_tmp(src: &[u8], r: NameRef) -> bool
     requires { Sound src.now r }
     ensures { result ≡ is_tmp (name_of src.now r) }
 {
-    ends_in(src, r, 0x74, 0x6D, 0x70)
+    r.baks == 0 && paths::is_tmp(slices(src, r).0)
 }
 
 // The backup name of a name, where that has at most 64 bytes. 01, Sixteen numbers, 14: "backup name over 64 bytes".

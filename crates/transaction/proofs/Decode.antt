@@ -18,7 +18,7 @@ use Rattle.basic_laws.specs.OrderLaws.{nat_laws}
 use Rattle.spans.specs.Spans.{name_of, Sound, Names}
 use Rattle.spans.specs.declared.NameRef.{NameRef}
 use Rattle.field.specs.Reading.{field_of, Reads, Stands}
-use Rattle.field.proofs.Fields.{no_field}
+use Rattle.field.proofs.Reading.{no_field}
 use Rattle.field.specs.declared.Item.{Item}
 use Rattle.std.specs.Prelude.{Result, Err}
 use Rattle.field.specs.declared.Broken.{Broken}

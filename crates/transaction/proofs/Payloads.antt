@@ -20,7 +20,7 @@ use Rattle.spans.specs.Spans.{name_of, Sound}
 use Rattle.spans.specs.declared.NameRef.{NameRef}
 use Rattle.spans.proofs.Prefix.{prefix_sound, prefix_name, map_same}
 use Rattle.field.specs.Reading.{field_of, Reads, Stands}
-use Rattle.field.proofs.Fields.{no_field}
+use Rattle.field.proofs.Reading.{no_field}
 use Rattle.field.specs.declared.Item.{Item}
 use Rattle.std.specs.Prelude.{Result, Err}
 use Rattle.field.specs.declared.Broken.{Broken}

@@ -55,12 +55,13 @@ pub record Decodes (src : Bytes) (start end : ℕ) (d : std.Option Operation) : 
   pub sound : IfSome d (SoundOp src)
   pub same : decoded_of src d ≡ decoded_at src start end
 
--- What `payload_of` makes of any operation: nothing where its names do not all lie in the bytes. A payload has room for five fields of 3 + 64 bytes.
-pub record Encodes (src : Bytes) (o : Operation) (p : ArrayVec ℕ) : Type 0 where
-  pub sound : SoundOp src o → p.items ≡ encode_payload (op_of src o)
-  pub unsound : (SoundOp src o → ⊥) → p.items ≡ []
+-- What `payload_of` answers: the payload, and none where the operation's names do not all lie in the bytes. A payload has room for five fields of 3 + 64
+-- bytes each.
+abbrev pub Encodes : Bytes → Operation → std.Option (ArrayVec ℕ) → Type 0
+Encodes src o None = SoundOp src o → ⊥
+Encodes src o (Some p) = SoundOp src o × (p.items ≡ encode_payload (op_of src o))
 
 -- What a function does that writes bytes made of an operation: nothing is written where its names do not all lie in the bytes.
-pub record WritesOp (src : Bytes) (o : Operation) (bytes : Bytes) (at : ℕ) (before after : Bytes) (n : ℕ) : Type 0 where
-  pub sound : SoundOp src o → Writes bytes at before after n
-  pub unsound : (SoundOp src o → ⊥) → (after ≡ before) × (n ≡ 0)
+abbrev pub WritesOp : Bytes → Operation → Bytes → ℕ → Bytes → Bytes → std.Option ℕ → Type 0
+WritesOp src o bytes at before after None = (SoundOp src o → ⊥) × (after ≡ before)
+WritesOp src o bytes at before after (Some n) = SoundOp src o × Writes bytes at before after n

@@ -154,7 +154,7 @@ fn is_marked(src: &[u8], r: NameRef) -> bool
     requires { Sound src.now r }
     ensures { result ≡ same_bytes (name_of src.now r) (1 ∷ []) }
 {
-    spans::length_of(r) == 1 && spans::byte_at(src, r, 0) == 1
+    r.baks == 0 && matches!(spans::slices(src, r).0, [1])
 }
 
 // The operation of a kind and the values under its row's tags.
@@ -234,12 +234,11 @@ fn push_field(src: &[u8], tag: u8, value: Column, payload: &mut Payload)
             payload.push(b);
         }
         Name(r) => {
-            let n = spans::length_of(r);
-            payload.push(n as u8);
+            let (part, baks) = spans::slices(src, r);
+            payload.push((part.len() + baks.len()) as u8);
             payload.push(0);
-            for i in 0..n {
-                payload.push(spans::byte_at(src, r, i));
-            }
+            payload.try_extend_from_slice(part).unwrap();
+            payload.try_extend_from_slice(baks).unwrap();
         }
     }
 }
@@ -283,22 +282,22 @@ fn fields_of(src: &[u8], op: Operation) -> Payload
     }
 }
 
-// An operation's payload; an empty one where its names do not all lie in the bytes.
-pub fn payload_of(src: &[u8], op: Operation) -> Payload
+// An operation's payload; none where its names do not all lie in the bytes.
+pub fn payload_of(src: &[u8], op: Operation) -> Option<Payload>
     ensures { Encodes src.now op result }
 {
     if is_sound(src, op) {
-        fields_of(src, op)
+        Some(fields_of(src, op))
     } else {
-        ArrayVec::new()
+        None
     }
 }
 
-// An operation's payload written at `at`, and how long it is.
-pub fn encode_operation(src: &[u8], op: Operation, out: &mut [u8], at: usize) -> usize
+// An operation's payload written at `at`, and how long it is; none where its names do not all lie in the bytes.
+pub fn encode_operation(src: &[u8], op: Operation, out: &mut [u8], at: usize) -> Option<usize>
     ensures { WritesOp src.now op (encode_payload (op_of src.now op)) at out.old out.new result }
 {
-    let payload = payload_of(src, op);
+    let payload = payload_of(src, op)?;
     field::put_bytes(out, at, &payload);
-    payload.len()
+    Some(payload.len())
 }

@@ -1,4 +1,5 @@
 -- A header and an entry, written.
+use Rattle.std.specs.Prelude.{Some}
 use mathlib.Core.Path.{◌≡◌, refl, ◌∙◌}
 use mathlib.Core.List.{[], ◌∷◌, ◌++◌}
 use Prim.Native.Nat.{ℕ, ◌+◌, ◌-◌, ◌≤◌, ◌<◌}
@@ -15,7 +16,6 @@ use Rattle.field.proofs.Written.{written_then, written-room, written_none}
 use Rattle.transaction.specs.Operations.{op_of, Encodes, WritesOp}
 use Rattle.transaction.specs.declared.Operation.{Operation}
 use Rattle.arrayvec.specs.ArrayVec.{ArrayVec}
-use Rattle.transaction.proofs.Encode.{empty-unsound, some-sound}
 
 -- The checksum goes behind the first four bytes of the header.
 pub header_made : (status crc : ℕ) {h : Bytes} → crc ≡ crc32 (0xCA ∷ status ∷ []) → h ≡ written 4 (little_endian 4 crc) (0xCA ∷ status ∷ 0 ∷ 0 ∷ 0 ∷ 0 ∷ 0 ∷ 0 ∷ []) → h ≡ header status
@@ -35,10 +35,7 @@ module _ (at n : ℕ) (p out : Bytes) (l : n ≡ length p) where
   pub entry-none : length out - at < 8 + n → Writes (entry p) at out out (8 + n)
   entry-none h = record { same = written_none at (entry p) out (omega (arith, entry_length p)); size = omega (arith, entry_length p) }
 
--- The entry of an operation: that of its payload, and none without one.
-module _ {src : Bytes} {o : Operation} {p : ArrayVec ℕ} {at : ℕ} {out : Bytes} (e : Encodes src o p) where
-  pub no-entry : length p.items ≡ 0 → WritesOp src o (entry (encode_payload (op_of src o))) at out out 0
-  no-entry z = record { sound = λ h. absurd (empty-unsound e z h); unsound = λ _. (refl, refl) }
-
-  pub one_entry : {new : Bytes} {n : ℕ} → (length p.items ≡ 0 → ⊥) → Writes (entry p.items) at out new n → WritesOp src o (entry (encode_payload (op_of src o))) at out new n
-  one_entry z w = record { sound = λ h. rw (← (e.sound h)) w; unsound = λ h. some-sound e z h }
+-- The entry of an operation is that of its payload.
+pub one_entry : (src : Bytes) (o : Operation) {p : ArrayVec ℕ} {at : ℕ} {out new : Bytes} {n : ℕ} → Encodes src o (Some p) → Writes (entry p.items) at out new n →
+    WritesOp src o (entry (encode_payload (op_of src o))) at out new (Some n)
+one_entry src o e w = (e.0, rw (← e.1) w)

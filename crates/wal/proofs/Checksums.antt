@@ -13,7 +13,7 @@ use Rattle.basics.specs.Field.{little_endian, from_little_endian}
 use Rattle.basic_laws.specs.Tests.{All}
 use Rattle.basic_laws.specs.FieldLaws.{Byte, le_four, bytes-again}
 use Rattle.field.specs.Reading.{u32_at}
-use Rattle.field.proofs.Fields.{number-there}
+use Rattle.field.proofs.Reading.{number-there}
 use Rattle.transaction.proofs.Same.{same_as}
 
 part_bytes : (n at : ℕ) (l : Bytes) → ((i : ℕ) → Byte (get_or l i 0)) → All Byte (take n (drop at l))

@@ -1,4 +1,4 @@
--- The tests of `entry_at` and of `checked`, one by one.
+-- The tests of `entry_at` and of `held_to`, one by one.
 use Rattle.std.specs.Prelude.{if◌then◌else◌, Ok, Err, Some, None, unwrap_or}
 use Rattle.std.specs.Prelude as std
 use Rattle.std.specs.Slice.{IsGetRangeResult}
@@ -20,7 +20,7 @@ use Rattle.basics.specs.Field.{little_endian, from_little_endian}
 use Rattle.model.specs.Log.{Cause, header_short, payload_missing, checksum_wrong, first_payload, first_cause}
 use Rattle.basic_laws.specs.FieldLaws.{Byte}
 use Rattle.field.specs.Reading.{u32_at}
-use Rattle.field.proofs.Fields.{number-there}
+use Rattle.field.proofs.Reading.{number-there}
 use Rattle.transaction.specs.Operations.{part}
 use Rattle.transaction.proofs.Same.{and_right}
 use Rattle.wal.specs.Logs.{payload_at, cause_of, PayloadHead, EntryAt}

@@ -9,6 +9,7 @@ use Rattle.model.specs.Operation.{Op}
 use Rattle.model.specs.Log.{Entries, Journal, absent, recording, committing, held, stop, first_payload, first_cause, entries}
 use Rattle.model.specs.Log as model
 use Rattle.basic_laws.specs.Tests.{All}
+use Rattle.crc32.specs.Table.{byte_table}
 use Rattle.field.specs.Reading.{u32_at}
 use Rattle.transaction.specs.Operations.{op_of, SoundOp, in_bounds, part}
 use Rattle.basics.specs.declared.Status.{Status}
@@ -18,6 +19,7 @@ use Rattle.wal.specs.declared.Cause.{Cause}
 use Rattle.wal.specs.declared.Cause.TheVariants.{HeaderShort, PayloadMissing, ChecksumWrong}
 use Rattle.wal.specs.declared.Ending.{Ending}
 use Rattle.wal.specs.declared.Ending.TheVariants as code
+use Rattle.wal.specs.declared.Walker.{Walker}
 use Rattle.wal.specs.declared.WalRead.{WalRead}
 
 -- The log as commit and recovery see it, by its status and its entries; absent where it has no valid header.
@@ -36,6 +38,11 @@ abbrev pub cause_of : Cause → model.Cause
 cause_of HeaderShort = model.header_short
 cause_of PayloadMissing = model.payload_missing
 cause_of ChecksumWrong = model.checksum_wrong
+
+-- The number of a cause that is told, 0 for none.
+abbrev pub cause_if : std.Option Cause → ℕ
+cause_if None = 0
+cause_if (Some c) = model.cause_number (cause_of c)
 
 -- An entry: where its payload starts and ends; or how it is broken.
 abbrev pub Entry : Type 0
@@ -77,6 +84,20 @@ HeadAt log at (Err c) = EntryAt log at (Err c)
 -- The checksum of the payload that the head at a place says, where it is known.
 abbrev pub Known : Bytes → ℕ → std.Option ℕ → Type 0
 Known log at ahead = IfSome ahead (λ sum. sum ≡ crc32 (payload_at log (at + 8) (at + 8 + u32_at log (at + 4))))
+
+-- A walker has the table, and knows the checksum of its next entry's payload where it says one.
+abbrev pub CanWalk : Walker → Type 0
+CanWalk w = (w.table.now ≡ byte_table) × Known w.log.now w.at w.ahead
+
+-- Where a walker goes on: behind the payload; behind a broken entry at the log's end.
+abbrev pub place_behind : Bytes → Entry → ℕ
+place_behind log (Ok r) = r.end
+place_behind log (Err c) = length log
+
+-- What a walker hands out and what becomes of it: the entry at its place, up to the log's end.
+abbrev pub GivesEntry : Walker → std.Option Entry → Walker → Type 0
+GivesEntry w None v = (length w.log.now ≤ w.at) × (v ≡ w)
+GivesEntry w (Some e) v = (w.at < length w.log.now) × EntryAt w.log.now w.at e × (v.log ≡ w.log) × (v.at ≡ place_behind w.log.now e)
 
 abbrev pub ending_of : Ending → model.Ending
 ending_of code.Whole = model.whole

@@ -1,16 +1,16 @@
 // The log: wal.rs. 01, How a store is handed over: the header and the entries; Corners, wal.rs.
 #![tactic(auto)]
 
-ghost use Rattle.std.specs.Prelude.{◌≡◌, [], ◌∷◌, slice_index, is_some, IfSome, MatchResult};
+ghost use Rattle.std.specs.Prelude.{◌≡◌, ◌-◌, [], ◌∷◌, length, slice_index, is_some, None, IfSome, IfOk, MatchResult};
+ghost use Rattle.std.specs.Iterator.{at_most};
 ghost use Rattle.basics.specs.Crc32.{crc32};
 ghost use Rattle.basics.specs.Status.{status_byte};
 ghost use Rattle.model.specs.Operation.{encode_payload};
 ghost use Rattle.model.specs.Log.{cause_number, ending_cause, header, valid_header, entry, entries, read_journal};
 ghost use Rattle.field.specs.Writing.{written};
-ghost use Rattle.crc32.specs.Table.{byte_table};
 ghost use Rattle.spans.specs.Spans.{name_of};
 ghost use Rattle.transaction.specs.Operations.{op_of, Bounds, WritesOp};
-ghost use Rattle.wal.specs.Logs.{journal_of, payload_at, cause_of, ending_of, HeadAt, EntryAt, Known, ReadsLog, WalksLog};
+ghost use Rattle.wal.specs.Logs.{journal_of, payload_at, cause_of, cause_if, ending_of, HeadAt, PayloadHead, EntryAt, Known, CanWalk, GivesEntry, ReadsLog, WalksLog};
 
 use arrayvec::ArrayVec;
 use basics::Status;
@@ -52,13 +52,13 @@ pub enum Ending {
 }
 
 impl Ending {
-    // The number of the cause that an ending tells, 0 for none.
-    pub fn cause(self) -> u32
-        ensures { result ≡ ending_cause (ending_of self) }
+    // The cause that an ending tells.
+    pub fn cause(self) -> Option<Cause>
+        ensures { cause_if result ≡ ending_cause (ending_of self) }
     {
         match self {
-            Ending::Truncated(cause) => u32::from(cause),
-            Ending::Whole | Ending::Undecodable | Ending::TooMany => 0,
+            Ending::Truncated(cause) => Some(cause),
+            Ending::Whole | Ending::Undecodable | Ending::TooMany => None,
         }
     }
 }
@@ -98,7 +98,7 @@ fn status_header(status: Status) -> [u8; 8]
     h
 }
 
-// The log's header with any second byte: a status, or what a store's log may name there.
+// The log's header with any second byte: a status, or what a store's log may name there. A `Status` as the parameter would ask more of callers.
 pub fn encode_header(status: u8) -> [u8; 8]
     ensures { result ≡ header status }
 {
@@ -142,7 +142,7 @@ pub fn payload(log: &[u8], start: usize, end: usize) -> &[u8]
 }
 
 // The entry that stands at `at`, by its head: where its payload stands. 01, Corners, wal.rs: what is truncated; 02, item 1: the tests in this order, the
-// checksum's last (`next_entry`).
+// checksum's last (`held_to`).
 pub fn entry_at(log: &[u8], at: usize) -> Result<Range<usize>, Cause>
     ensures { HeadAt log.now at result }
 {
@@ -157,126 +157,135 @@ pub fn entry_at(log: &[u8], at: usize) -> Result<Range<usize>, Cause>
     Ok(start..start + len)
 }
 
-// The log walker: it borrows the log and remembers its next entry. 01, Forms that change shape: "The loop of `read_wal`".
+// The entry that was found at `at`, held to the checksum of its payload. 02, item 1: "3 checksum wrong."
+fn held_to(sum: u32, log: &[u8], at: usize, found: Range<usize>) -> Result<Range<usize>, Cause>
+    requires { PayloadHead log.now at found.start found.end × (sum ≡ crc32 (payload_at log.now found.start found.end)) }
+    ensures entry { EntryAt log.now at result }
+    ensures same { IfOk result (λ held. held ≡ found) }
+{
+    if field::u32_at(log, at) != sum {
+        return Err(Cause::ChecksumWrong);
+    }
+    Ok(found)
+}
+
+// The log walker: it borrows the log and the checksums' table, and remembers where its next entry stands, and that entry's checksum where it is known.
+// 01, Forms that change shape: "The loop of `read_wal`".
 #[derive(Clone, Copy)]
 pub struct Walker<'a> {
     pub log: &'a [u8],
     pub at: usize,
+    table: &'a [u32; 256],
+    ahead: Option<u32>,
 }
 
 impl<'a> Walker<'a> {
-    // A walker behind the header.
-    pub fn new(log: &'a [u8]) -> Walker<'a>
-        ensures { (result.log ≡ log.entry) × (result.at ≡ 8) }
+    // A walker from a place of the log on.
+    pub fn new(log: &'a [u8], table: &'a [u32; 256], at: usize) -> Self
+        ensures place { (result.log ≡ log.entry) × (result.at ≡ at) }
+        ensures sums { (result.table ≡ table.entry) × (result.ahead ≡ None) }
     {
         Walker {
             log,
-            at: WAL_FILE_HEADER_SIZE,
+            at,
+            table,
+            ahead: None,
         }
     }
 
-    // The walker's next entry, by its head.
-    pub fn next(self) -> Result<Range<usize>, Cause>
-        ensures { HeadAt self.entry.log.now self.entry.at result }
+    // The checksum of the next entry's payload, which is taken here unless it is known, and in turn with it that of the entry behind, if the head of one
+    // stands there.
+    fn sums(&self, found: &Range<usize>) -> (u32, Option<u32>)
+        requires { CanWalk self.now × PayloadHead self.now.log.now self.now.at found.now.start found.now.end }
+        ensures sum { result.0 ≡ crc32 (payload_at self.now.log.now found.now.start found.now.end) }
+        ensures behind { Known self.now.log.now found.now.end result.1 }
     {
-        entry_at(self.log, self.at)
+        if let Some(sum) = self.ahead {
+            return (sum, None);
+        }
+        let here = payload(self.log, found.start, found.end);
+        match entry_at(self.log, found.end) {
+            Err(_) => (crc32::hash_by(self.table, here), None),
+            Ok(next) => {
+                let behind = payload(self.log, next.start, next.end);
+                let (sum, ahead) = crc32::hash_two(self.table, here, behind);
+                (sum, Some(ahead))
+            }
+        }
     }
 
-    // The walker behind the payload that ends at `end`.
-    pub fn advance(self, end: usize) -> Walker<'a>
-        ensures { (result.log ≡ self.entry.log) × (result.at ≡ end) }
+    // The next entry, held to its checksum; with it the checksum of the entry behind it, where that was taken too.
+    fn entry(&self) -> Result<(Range<usize>, Option<u32>), Cause>
+        requires { CanWalk self.now }
+        ensures { MatchResult result (λ x. EntryAt self.now.log.now self.now.at (Ok x.0) × Known self.now.log.now x.0.end x.1)
+            (λ cause. EntryAt self.now.log.now self.now.at (Err cause)) }
     {
-        Walker {
-            log: self.log,
-            at: end,
+        let found = entry_at(self.log, self.at)?;
+        let (sum, behind) = self.sums(&found);
+        let held = held_to(sum, self.log, self.at, found)?;
+        Ok((held, behind))
+    }
+}
+
+// The entries of a log, each held to its checksum, up to the log's end. A broken entry does not say where the next one stands: it is the last.
+impl<'a> Iterator for Walker<'a> {
+    type Item = Result<Range<usize>, Cause>;
+
+    ghost can_next = { CanWalk };
+
+    ghost next_gives = { GivesEntry };
+
+    ghost remaining = { λ w. at_most (length w.log.now - w.at) };
+
+    fn next(&mut self) -> Option<Result<Range<usize>, Cause>> {
+        if self.log.len() <= self.at {
+            return None;
+        }
+        match self.entry() {
+            Ok((found, behind)) => {
+                self.at = found.end;
+                self.ahead = behind;
+                Some(Ok(found))
+            }
+            Err(cause) => {
+                self.at = self.log.len();
+                self.ahead = None;
+                Some(Err(cause))
+            }
         }
     }
 }
 
-// The entry that a walker at `at` comes to, by its head.
-pub fn entry_from(log: &[u8], at: usize) -> Result<Range<usize>, Cause>
-    ensures { HeadAt log.now at result }
-{
-    Walker::new(log).advance(at).next()
-}
-
-// The checksum of a payload, which is taken here unless it is known, and in turn with it that of the entry behind, if the head of one stands there.
-fn sums_from(
-    t: &[u32; 256],
-    log: &[u8],
-    start: usize,
-    end: usize,
-    ahead: Option<u32>,
-) -> (u32, Option<u32>)
-    requires { (t.now ≡ byte_table) × IfSome ahead (λ sum. sum ≡ crc32 (payload_at log.now start end)) }
-    ensures sum { result.0 ≡ crc32 (payload_at log.now start end) }
-    ensures behind { Known log.now end result.1 }
-{
-    if let Some(sum) = ahead {
-        return (sum, None);
-    }
-    let here = payload(log, start, end);
-    match entry_from(log, end) {
-        Err(_) => (crc32::hash_by(t, here), None),
-        Ok(next) => {
-            let (sum, ahead) = crc32::hash_two(t, here, payload(log, next.start, next.end));
-            (sum, Some(ahead))
-        }
-    }
-}
-
-// The entry at `at`, held to its checksum, which is known or not; with it the checksum of the entry behind it, where that was taken too.
-fn next_entry(
-    t: &[u32; 256],
-    log: &[u8],
-    at: usize,
-    ahead: Option<u32>,
-) -> Result<(Range<usize>, Option<u32>), Cause>
-    requires { (t.now ≡ byte_table) × Known log.now at ahead }
-    ensures { MatchResult result (λ x. EntryAt log.now at (Ok x.0) × Known log.now x.0.end x.1) (λ cause. EntryAt log.now at (Err cause)) }
-{
-    let found = entry_from(log, at)?;
-    let (sum, behind) = sums_from(t, log, found.start, found.end, ahead);
-    if field::u32_at(log, at) != sum {
-        return Err(Cause::ChecksumWrong);
-    }
-    Ok((found, behind))
-}
-
-// The entries from `first` on, up to `end`: at most 32 operations. 01: "an entry that does not decode ends the walk at once".
+// The entries from `first` on, up to `end`: at most 32 operations, and no entry behind these is judged. 01: "an entry that does not decode ends the walk
+// at once".
 fn walk_entries(src: &[u8], first: usize, end: usize) -> WalRead
     requires { Bounds src.now first end }
     ensures { WalksLog src.now first end result }
 {
     let mut ops = ArrayVec::new();
+    let mut ending = Ending::Whole;
     if end <= first {
-        return WalRead {
-            ops,
-            ending: Ending::Whole,
-        };
+        return WalRead { ops, ending };
     }
     let table = crc32::byte_table();
-    let log = &src[..end];
-    let mut at = first;
-    let mut ahead = None;
-    let ending = loop {
-        if end <= at {
-            break Ending::Whole;
-        }
-        if basics::OPERATION_LIMIT <= ops.len() {
-            break Ending::TooMany;
-        }
-        let (found, behind) = match next_entry(&table, log, at, ahead) {
-            Ok(entry) => entry,
-            Err(cause) => break Ending::Truncated(cause),
+    for entry in Walker::new(&src[..end], &table, first) {
+        let found = match entry {
+            Ok(found) => found,
+            Err(cause) => {
+                ending = Ending::Truncated(cause);
+                break;
+            }
         };
         let Some(op) = transaction::decode_operation(src, found.start, found.end) else {
-            break Ending::Undecodable;
+            ending = Ending::Undecodable;
+            break;
         };
         ops.push(op);
-        at = found.end;
-        ahead = behind;
-    };
+        if basics::OPERATION_LIMIT <= ops.len() && found.end < end {
+            ending = Ending::TooMany;
+            break;
+        }
+    }
     WalRead { ops, ending }
 }
 
@@ -299,18 +308,15 @@ pub fn read_wal(src: &[u8], start: usize, end: usize) -> WalRead
 }
 
 // The entry of an operation written at `at`, and how long it is; none where its names do not all lie in the bytes.
-pub fn append_operation(src: &[u8], op: Operation, out: &mut [u8], at: usize) -> usize
+pub fn append_operation(src: &[u8], op: Operation, out: &mut [u8], at: usize) -> Option<usize>
     ensures { WritesOp src.now op (entry (encode_payload (op_of src.now op))) at out.old out.new result }
 {
-    let payload = transaction::payload_of(src, op);
-    if payload.is_empty() {
-        return 0;
-    }
+    let payload = transaction::payload_of(src, op)?;
     let len = ENTRY_HEADER_SIZE + payload.len();
     if len <= out.len().saturating_sub(at) {
         field::put_u32(out, at, crc32::hash(&payload));
         field::put_u32(out, at + 4, payload.len() as u32);
         field::put_bytes(out, at + ENTRY_HEADER_SIZE, &payload);
     }
-    len
+    Some(len)
 }

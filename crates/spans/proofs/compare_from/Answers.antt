@@ -1,31 +1,34 @@
+-- `compare_from` meets its contract: the library's order of what is left of both.
+use mathlib.Core.Path.{◌≡◌, refl, ap, ap₂, ◌∙◌}
+use mathlib.Core.List.{◌++◌}
+use Prim.Native.Nat.{◌-◌}
 use native.Mathlib.Omega.{arith}
-use mathlib.Core.Path.{refl}
-use Rattle.spans.proofs.Walk.{begun, less, greater, next, short, long, both}
+use lib.ListN.{length, take, drop}
+use Rattle.std.specs.Ordering.{nat_cmp}
+use Rattle.std.proofs.lemmas.Iterator.Consumers.{YieldsList-at}
+use Rattle.std.proofs.lemmas.Iterator.Search.{cmp_from_yields_List}
+use Rattle.basics.specs.Base.{Bytes}
+use Rattle.basics.specs.Order.{cmp_name}
+use Rattle.paths.specs.Compare.{order_of}
+use Rattle.paths.proofs.Order.{slice-name}
+use Rattle.spans.proofs.Chains.{chained}
+use Rattle.spans.proofs.Parts.{left}
+use Rattle.spans.proofs.Walk.{same_spans, only_spans}
 use Rattle.spans.proofs.compare_from.Goals as goal
+use Rattle.spans.proofs.compare_from.Goals.{then-a-b-via-then-a-b, then-a-b-via-else-a-b+then-b-eq0}
 
-pub loop-i-init : goal.loop-i-init
-loop-i-init c = begun c.requires.0.0 c.requires.0.1 (omega arith) (omega arith) refl
+pub returns : goal.returns
+returns c =
+    let a : Bytes = take (length c.slices.result.0.now - c.args.at) (drop c.args.at c.slices.result.0.now) in
+    let b : Bytes = take (length c.slices-2.result.0.now - c.args.at) (drop c.args.at c.slices-2.result.0.now) in
+    let x = chained a c.slices.result.1.now c.chain.ensures.first c.iter.ensures.rest c.chain.ensures.second.0 c.chain.ensures.first_done c.chain.ensures.second_done in
+    let y = chained b c.slices-2.result.1.now c.chain-2.ensures.first c.iter-2.ensures.rest c.chain-2.ensures.second.0 c.chain-2.ensures.first_done c.chain-2.ensures.second_done in
+    ap order_of (cmp_from_yields_List (λ o i. i ≡ o) c.chain-2.result nat_cmp c.cmp-2.result c.cmp-2.ensures.ran x (λ i e. YieldsList-at e y) (λ u v. refl)) ∙ slice-name (a ++ c.slices.result.1.now) (b ++ c.slices-2.result.1.now)
+    ∙ ap₂ cmp_name (left c.requires.0.0 _ _ _ c.slices.ensures.whole c.slices.ensures.lengths.0 (omega arith)) (left c.requires.0.1 _ _ _ c.slices-2.ensures.whole c.slices-2.ensures.lengths.0 (omega arith))
 
-pub returns-then-m-i : goal.returns-then-m-i
-returns-then-m-i c = long c.loop-i.invariant (omega arith) (omega arith)
-
-pub byte_at-x-requires : goal.byte_at-x-requires
-byte_at-x-requires c = (c.loop-i.invariant.left-sound, omega arith)
-
-pub byte_at-y-requires : goal.byte_at-y-requires
-byte_at-y-requires c = (c.loop-i.invariant.right-sound, omega arith)
-
-pub returns-then-x-y : goal.returns-then-x-y
-returns-then-x-y c = less c.loop-i.invariant (omega arith) (omega arith) c.byte_at-x.ensures c.byte_at-y.ensures c.if-x-y.true
-
-pub returns-then-y-x : goal.returns-then-y-x
-returns-then-y-x c = greater c.loop-i.invariant (omega arith) (omega arith) c.byte_at-x.ensures c.byte_at-y.ensures c.if-y-x.true
-
-pub loop-i-preserved : goal.loop-i-preserved
-loop-i-preserved c = next c.loop-i.invariant (omega arith) (omega arith) c.byte_at-x.ensures c.byte_at-y.ensures c.if-y-x.false c.if-x-y.false
-
-pub returns-then-i-m : goal.returns-then-i-m
-returns-then-i-m c = short c.loop-i.invariant (omega arith) (omega arith)
-
-pub returns-else-i-m : goal.returns-else-i-m
-returns-else-i-m c = both c.loop-i.invariant (omega arith) (omega arith)
+pub returns-then-a-b : goal.returns-then-a-b
+returns-then-a-b c =
+    elim c.then-a-b.branch [
+      | then-a-b-via-then-a-b w ↦ same_spans c.requires.0.0 c.requires.0.1 _ _ _ c.length_of.ensures.0 c.length_of-then-a-b.ensures.0 _ c.cmp.ensures (omega (arith, w.if-a-b.true)) (omega (arith, w.if-a-b.true))
+      | then-a-b-via-else-a-b+then-b-eq0 w ↦ only_spans c.requires.0.0 c.requires.0.1 _ _ _ c.length_of.ensures.0 c.length_of-then-a-b.ensures.0 _ c.cmp.ensures c.requires.1 w.if-b-eq0.true.0 w.if-b-eq0.true.1
+    ]

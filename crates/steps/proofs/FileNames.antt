@@ -1,6 +1,6 @@
 -- The name of a file is not empty, and a name that is not empty is one; so is every name of a directory's listing.
 use mathlib.Core.Path.{◌≡◌, refl, ap, subst}
-use mathlib.Core.List.{List, [], ◌∷◌}
+use mathlib.Core.List.{[], ◌∷◌}
 use Prim.Native.Nat.{ℕ, ◌≤◌, ◌<◌}
 use native.Mathlib.Omega.{arith}
 use lib.ListN.{length, get_or}
@@ -13,9 +13,9 @@ use Rattle.basic_laws.specs.Tests.{All, all_drop, in_all}
 use Rattle.spans.specs.Spans.{name_of, Sound}
 use Rattle.spans.specs.declared.NameRef.{NameRef}
 use Rattle.spans.proofs.Parts.{length-name}
-use Rattle.store.specs.Words.{name_at}
+use Rattle.arrayvec.specs.ArrayVec.{ArrayVec}
 use Rattle.store.specs.Tables.{Lists}
-use Rattle.store.proofs.Listed.{listed-sound, listed-rest}
+use Rattle.store.proofs.Listed.{no_name, listed-sound, listed-rest}
 use Rattle.steps.specs.Steps.{FileName}
 
 module _ {src : Bytes} {r : NameRef} where
@@ -30,8 +30,8 @@ module _ {src : Bytes} {r : NameRef} where
       some (y ∷ ys) h = omega arith
 
 -- A directory's files are listed: the name r at i is a file's.
-module _ {src : Bytes} {l : List ℕ} {n : ℕ} (d : Name) (m : Map) (s : Lists src l n (files d m)) where
-  pub listed-named : {i : ℕ} {r : NameRef} → r ≡ name_at (get_or l i 0) → i < n → FileName src r
+module _ {src : Bytes} {l : ArrayVec NameRef} (d : Name) (m : Map) (s : Lists src l (files d m)) where
+  pub listed-named : {i : ℕ} {r : NameRef} → r ≡ get_or l.items i no_name → i < length l.items → FileName src r
   listed-named {i} e h =
       file-name (listed-sound s e h)
       (subst (All Named) (listed-rest s e h) (all_drop Named i (files d m) (in_all Named (files d m) (files-named d m)))).0

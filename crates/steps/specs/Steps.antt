@@ -1,8 +1,9 @@
 -- What a `Step` stands for, and what lets it be done on a store.
-use Rattle.std.specs.Prelude.{◌≡◌, ◌≤◌, length}
+use Rattle.std.specs.Prelude.{◌≡◌, ◌≤◌, length, Some}
 use Rattle.std.proofs.Math.Option.{none}
 use Rattle.basics.specs.Limits.{dir_limit, file_limit}
 use Rattle.basics.specs.Base.{Bytes}
+use Rattle.basics.specs.declared.Status.{Status}
 use Rattle.basics.specs.Map.{Map}
 use Rattle.model.specs.Store as model
 use Rattle.model.specs.Store.{dirs, file_count}
@@ -11,7 +12,9 @@ use Rattle.model.specs.Step.{step_fault, apply}
 use Rattle.spans.specs.Spans.{name_of, length_of, Sound}
 use Rattle.spans.specs.declared.NameRef.{NameRef}
 use Rattle.store.specs.Tables.{map_of}
-use Rattle.store.specs.Stores.{LentStore, store_of, SoundStore}
+use Rattle.store.specs.Stores.{store_of, SoundStore}
+use Rattle.store.specs.declared.LogRef.{LogRef}
+use Rattle.store.specs.declared.Store.{Store}
 use Rattle.steps.specs.declared.Step.{Step}
 use Rattle.steps.specs.declared.Step.TheVariants as code
 
@@ -66,7 +69,7 @@ pub record Within (t : Map) : Type 0 where
   pub files : file_count t ≤ file_limit
 
 -- What every store that steps are done on meets: so there is room for one node more.
-pub record Fits (src : Bytes) (s : LentStore) : Type 0 where
+pub record Fits (src : Bytes) (s : Store) : Type 0 where
   pub sound : SoundStore src s
   pub within : Within (map_of src s.tree)
 
@@ -89,7 +92,11 @@ Allowed (step.remove_directory d) s = Unit {0}
 Allowed (step.remove_staging f) s = Unit {0}
 Allowed (step.sync_directory d) s = Unit {0}
 
--- What `apply` answers.
-pub record Applied (src : Bytes) (x : Step) (s r : LentStore) : Type 0 where
+-- A log whose header is rewritten with a status.
+abbrev pub rewritten_as : Status → LogRef → LogRef
+rewritten_as s l = record { start = l.start; len = l.len; rewritten = Some s }
+
+-- What `apply` makes.
+pub record Applied (src : Bytes) (x : Step) (s r : Store) : Type 0 where
   pub fits : Fits src r
   pub same : store_of src r ≡ apply (step_of src x) (store_of src s)

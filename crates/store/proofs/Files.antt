@@ -1,6 +1,6 @@
 -- Where the files of a directory stand in a sorted map, and whether it has one.
 use mathlib.Core.Path.{◌≡◌, refl, sym, ap, subst, ◌∙◌}
-use mathlib.Core.List.{[], ◌∷◌, ◌++◌}
+use mathlib.Core.List.{List, [], ◌∷◌, ◌++◌}
 use mathlib.Core.Bool.{Bool, true, false, not, false≢true}
 use Prim.Native.Nat.{ℕ, zero, suc, ◌+◌, ◌≤◌, ◌<◌}
 use native.Mathlib.Numerals.{add-one}
@@ -14,15 +14,16 @@ use Rattle.basic_laws.specs.OrderLaws.{name_laws, lt≢eq, lt≢gt, gt≢eq}
 use Rattle.basic_laws.specs.MapLaws.{Sorted}
 use Rattle.basic_laws.specs.Tests.{All}
 use Rattle.spans.specs.Spans.{name_of}
+use Rattle.std.specs.Prelude.{Result, Ok, Err, Option, None, Some}
+use Rattle.std.specs.Option.{MatchOption, option_map, unwrap_or}
+use lib.ListN.{length}
+use Rattle.store.proofs.Live.{same_item}
 use Rattle.store.specs.declared.Node as code
-use Rattle.store.specs.declared.Found.{Found}
-use Rattle.store.specs.declared.Found.TheVariants.{At, Missing}
+use Rattle.store.specs.declared.Table.{Table}
 use Rattle.store.specs.Places.{Under, Over}
-use Rattle.store.specs.Words.{blank}
-use Rattle.store.specs.Tables.{Table, node_of, map_of, SoundTable, Finds, FilesFrom}
-use Rattle.store.proofs.Live.{finished}
+use Rattle.store.specs.Tables.{node_of, live, map_of, SoundTable, Finds, FilesFrom}
+use Rattle.store.proofs.Live.{blank, finished, rest_read}
 use Rattle.store.proofs.Places.{above-all}
-use Rattle.store.proofs.Read.{rest_read}
 
 module _ (d : Name) where
   -- What stands below a directory's own node is no file of it.
@@ -58,11 +59,11 @@ module _ (d : Name) where
       past eq p q = rw (← name_laws.equal k.0 n.0.0 p) e
       past gt p q = lt≢gt (sym q)
 
-  module _ {m : Map} {r : Found} {f : Name} (e : f ≡ []) (h : Finds (d, f) m r) where
+  module _ {m : Map} {r : Result ℕ ℕ} {f : Name} (e : f ≡ []) (h : Finds (d, f) m r) where
     found : Finds (d, []) m r
     found = rw e at h
 
-    pub from-hit : {i : ℕ} → r ≡ At i → FilesFrom d m (i + 1)
+    pub from-hit : {i : ℕ} → r ≡ Ok i → FilesFrom d m (i + 1)
     from-hit {i} p =
         let g = (found.at i p).1 in
         record {
@@ -71,7 +72,7 @@ module _ (d : Name) where
           above = rw (add-one i) g.over;
         }
 
-    pub from-gap : {i : ℕ} → r ≡ Missing i → FilesFrom d m i
+    pub from-gap : {i : ℕ} → r ≡ Err i → FilesFrom d m i
     from-gap {i} p =
         let g = found.missing i p in
         record {
@@ -109,15 +110,15 @@ sorted-from (suc i) (n ∷ m) s = sorted-from i m s.1
 
 -- The files from place i of a table on, all behind the directory's own node.
 module _ {src : Bytes} {t : Table} (s : SoundTable src t) (d : Name) (i : ℕ) where
-  abbrev left : Map
-  left = drop i (map_of src t)
+  abbrev rest : Map
+  rest = drop i (map_of src t)
 
-  pub none_left : t.len ≤ i → files d left ≡ []
+  pub none_left : length (live t) ≤ i → files d rest ≡ []
   unfolding files
-  none_left h = ap (files d) (finished src i s.sized h)
+  none_left h = ap (files d) (finished src t i h)
 
-  module _ {x : code.Node} (a : All (Over (d, [])) left) (h : i < t.len) (r : x ≡ get_or t.nodes i blank) where
-    listed : left ≡ node_of src x ∷ drop (i + 1) (map_of src t)
+  module _ {x : code.Node} (a : All (Over (d, [])) rest) (h : i < length (live t)) (r : x ≡ get_or (live t) i blank) where
+    listed : rest ≡ node_of src x ∷ drop (i + 1) (map_of src t)
     listed = rest_read s h r
 
     over : Over (d, []) (node_of src x) × All (Over (d, [])) (drop (i + 1) (map_of src t))
@@ -126,10 +127,10 @@ module _ {src : Bytes} {t : Table} (s : SoundTable src t) (d : Name) (i : ℕ) w
     pub above-next : All (Over (d, [])) (drop (i + 1) (map_of src t))
     above-next = over.1
 
-    pub one_left : same_bytes d (name_of src x.dir) ≡ true → files d left ≡ name_of src x.file ∷ files d (drop (i + 1) (map_of src t))
+    pub one_left : same_bytes d (name_of src x.dir) ≡ true → files d rest ≡ name_of src x.file ∷ files d (drop (i + 1) (map_of src t))
     one_left e = ap (files d) listed ∙ first-file d (node_of src x) (drop (i + 1) (map_of src t)) over.0 e
 
-    pub other-left : same_bytes d (name_of src x.dir) ≡ false → files d left ≡ []
+    pub other-left : same_bytes d (name_of src x.dir) ≡ false → files d rest ≡ []
     other-left e = ap (files d) listed ∙ no-file d (node_of src x) (drop (i + 1) (map_of src t)) over.0 e (subst Sorted listed (sorted-from i (map_of src t) s.sorted))
 
 -- `is_dir_empty`.
@@ -137,12 +138,18 @@ module _ {src : Bytes} {t : Table} {d : Name} {i : ℕ} (s : SoundTable src t) (
   abbrev vacant : Bool
   vacant = if_empty (files d (map_of src t)) true false
 
-  pub vacant-end : t.len ≤ i → true ≡ vacant
+  pub vacant-end : length (live t) ≤ i → true ≡ vacant
   vacant-end h = rw (g.same, none_left s d i h) refl
 
-  pub vacant-by : {x : code.Node} {b : Bool} → i < t.len → x ≡ get_or t.nodes i blank → b ≡ same_bytes d (name_of src x.dir) → not b ≡ vacant
+  pub vacant-by : {x : code.Node} {b : Bool} → i < length (live t) → x ≡ get_or (live t) i blank → b ≡ same_bytes d (name_of src x.dir) → not b ≡ vacant
   vacant-by {x} {b} h r e = go b e
     where
       go : (b : Bool) → b ≡ same_bytes d (name_of src x.dir) → not b ≡ vacant
       go true e = rw (g.same, one_left s d i g.above h r (sym e)) refl
       go false e = rw (g.same, other-left s d i g.above h r (sym e)) refl
+
+  -- The node at i, if one stands there, and what a closure answers of it.
+  pub vacant_next : {A : Type 0} (now : A → code.Node) (R P : A → Type 0) {xs : List code.Node} (o : Option A) (b : Bool) → xs ≡ live t → MatchOption o (length xs ≤ i) (λ x. (i < length xs) × R x)
+      → unwrap_or (option_map now o) blank ≡ get_or xs i blank → MatchOption o (b ≡ true) P → ((x : A) → P x → b ≡ not (same_bytes d (name_of src (now x).dir))) → b ≡ vacant
+  vacant_next now R P None b e m w p k = p ∙ vacant-end (rw e at m)
+  vacant_next now R P (Some x) b e m w p k = k x p ∙ vacant-by (rw e at m.0) (w ∙ same_item i e) refl

@@ -1,5 +1,5 @@
 -- Which of a table's nodes are directories, and what is listed of them.
-use mathlib.Core.Path.{◌≡◌, refl, sym, ◌∙◌}
+use mathlib.Core.Path.{◌≡◌, refl, sym}
 use mathlib.Core.List.{[], ◌∷◌}
 use mathlib.Core.Bool.{true, false, false≢true}
 use Prim.Native.Nat.{ℕ}
@@ -18,13 +18,13 @@ use Rattle.store.specs.Tables.{node_of}
 use Rattle.store.specs.Nodes.{is_dir}
 
 -- A name of no byte, by its length.
-pub dir-told : {src : Bytes} (x : code.Node) (n : ℕ) → Sound src x.file → n ≡ length_of x.file → eqb n 0 ≡ is_dir (node_of src x)
+pub dir-told : {src : Bytes} (x : code.Node) → Sound src x.file → eqb (length_of x.file) 0 ≡ is_dir (node_of src x)
 unfolding is_dir
-dir-told {src} x n s e = go (name_of src x.file) (e ∙ sym (length-name s))
+dir-told {src} x s = go (name_of src x.file) (length_of x.file) (sym (length-name s))
   where
-    go : (f : Name) → n ≡ length f → eqb n 0 ≡ if_empty f true false
-    go [] e = eq-eqb n 0 e
-    go (y ∷ ys) e = ne_eqb n 0 (λ z. omega arith)
+    go : (f : Name) (n : ℕ) → n ≡ length f → eqb n 0 ≡ if_empty f true false
+    go [] n e = eq-eqb n 0 e
+    go (y ∷ ys) n e = ne_eqb n 0 (λ z. omega arith)
 
 module _ (n : Node) (r : Map) where
   pub dir-listed : is_dir n ≡ true → dirs (n ∷ r) ≡ n.0.0 ∷ dirs r

@@ -1,12 +1,11 @@
 -- A directory renamed: it is removed, and then its nodes are put in under the new name.
 use Rattle.std.specs.Prelude.{if◌then◌else◌}
 use mathlib.Core.Path.{◌≡◌, refl, sym, ap, ◌∙◌}
-use mathlib.Core.List.{List, [], ◌∷◌, map}
+use mathlib.Core.List.{[], ◌∷◌}
 use mathlib.Core.Bool.{Bool, true, false}
 use Prim.Native.Nat.{ℕ, suc, ◌+◌, ◌≤◌, ◌<◌}
 use native.Mathlib.Omega.{arith}
-use lib.ListN.{length, take, drop, get_or}
-use lib.Seq.{get_or-take}
+use lib.ListN.{length, drop, get_or}
 use Rattle.basics.specs.Order.{Cmp, lt, eq, gt, Name, Key, cmp_name, case_cmp}
 use Rattle.basics.specs.Map as model
 use Rattle.basics.specs.Map.{Map, put, del}
@@ -16,15 +15,14 @@ use Rattle.basic_laws.specs.OrderLaws.{name_laws, key_laws, lt≢eq}
 use Rattle.basic_laws.specs.MapLaws.{Sorted, sorted-put, sorted-del, commute}
 use Rattle.laws.specs.TreeLaws.{one, length-size, size-put_le}
 use Rattle.basic_laws.specs.Tests.{All}
-use Rattle.spans.specs.Spans.{name_of, Sound}
+use Rattle.spans.specs.Spans.{name_of}
 use Rattle.spans.specs.declared.NameRef.{NameRef}
 use Rattle.store.specs.declared.Node.{Node}
 use Rattle.store.specs.Places.{Over, put_in, table_room}
-use Rattle.store.specs.Words.{Words, node_at, nodes_of, blank}
-use Rattle.store.specs.Tables.{Table, key_of, node_of, live, map_of, SoundNode, SoundTable, Holds}
-use Rattle.store.proofs.Lists.{map-take, drop-zero}
-use Rattle.store.proofs.Live.{length-table, finished}
-use Rattle.store.proofs.Read.{sound-read, rest_read}
+use Rattle.store.specs.declared.Table.{Table}
+use Rattle.store.specs.Tables.{key_of, node_of, live, map_of, SoundNode, SoundTable, Holds}
+use Rattle.store.proofs.Lists.{drop-zero}
+use Rattle.store.proofs.Live.{blank, length-table, finished, sound-read, rest_read}
 use Rattle.store.proofs.Places.{above-all, flipped, del-over}
 use Rattle.store.proofs.Room.{room-put}
 use Rattle.store.proofs.Sweep.{by-same}
@@ -109,110 +107,65 @@ module _ (a b : Name) where
   pub renamed : (m : Map) → Sorted m → rename_dir a b m m ≡ put_all m (remove_dir a m)
   renamed m s = split m m s s ∙ ap (put_all m) (removed a m s)
 
--- `rename_dir`: what is left of the listing is put into u; the places that the removed nodes left are enough. The first n nodes of `old` are those of
--- the table t as it stood.
-pub record Renaming (src : Bytes) (old : List Node) (n : ℕ) (u : Table) (from to : NameRef) (i : ℕ) : Type 0 where
-  pub t : Table
-  pub copied : take n old ≡ live t
-  pub len : n ≡ t.len
-  pub sound : SoundTable src t
-  pub sound-from : Sound src from
-  pub sound-to : Sound src to
+-- `rename_dir`: what is left of the table t as it stood is put into u; the places that the removed nodes left are enough.
+pub record Renaming (src : Bytes) (t u : Table) (from to : NameRef) (i : ℕ) : Type 0 where
   pub sound_now : SoundTable src u
-  pub within : i ≤ n
-  pub below : n ≤ table_room
-  pub room : u.len + nodes_in (name_of src from) (drop i (map_of src t)) ≤ n
+  pub room : length (live u) + nodes_in (name_of src from) (drop i (map_of src t)) ≤ length (live t)
   pub same : put_all (name_of src from) (name_of src to) (drop i (map_of src t)) (map_of src u) ≡ rename_dir (name_of src from) (name_of src to) (map_of src t) (map_of src t)
 
--- The nodes of words that are copied.
-pub same_nodes : (t u : Words) (n : ℕ) → take n u ≡ take n t → take n (nodes_of u) ≡ take n (nodes_of t)
-same_nodes t u n e = sym (map-take node_at n u) ∙ ap (map node_at) e ∙ map-take node_at n t
-
-pub start : {src : Bytes} {old : List Node} {t u : Table} {from to : NameRef} → SoundTable src t → Sound src from → Sound src to → take t.len old ≡ live t → Holds src u (remove_dir (name_of src from) (map_of src t)) → Renaming src old t.len u from to 0
-start {src} {old} {t} {u} {from} {to} s f g e h =
+pub renaming_start : {src : Bytes} {t u : Table} {from to : NameRef} → SoundTable src t → Holds src u (remove_dir (name_of src from) (map_of src t)) → Renaming src t u from to 0
+renaming_start {src} {t} {u} {from} {to} s h =
     let a : Name = name_of src from in
     let l = length_removed a (map_of src t) in
-    let p : u.len ≡ length (remove_dir a (map_of src t)) = sym (length-table src h.sound.sized) ∙ ap length h.same in
+    let p : length (live u) ≡ length (remove_dir a (map_of src t)) = sym (length-table src u) ∙ ap length h.same in
     record {
-      t = t;
-      copied = e;
-      len = refl;
-      sound = s;
-      sound-from = f;
-      sound-to = g;
       sound_now = h.sound;
-      within = omega arith;
-      below = s.sized.room;
-      room = rw (drop-zero (map_of src t)) (omega (arith, length-table src s.sized));
+      room = rw (drop-zero (map_of src t)) (omega (arith, length-table src t));
       same = rw (drop-zero (map_of src t), h.same) (sym (renamed a (name_of src to) (map_of src t) s.sorted));
     }
 
 -- The node x at i.
-module _ {src : Bytes} {old : List Node} {n : ℕ} {u : Table} {from to : NameRef} {i : ℕ} {x : Node} (w : Renaming src old n u from to i) (h : i < n) (r : x ≡ get_or old i blank) where
-  inside : i < w.t.len
-  inside = rw (← w.len) h
-
-  read : x ≡ get_or w.t.nodes i blank
-  read = r ∙ sym (get_or-take n old i blank h) ∙ ap (λ (l : List Node). get_or l i blank) w.copied ∙ get_or-take w.t.len w.t.nodes i blank inside
-
+module _ {src : Bytes} {t u : Table} {from to : NameRef} {i : ℕ} {x : Node} (w : Renaming src t u from to i) (s : SoundTable src t) (h : i < length (live t)) (r : x ≡ get_or (live t) i blank) where
   pub node : SoundNode src x
-  node = sound-read w.sound inside read
+  node = sound-read s h r
 
   abbrev Of : Bool → Type 0
   Of b = same_bytes (name_of src from) (name_of src x.dir) ≡ b
 
   abbrev left : Map
-  left = drop (i + 1) (map_of src w.t)
+  left = drop (i + 1) (map_of src t)
 
-  listed : drop i (map_of src w.t) ≡ node_of src x ∷ left
-  listed = rest_read w.sound inside read
+  listed : drop i (map_of src t) ≡ node_of src x ∷ left
+  listed = rest_read s h r
 
-  counted : {b : Bool} → Of b → nodes_in (name_of src from) (drop i (map_of src w.t)) ≡ (if b then suc (nodes_in (name_of src from) left) else nodes_in (name_of src from) left)
+  counted : {b : Bool} → Of b → nodes_in (name_of src from) (drop i (map_of src t)) ≡ (if b then suc (nodes_in (name_of src from) left) else nodes_in (name_of src from) left)
   unfolding nodes_in
   counted e = rw listed (by-same (name_of src from) (name_of src x.dir) _ _ e)
 
-  next : {b : Bool} → Of b → put_all (name_of src from) (name_of src to) (drop i (map_of src w.t)) (map_of src u) ≡ put_all (name_of src from) (name_of src to) left (if b then put (key_of src to x.file) x.number (map_of src u) else map_of src u)
+  next : {b : Bool} → Of b → put_all (name_of src from) (name_of src to) (drop i (map_of src t)) (map_of src u) ≡ put_all (name_of src from) (name_of src to) left (if b then put (key_of src to x.file) x.number (map_of src u) else map_of src u)
   unfolding put_all
   next e = rw listed (ap (put_all (name_of src from) (name_of src to) left) (by-same (name_of src from) (name_of src x.dir) _ _ e))
 
-  pub other : {v : Table} → Of false → v ≡ u → Renaming src old n v from to (i + 1)
+  pub other : {v : Table} → Of false → v ≡ u → Renaming src t v from to (i + 1)
   other e p = record {
-    t = w.t;
-    copied = w.copied;
-    len = w.len;
-    sound = w.sound;
-    sound-from = w.sound-from;
-    sound-to = w.sound-to;
     sound_now = rw p w.sound_now;
-    within = omega arith;
-    below = w.below;
     room = rw (p, ← counted e) w.room;
     same = rw p (sym (next e) ∙ w.same);
   }
 
-  pub moved : {v o : Table} → Of true → v ≡ o → Holds src o (put_in (key_of src to x.file) x.number (map_of src u)) → Renaming src old n v from to (i + 1)
+  pub moved : {v o : Table} → Of true → v ≡ o → Holds src o (put_in (key_of src to x.file) x.number (map_of src u)) → Renaming src t v from to (i + 1)
   moved {v} {o} e p q =
       let k : Key = key_of src to x.file in
       let c = counted e in
-      let l : length (map_of src u) < table_room = omega (arith, length-table src w.sound_now.sized, w.room, w.below) in
+      let l : length (map_of src u) < table_room = omega (arith, length-table src u, w.room, s.room) in
       let z : map_of src o ≡ put k x.number (map_of src u) = q.same ∙ room-put k x.number (map_of src u) l in
       let m : length (map_of src o) ≤ 1 + length (map_of src u) = rw (z, length-size (put k x.number (map_of src u)), length-size (map_of src u)) (size-put_le one k x.number (map_of src u)) in
       record {
-        t = w.t;
-        copied = w.copied;
-        len = w.len;
-        sound = w.sound;
-        sound-from = w.sound-from;
-        sound-to = w.sound-to;
         sound_now = rw p q.sound;
-        within = omega arith;
-        below = w.below;
-        room = rw p (omega (arith, length-table src w.sound_now.sized, length-table src q.sound.sized, w.room));
+        room = rw p (omega (arith, length-table src u, length-table src o, w.room));
         same = rw (p, z) (sym (next e) ∙ w.same);
       }
 
-pub end : {src : Bytes} {old : List Node} {t u : Table} {from to : NameRef} {i : ℕ} → SoundTable src t → Renaming src old t.len u from to i → t.len ≤ i → take t.len old ≡ live t → Holds src u (rename_dir (name_of src from) (name_of src to) (map_of src t) (map_of src t))
-unfolding put_all map_of
-end {src} {old} {t} {u} {from} {to} {i} s w h e =
-    let p : map_of src w.t ≡ map_of src t = ap (map (node_of src)) (sym w.copied ∙ e) in
-    record { sound = w.sound_now; same = rw (finished src i w.sound.sized (omega (arith, w.len)), p) at w.same }
+pub renaming_end : {src : Bytes} {t u : Table} {from to : NameRef} {i : ℕ} → Renaming src t u from to i → length (live t) ≤ i → Holds src u (rename_dir (name_of src from) (name_of src to) (map_of src t) (map_of src t))
+unfolding put_all
+renaming_end {src} {t} {u} {from} {to} {i} w h = record { sound = w.sound_now; same = rw (finished src t i h) at w.same }

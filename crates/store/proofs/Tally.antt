@@ -1,9 +1,14 @@
 -- `count`: a node with the empty file name is a directory, any other a file.
-use mathlib.Core.Path.{◌≡◌, refl, sym, ap, ◌∙◌}
-use mathlib.Core.List.{[], ◌∷◌}
-use Prim.Native.Nat.{ℕ, suc, ◌+◌, ◌-◌, ◌≤◌, ◌<◌}
+use mathlib.Core.Path.{◌≡◌, refl, sym, ◌∙◌}
+use mathlib.Core.List.{List, [], ◌∷◌, map}
+use mathlib.Core.Bool.{Bool, cond}
+use Rattle.std.specs.Prelude.{count_by, nat_eq}
+use borrow.Author.Tests.{ne_eqb}
+use Rattle.std.proofs.lemmas.List.Sums.{sum_by-cons}
+use Rattle.basic_laws.specs.Tests.{All}
+use Prim.Native.Nat.{suc, ◌+◌, ◌-◌}
 use native.Mathlib.Omega.{arith}
-use lib.ListN.{length, drop, get_or}
+use lib.ListN.{length}
 use Rattle.basics.specs.Order.{Name}
 use Rattle.basics.specs.Map as model
 use Rattle.basics.specs.Base.{Bytes, if_empty}
@@ -11,10 +16,10 @@ use Rattle.model.specs.Store.{dirs, file_count}
 use Rattle.spans.specs.Spans.{name_of, length_of}
 use Rattle.spans.proofs.Parts.{length-name}
 use Rattle.store.specs.declared.Node.{Node}
-use Rattle.store.specs.Words.{blank}
-use Rattle.store.specs.Tables.{Table, node_of, map_of, SoundTable, Counted}
-use Rattle.store.proofs.Live.{length-table, finished}
-use Rattle.store.proofs.Read.{sound-read, rest_read}
+use Rattle.store.specs.declared.Table.{Table}
+use Rattle.store.specs.declared.Counts.{Counts}
+use Rattle.store.specs.Tables.{node_of, live, map_of, SoundNode, SoundTable, Counted}
+use Rattle.store.proofs.Live.{length-table}
 
 pub dirs-files : (m : model.Map) → length (dirs m) + file_count m ≡ length m
 unfolding dirs
@@ -25,50 +30,22 @@ dirs-files (n ∷ r) = go n.0.1 (dirs-files r)
     go [] ih = omega arith
     go (y ∷ ys) ih = omega arith
 
-one-dir : (n : model.Node) (r : model.Map) → length n.0.1 ≡ 0 → length (dirs (n ∷ r)) ≡ suc (length (dirs r))
+-- How many nodes are a directory's own.
+abbrev pub own : Node → Bool
+own x = nat_eq (length_of x.file) 0
+
+pub counted : (src : Bytes) (l : List Node) → All (SoundNode src) l → length (dirs (map (node_of src) l)) ≡ count_by own l
 unfolding dirs
-one-dir n r h = go n.0.1 h
+counted src [] h = refl
+counted src (x ∷ l) h = go (name_of src x.file) (length-name h.0.file) (counted src l h.1) ∙ sym (sum_by-cons (λ x. cond (own x) 1 0) x l)
   where
-    go : (f : Name) → length f ≡ 0 → length (if_empty f (n.0.0 ∷ dirs r) (dirs r)) ≡ suc (length (dirs r))
-    go [] h = refl
-    go (y ∷ ys) h = absurd (omega arith)
+    go : (f : Name) → length f ≡ length_of x.file → length (dirs (map (node_of src) l)) ≡ count_by own l
+        → length (if_empty f (name_of src x.dir ∷ dirs (map (node_of src) l)) (dirs (map (node_of src) l))) ≡ cond (own x) 1 0 + count_by own l
+    go [] e ih = rw (← e) (omega (arith, ih))
+    go (y ∷ ys) e ih = rw (← e, ne_eqb (length (y ∷ ys)) 0 (λ z. omega arith)) (omega (arith, ih))
 
-no-dir : (n : model.Node) (r : model.Map) → (length n.0.1 ≡ 0 → ⊥) → length (dirs (n ∷ r)) ≡ length (dirs r)
-unfolding dirs
-no-dir n r h = go n.0.1 h
-  where
-    go : (f : Name) → (length f ≡ 0 → ⊥) → length (if_empty f (n.0.0 ∷ dirs r) (dirs r)) ≡ length (dirs r)
-    go [] h = absurd (h refl)
-    go (y ∷ ys) h = refl
-
-pub record Tally (src : Bytes) (t : Table) (n i : ℕ) : Type 0 where
-  pub sound : SoundTable src t
-  pub within : i ≤ t.len
-  pub below : n ≤ i
-  pub same : n + length (dirs (drop i (map_of src t))) ≡ length (dirs (map_of src t))
-
-pub start : {src : Bytes} {t : Table} → SoundTable src t → Tally src t 0 0
-start {src} {t} s = record { sound = s; within = omega arith; below = omega arith; same = omega arith }
-
--- The node x at i.
-module _ {src : Bytes} {t : Table} {n i : ℕ} {x : Node} (w : Tally src t n i) (h : i < t.len) (r : x ≡ get_or t.nodes i blank) where
-  named : length (name_of src x.file) ≡ length_of x.file
-  named = length-name (sound-read w.sound h r).file
-
-  pub dir : {m l : ℕ} → l ≡ length_of x.file → l ≡ 0 → m ≡ n + 1 → Tally src t m (i + 1)
-  dir e z q =
-      let p = ap (λ (r : model.Map). length (dirs r)) (rest_read w.sound h r) ∙ one-dir (node_of src x) (drop (i + 1) (map_of src t)) (named ∙ sym e ∙ z) in
-      record { sound = w.sound; within = omega arith; below = omega (arith, w.below); same = omega (arith, w.same, p) }
-
-  pub file : {m l : ℕ} → l ≡ length_of x.file → (l ≡ 0 → ⊥) → m ≡ n → Tally src t m (i + 1)
-  file e z q =
-      let p = ap (λ (r : model.Map). length (dirs r)) (rest_read w.sound h r) ∙ no-dir (node_of src x) (drop (i + 1) (map_of src t)) (λ y. z (e ∙ sym named ∙ y)) in
-      record { sound = w.sound; within = omega arith; below = omega (arith, w.below); same = omega (arith, w.same, p) }
-
-pub end : {src : Bytes} {t : Table} {n i : ℕ} → Tally src t n i → t.len ≤ i → Counted (map_of src t) (record { dirs = n; files = t.len - n })
-unfolding dirs
-end {src} {t} {n} {i} w h =
-    let e : length (dirs (drop i (map_of src t))) ≡ 0 = ap (λ (r : model.Map). length (dirs r)) (finished src i w.sound.sized h) in
-    let p = dirs-files (map_of src t) in
-    let q = length-table src w.sound.sized in
-    record { dirs = omega (arith, w.same); files = omega (arith, w.same) }
+pub told : {src : Bytes} {t : Table} {c : Counts} → SoundTable src t → c.dirs ≡ count_by own (live t) → c.files ≡ length (live t) - c.dirs → Counted (map_of src t) c
+unfolding map_of
+told {src} {t} {c} s d f =
+    let p = counted src (live t) s.each in
+    record { dirs = d ∙ sym p; files = omega (arith, dirs-files (map_of src t), length-table src t, d, p, f) }

@@ -1,4 +1,3 @@
-pub mod Words
 pub mod Places
 pub mod Nodes
 pub mod Tables

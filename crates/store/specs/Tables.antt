@@ -1,7 +1,9 @@
--- What a lent table stands for: the model's map of its nodes. 01, How a store is handed over: directories "in ascending byte order of name",
+-- What a table stands for: the model's map of its nodes. 01, How a store is handed over: directories "in ascending byte order of name",
 -- each "followed by its files ascending".
-use Rattle.std.specs.Prelude.{◌≡◌, ℕ, ◌≤◌, List, [], map, length, take, drop}
-use Rattle.std.proofs.Math.Option.{Option, none, some}
+use Rattle.std.specs.Prelude.{◌≡◌, ℕ, ◌≤◌, List, [], map, length, drop, Option, None, Some, Result, Ok, Err}
+use Rattle.std.proofs.Math.Option as maths
+use Rattle.std.proofs.Math.Option.{none, some}
+use Rattle.arrayvec.specs.ArrayVec.{ArrayVec}
 use Rattle.basics.specs.Order.{Key, Name}
 use Rattle.basics.specs.Map as model
 use Rattle.basics.specs.Base.{Bytes}
@@ -12,12 +14,8 @@ use Rattle.spans.specs.Spans.{name_of, Sound}
 use Rattle.spans.specs.declared.NameRef.{NameRef}
 use Rattle.store.specs.Places.{Over, Hit, Gap, table_room}
 use Rattle.store.specs.declared.Node.{Node}
-use Rattle.store.specs.Words.{Words, name_at, nodes_of}
 use Rattle.store.specs.declared.Counts.{Counts}
-use Rattle.store.specs.declared.Found.{Found}
-use Rattle.store.specs.declared.Found.TheVariants.{At, Missing}
-use Rattle.store.specs.declared.Held.{Held}
-use Rattle.store.specs.declared.Held.TheVariants.{Nothing, Number}
+use Rattle.store.specs.declared.Table.{Table}
 
 abbrev pub key_of : Bytes → NameRef → NameRef → Key
 key_of src d f = (name_of src d, name_of src f)
@@ -25,18 +23,9 @@ key_of src d f = (name_of src d, name_of src f)
 abbrev pub node_of : Bytes → Node → model.Node
 node_of src x = (key_of src x.dir x.file, x.number)
 
--- The places of a table, and how many of them are in use: the first ones.
-pub record Table : Type 0 where
-  pub nodes : List Node
-  pub len : ℕ
-
--- The table of n nodes that stands in lent places.
-abbrev pub table_of : Words → ℕ → Table
-table_of t n = record { nodes = nodes_of t; len = n }
-
--- The nodes in use.
+-- The nodes of a table.
 abbrev pub live : Table → List Node
-live t = take t.len t.nodes
+live t = t.nodes.items
 
 unfoldable pub map_of : Bytes → Table → model.Map
 map_of src t = map (node_of src) (live t)
@@ -45,13 +34,9 @@ pub record SoundNode (src : Bytes) (x : Node) : Type 0 where
   pub dir : Sound src x.dir
   pub file : Sound src x.file
 
-pub record Sized (t : Table) : Type 0 where
-  pub size : length t.nodes ≡ table_room
-  pub room : t.len ≤ table_room
-
 -- What every table that the code holds meets.
 pub record SoundTable (src : Bytes) (t : Table) : Type 0 where
-  pub sized : Sized t
+  pub room : length (live t) ≤ table_room
   pub each : All (SoundNode src) (live t)
   pub sorted : Sorted (map_of src t)
 
@@ -61,14 +46,14 @@ pub record Holds (src : Bytes) (t : Table) (m : model.Map) : Type 0 where
   pub same : map_of src t ≡ m
 
 -- What `find` answers.
-pub record Finds (k : Key) (m : model.Map) (r : Found) : Type 0 where
-  pub at : (i : ℕ) → r ≡ At i → (v : ℕ) × Hit k v m i
-  pub missing : (i : ℕ) → r ≡ Missing i → Gap k m i
+pub record Finds (k : Key) (m : model.Map) (r : Result ℕ ℕ) : Type 0 where
+  pub at : (i : ℕ) → r ≡ Ok i → (v : ℕ) × Hit k v m i
+  pub missing : (i : ℕ) → r ≡ Err i → Gap k m i
 
--- The number that `look` answers.
-abbrev pub held_of : Held → Option ℕ
-held_of Nothing = none
-held_of (Number v) = some v
+-- The number that `look` answers, as the model has it.
+abbrev pub held_of : Option ℕ → maths.Option ℕ
+held_of None = none
+held_of (Some v) = some v
 
 -- What `count` answers.
 pub record Counted (m : model.Map) (c : Counts) : Type 0 where
@@ -81,9 +66,7 @@ pub record FilesFrom (d : Name) (m : model.Map) (i : ℕ) : Type 0 where
   pub same : files d m ≡ files d (drop i m)
   pub above : All (Over (d, [])) (drop i m)
 
--- A listing: names as numbers in its first n places.
-pub record Lists (src : Bytes) (l : List ℕ) (n : ℕ) (names : List Name) : Type 0 where
-  pub room : n ≤ table_room
-  pub within : n ≤ length l
-  pub each : All (Sound src) (map name_at (take n l))
-  pub same : map (λ w. name_of src (name_at w)) (take n l) ≡ names
+-- A listing of names.
+pub record Lists (src : Bytes) (l : ArrayVec NameRef) (names : List Name) : Type 0 where
+  pub each : All (Sound src) l.items
+  pub same : map (name_of src) l.items ≡ names

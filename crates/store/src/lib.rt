@@ -1,134 +1,86 @@
-// The nodes of a store in lent tables: the tree, and the staging files. A table's nodes are sorted, so each is found by halving.
+// The nodes of a store, its log and its mark. A table's nodes are in the order of their keys, so each is found by halving.
 #![tactic(auto)]
 
-ghost use Rattle.std.specs.Prelude.{◌≡◌, [], ◌∷◌, ◌++◌, true, false, ◌≤◌, ◌<◌, ◌+◌, length, take, drop, get_or, set};
+ghost use Rattle.std.specs.Prelude.{◌≡◌, ◌+◌, [], true, false, nat_eq};
 ghost use Rattle.basics.specs.Order.{cmp_key};
 ghost use Rattle.basics.specs.Map.{look, del};
 ghost use Rattle.basics.specs.Base.{Bytes, is_some, if_empty};
 ghost use Rattle.model.specs.Store.{dirs, files, staging_names};
 ghost use Rattle.model.specs.Step.{remove_dir, rename_dir};
 ghost use Rattle.paths.specs.Compare.{order_of};
-ghost use Rattle.spans.specs.Spans.{name_of, Sound};
-ghost use Rattle.store.specs.Places.{table_room, put_in};
-ghost use Rattle.store.specs.Nodes.{is_dir};
-ghost use Rattle.store.specs.Words.{word, name_at, nodes_of, blank};
-ghost use Rattle.store.specs.Tables.{key_of, node_of, table_of, live, map_of, SoundNode, Sized, SoundTable, Holds, Finds, held_of, Counted, FilesFrom, Lists};
+ghost use Rattle.spans.specs.Spans.{name_of, length_of, Sound};
+ghost use Rattle.store.specs.Places.{put_in};
+ghost use Rattle.store.specs.Tables.{key_of, map_of, SoundNode, SoundTable, Holds, Finds, held_of, Counted, FilesFrom, Lists};
 
+use arrayvec::ArrayVec;
+use basics::Status;
 use spans::NameRef;
 use std::cmp::Ordering;
+use std::mem;
+use std::ops::Range;
 
 // 01, How a store is handed over: "At most 16 directories, 128 files"; and one node more, so that a put within these limits has room.
 pub const ROOM: usize = 145;
 
-// A lent table, the tree's or the staging files': for each node its directory's name, its own, its number (`node_at`, specs/Words.antt).
-pub type Nodes = [[u32; 3]; ROOM];
-
-// Names as they are listed where a walk starts: 01, Listings and file steps, "A directory is listed as it stands when its walk starts".
-pub type Listing = [u32; ROOM];
-
-// A directory's own node has the empty file name and number 0; a staging file's has the empty directory name.
-#[derive(Clone, Copy)]
+// A directory's own node has the empty file name and number 0; a staging file's has the empty directory name. So both tables are one kind of map in
+// the order of an image, with one search and one set of laws, and no node needs a kind beside its key.
+#[derive(Clone, Copy, Debug, Default, PartialEq, Eq)]
 pub struct Node {
     pub dir: NameRef,
     pub file: NameRef,
     pub number: u32,
 }
 
-#[derive(Clone, Copy)]
-pub enum Found {
-    At(usize),
-    Missing(usize),
+impl Node {
+    // Whether it is a directory's own.
+    pub fn is_dir(&self) -> bool
+        ensures { result ≡ nat_eq (length_of self.now.file) 0 }
+    {
+        spans::length_of(self.file) == 0
+    }
 }
 
-#[derive(Clone, Copy)]
-pub enum Held {
-    Nothing,
-    Number(u32),
-}
+// Names as they are listed where a walk starts: 01, Listings and file steps, "A directory is listed as it stands when its walk starts".
+pub type Listing = ArrayVec<NameRef, ROOM>;
 
-#[derive(Clone, Copy)]
+#[derive(Clone, Copy, Debug, PartialEq, Eq)]
 pub struct Counts {
     pub dirs: usize,
     pub files: usize,
 }
 
-// The log's bytes as a part of the lent bytes; `status` is the one that its header was rewritten with, 0 where it was not.
-#[derive(Clone, Copy)]
+// Its names lie in bytes that each function is lent, and not in the table: a table that was read from an image is also used over a buffer in which
+// further names stand behind the image.
+#[derive(Drop)]
+pub struct Table {
+    pub nodes: ArrayVec<Node, ROOM>,
+}
+
+// The log's bytes as a part of the lent bytes; `rewritten` is the status that its header was rewritten with, if it was.
+#[derive(Clone, Copy, Debug, PartialEq, Eq)]
 pub struct LogRef {
     pub start: u16,
     pub len: u16,
-    pub stands: bool,
-    pub status: u8,
+    pub rewritten: Option<Status>,
 }
 
-// A store whose nodes stand in two lent tables, the tree's and the staging files': how many places of each are in use, the log, the mark.
-#[derive(Clone, Copy)]
+impl LogRef {
+    // Where its bytes stand.
+    pub fn range(self) -> Range<usize>
+        ensures { result ≡ record { start = self.start; end = self.start + self.len } }
+    {
+        let start = usize::from(self.start);
+        start..start + usize::from(self.len)
+    }
+}
+
+// A store: the tree, the staging files, the log if one stands, the mark.
+#[derive(Drop)]
 pub struct Store {
-    pub tree: usize,
-    pub staging: usize,
-    pub log: LogRef,
+    pub tree: Table,
+    pub staging: Table,
+    pub log: Option<LogRef>,
     pub open_mark: bool,
-}
-
-// A name as one number, and the name of such a number.
-fn packed(r: NameRef) -> u32
-    ensures { result ≡ word r }
-{
-    r.start as u32 + 0x1_0000 * (r.len as u32) + 0x100_0000 * (r.baks as u32)
-}
-
-fn unpacked(w: u32) -> NameRef
-    ensures { result ≡ name_at w }
-{
-    NameRef {
-        start: (w % 0x1_0000) as u16,
-        len: ((w / 0x1_0000) % 0x100) as u8,
-        baks: (w / 0x100_0000) as u8,
-    }
-}
-
-// The node at a place of a table.
-pub fn node_at(t: &Nodes, i: usize) -> Node
-    requires { i < table_room }
-    ensures { result ≡ get_or (nodes_of t.now) i blank }
-{
-    let x = t[i];
-    Node {
-        dir: unpacked(x[0]),
-        file: unpacked(x[1]),
-        number: x[2],
-    }
-}
-
-// A node stored at a place of a table.
-pub fn set_node(t: &mut Nodes, i: usize, x: Node)
-    requires { i < table_room }
-    ensures { nodes_of t.new ≡ set (nodes_of t.old) i x }
-{
-    let dir = x.dir;
-    let file = x.file;
-    t[i] = [packed(dir), packed(file), x.number];
-}
-
-// The name at a place of a listing.
-pub fn name_at(names: &Listing, i: usize) -> NameRef
-    requires { i < table_room }
-    ensures { result ≡ name_at (get_or names.now i 0) }
-{
-    unpacked(names[i])
-}
-
-// The first n places of a table copied to another.
-fn copy_nodes(t: &Nodes, n: usize, to: &mut Nodes)
-    requires { Sized (table_of t.now n) × (length to.old ≡ table_room) }
-    ensures { take n to.new ≡ take n t.now }
-{
-    let mut i: usize = 0;
-    while i < n {
-        let x = t[i];
-        to[i] = x;
-        i += 1;
-    }
 }
 
 // The order of two keys: by directory, then by file.
@@ -136,294 +88,210 @@ fn compare_keys(src: &[u8], d: NameRef, f: NameRef, e: NameRef, g: NameRef) -> O
     requires { (Sound src.now d × Sound src.now f) × (Sound src.now e × Sound src.now g) }
     ensures { order_of result ≡ cmp_key (key_of src.now d f) (key_of src.now e g) }
 {
-    let o = spans::compare(src, d, e);
-    match o {
-        Ordering::Less => Ordering::Less,
-        Ordering::Greater => Ordering::Greater,
-        Ordering::Equal => spans::compare(src, f, g),
+    spans::compare(src, d, e).then_with(|| spans::compare(src, f, g))
+}
+
+impl Table {
+    // A table without nodes.
+    pub fn new() -> Table
+        ensures { result.nodes.items ≡ [] }
+    {
+        Table {
+            nodes: ArrayVec::new(),
+        }
     }
-}
 
-fn middle(lo: usize, hi: usize) -> usize
-    requires { lo < hi }
-    ensures { (lo ≤ result) × (result < hi) }
-{
-    lo + (hi - lo) / 2
-}
-
-// Where a key stands, or the place that it has among the others.
-pub fn find(src: &[u8], t: &Nodes, n: usize, dir: NameRef, file: NameRef) -> Found
-    requires { SoundTable src.now (table_of t.now n) × (Sound src.now dir × Sound src.now file) }
-    ensures { Finds (key_of src.now dir file) (map_of src.now (table_of t.now n)) result }
-{
-    let mut lo: usize = 0;
-    let mut hi: usize = n;
-    while lo < hi {
-        let mid = middle(lo, hi);
-        let x = node_at(t, mid);
-        let o = compare_keys(src, dir, file, x.dir, x.file);
-        match o {
-            Ordering::Less => {
-                hi = mid;
+    // Where a key stands, or the place that it has among the others. By hand: std's search asks for an order of any two nodes, and names are
+    // compared only where they lie in the bytes.
+    pub fn find(&self, src: &[u8], dir: NameRef, file: NameRef) -> Result<usize, usize>
+        requires { SoundTable src.now self.now × (Sound src.now dir × Sound src.now file) }
+        ensures { Finds (key_of src.now dir file) (map_of src.now self.now) result }
+    {
+        let nodes = self.nodes.as_slice();
+        let mut lo: usize = 0;
+        let mut hi: usize = nodes.len();
+        while lo < hi {
+            let mid = lo + (hi - lo) / 2;
+            let x = nodes[mid];
+            match compare_keys(src, dir, file, x.dir, x.file) {
+                Ordering::Less => {
+                    hi = mid;
+                }
+                Ordering::Equal => {
+                    return Ok(mid);
+                }
+                Ordering::Greater => {
+                    lo = mid + 1;
+                }
             }
-            Ordering::Equal => {
-                return Found::At(mid);
+        }
+        Err(lo)
+    }
+
+    // The number that stands at a key.
+    pub fn look(&self, src: &[u8], dir: NameRef, file: NameRef) -> Option<u32>
+        requires { SoundTable src.now self.now × (Sound src.now dir × Sound src.now file) }
+        ensures { held_of result ≡ look (key_of src.now dir file) (map_of src.now self.now) }
+    {
+        let i = self.find(src, dir, file).ok()?;
+        Some(self.nodes[i].number)
+    }
+
+    // Whether a place holds something.
+    pub fn exists(&self, src: &[u8], dir: NameRef, file: NameRef) -> bool
+        requires { SoundTable src.now self.now × (Sound src.now dir × Sound src.now file) }
+        ensures { result ≡ is_some (look (key_of src.now dir file) (map_of src.now self.now)) }
+    {
+        self.look(src, dir, file).is_some()
+    }
+
+    // Whether a directory stands.
+    pub fn dir_exists(&self, src: &[u8], dir: NameRef) -> bool
+        requires { SoundTable src.now self.now × Sound src.now dir }
+        ensures { result ≡ is_some (look (name_of src.now dir, []) (map_of src.now self.now)) }
+    {
+        self.exists(src, dir, spans::EMPTY)
+    }
+
+    // A node put in, in place of one with the same key. A full table stays as it is.
+    pub fn put(&mut self, src: &[u8], x: Node)
+        requires { SoundTable src.now self.old × SoundNode src.now x }
+        ensures { Holds src.now self.new (put_in (key_of src.now x.dir x.file) x.number (map_of src.now self.old)) }
+    {
+        if self.nodes.is_full() {
+            return;
+        }
+        let found = self.find(src, x.dir, x.file);
+        match found {
+            Ok(i) => {
+                self.nodes[i] = x;
             }
-            Ordering::Greater => {
-                lo = mid + 1;
+            Err(i) => self.nodes.insert(i, x),
+        }
+    }
+
+    // The node at a key taken out.
+    pub fn del(&mut self, src: &[u8], dir: NameRef, file: NameRef)
+        requires { SoundTable src.now self.old × (Sound src.now dir × Sound src.now file) }
+        ensures { Holds src.now self.new (del (key_of src.now dir file) (map_of src.now self.old)) }
+    {
+        let found = self.find(src, dir, file);
+        if let Ok(i) = found {
+            self.nodes.remove(i);
+        }
+    }
+
+    // The table without a directory and its files. By hand: `retain` asks for a closure that may be called at any node, and names are compared only
+    // where they lie in the bytes.
+    fn without_dir(&self, src: &[u8], dir: NameRef) -> Table
+        requires { SoundTable src.now self.now × Sound src.now dir }
+        ensures { Holds src.now result (remove_dir (name_of src.now dir) (map_of src.now self.now)) }
+    {
+        let mut kept = Table::new();
+        for x in self.nodes.as_slice() {
+            if !spans::same(src, dir, x.dir) {
+                kept.nodes.push(*x);
+            }
+        }
+        kept
+    }
+
+    // A directory and its files taken out (step 0x29).
+    pub fn remove_dir(&mut self, src: &[u8], dir: NameRef)
+        requires { SoundTable src.now self.old × Sound src.now dir }
+        ensures { Holds src.now self.new (remove_dir (name_of src.now dir) (map_of src.now self.old)) }
+    {
+        *self = self.without_dir(src, dir);
+    }
+
+    // A directory renamed (step 0x26). What stands in the other directory stays, but for files of the same names.
+    pub fn rename_dir(&mut self, src: &[u8], from: NameRef, to: NameRef)
+        requires { SoundTable src.now self.old × (Sound src.now from × Sound src.now to) }
+        ensures { Holds src.now self.new (rename_dir (name_of src.now from) (name_of src.now to) (map_of src.now self.old) (map_of src.now self.old)) }
+    {
+        let kept = self.without_dir(src, from);
+        let old = mem::replace(self, kept);
+        for x in old.nodes.as_slice() {
+            if spans::same(src, from, x.dir) {
+                let moved = Node { dir: to, ..*x };
+                self.put(src, moved);
             }
         }
     }
-    Found::Missing(lo)
-}
 
-// The number that stands at a key.
-pub fn look(src: &[u8], t: &Nodes, n: usize, dir: NameRef, file: NameRef) -> Held
-    requires { SoundTable src.now (table_of t.now n) × (Sound src.now dir × Sound src.now file) }
-    ensures { held_of result ≡ look (key_of src.now dir file) (map_of src.now (table_of t.now n)) }
-{
-    let f = find(src, t, n, dir, file);
-    match f {
-        Found::At(i) => {
-            let x = node_at(t, i);
-            Held::Number(x.number)
+    // The place behind a directory's own, where its files start.
+    fn files_from(&self, src: &[u8], dir: NameRef) -> usize
+        requires { SoundTable src.now self.now × Sound src.now dir }
+        ensures { FilesFrom (name_of src.now dir) (map_of src.now self.now) result }
+    {
+        let found = self.find(src, dir, spans::EMPTY);
+        match found {
+            Ok(i) => i + 1,
+            Err(i) => i,
         }
-        Found::Missing(_) => Held::Nothing,
     }
-}
 
-// Whether a place holds something.
-pub fn exists(src: &[u8], t: &Nodes, n: usize, dir: NameRef, file: NameRef) -> bool
-    requires { SoundTable src.now (table_of t.now n) × (Sound src.now dir × Sound src.now file) }
-    ensures { result ≡ is_some (look (key_of src.now dir file) (map_of src.now (table_of t.now n))) }
-{
-    let h = look(src, t, n, dir, file);
-    match h {
-        Held::Number(_) => true,
-        Held::Nothing => false,
+    // Whether a directory holds no file.
+    pub fn is_dir_empty(&self, src: &[u8], dir: NameRef) -> bool
+        requires { SoundTable src.now self.now × Sound src.now dir }
+        ensures { result ≡ if_empty (files (name_of src.now dir) (map_of src.now self.now)) true false }
+    {
+        let i = self.files_from(src, dir);
+        let next = self.nodes.get(i);
+        next.is_none_or(|x| !spans::same(src, dir, x.dir))
     }
-}
 
-// Whether a directory stands.
-pub fn dir_exists(src: &[u8], t: &Nodes, n: usize, dir: NameRef) -> bool
-    requires { SoundTable src.now (table_of t.now n) × Sound src.now dir }
-    ensures { result ≡ is_some (look (name_of src.now dir, []) (map_of src.now (table_of t.now n))) }
-{
-    exists(src, t, n, dir, spans::EMPTY)
-}
+    // The three listings push in a loop: `collect` into a vector of fixed room answers a Result, with an error that cannot come here.
 
-// A node put in at a place of a table of n nodes; how many it has then.
-fn insert_at(t: &mut Nodes, n: usize, p: usize, x: Node) -> usize
-    requires { Sized (table_of t.old n) × ((p ≤ n) × (n < table_room)) }
-    ensures { Sized (table_of t.new result) × (live (table_of t.new result) ≡ take p (live (table_of t.old n)) ++ x ∷ drop p (live (table_of t.old n))) }
-{
-    let mut i: usize = n;
-    while p < i {
-        let y = t[i - 1];
-        t[i] = y;
-        i -= 1;
-    }
-    set_node(t, p, x);
-    n + 1
-}
-
-// The node at a place taken out; how many the table has then.
-fn remove_at(t: &mut Nodes, n: usize, p: usize) -> usize
-    requires { Sized (table_of t.old n) × (p < n) }
-    ensures { Sized (table_of t.new result) × (live (table_of t.new result) ≡ take p (live (table_of t.old n)) ++ drop (p + 1) (live (table_of t.old n))) }
-{
-    let mut i: usize = p;
-    while i + 1 < n {
-        let y = t[i + 1];
-        t[i] = y;
-        i += 1;
-    }
-    n - 1
-}
-
-// A node put into a table, in place of one with the same key. A full table stays as it is.
-pub fn put(src: &[u8], t: &mut Nodes, n: usize, x: Node) -> usize
-    requires { SoundTable src.now (table_of t.old n) × SoundNode src.now x }
-    ensures { Holds src.now (table_of t.new result) (put_in (key_of src.now x.dir x.file) x.number (map_of src.now (table_of t.old n))) }
-{
-    if n >= ROOM {
-        return n;
-    }
-    let f = find(src, t, n, x.dir, x.file);
-    match f {
-        Found::At(i) => {
-            set_node(t, i, x);
-            n
+    // The files of a directory as they stand, "in ascending byte order". They stand one behind the other.
+    pub fn files(&self, src: &[u8], dir: NameRef) -> Listing
+        requires { SoundTable src.now self.now × Sound src.now dir }
+        ensures { Lists src.now result (files (name_of src.now dir) (map_of src.now self.now)) }
+    {
+        let mut names = Listing::new();
+        let from = self.files_from(src, dir);
+        let rest = &self.nodes.as_slice()[from..];
+        for x in rest {
+            if !spans::same(src, dir, x.dir) {
+                return names;
+            }
+            names.push(x.file);
         }
-        Found::Missing(i) => insert_at(t, n, i, x),
+        names
     }
-}
 
-// The node at a key taken out.
-pub fn del(src: &[u8], t: &mut Nodes, n: usize, dir: NameRef, file: NameRef) -> usize
-    requires { SoundTable src.now (table_of t.old n) × (Sound src.now dir × Sound src.now file) }
-    ensures { Holds src.now (table_of t.new result) (del (key_of src.now dir file) (map_of src.now (table_of t.old n))) }
-{
-    let f = find(src, t, n, dir, file);
-    match f {
-        Found::At(i) => remove_at(t, n, i),
-        Found::Missing(_) => n,
-    }
-}
-
-// A directory and its files taken out (step 0x29).
-pub fn remove_dir(src: &[u8], t: &mut Nodes, n: usize, dir: NameRef) -> usize
-    requires { SoundTable src.now (table_of t.old n) × Sound src.now dir }
-    ensures { Holds src.now (table_of t.new result) (remove_dir (name_of src.now dir) (map_of src.now (table_of t.old n))) }
-{
-    let mut i: usize = 0;
-    let mut j: usize = 0;
-    while i < n {
-        let x = node_at(t, i);
-        if !spans::same(src, dir, x.dir) {
-            set_node(t, j, x);
-            j += 1;
+    // The directories as they stand.
+    pub fn dirs(&self) -> Listing
+        ensures { (src : Bytes) → SoundTable src self.now → Lists src result (dirs (map_of src self.now)) }
+    {
+        let mut names = Listing::new();
+        for x in self.nodes.as_slice() {
+            if x.is_dir() {
+                names.push(x.dir);
+            }
         }
-        i += 1;
+        names
     }
-    j
-}
 
-// A directory renamed (step 0x26). What stands in the other directory stays, but for files of the same names.
-pub fn rename_dir(src: &[u8], t: &mut Nodes, n: usize, from: NameRef, to: NameRef) -> usize
-    requires { SoundTable src.now (table_of t.old n) × (Sound src.now from × Sound src.now to) }
-    ensures { Holds src.now (table_of t.new result) (rename_dir (name_of src.now from) (name_of src.now to) (map_of src.now (table_of t.old n)) (map_of src.now (table_of t.old n))) }
-{
-    let mut old = [[0u32; 3]; ROOM];
-    copy_nodes(t, n, &mut old);
-    let mut m = remove_dir(src, t, n, from);
-    let mut i: usize = 0;
-    while i < n {
-        let x = node_at(&old, i);
-        let file = x.file;
-        if spans::same(src, from, x.dir) {
-            m = put(
-                src,
-                t,
-                m,
-                Node {
-                    dir: to,
-                    file: file,
-                    number: x.number,
-                },
-            );
+    // The staging files as they stand.
+    pub fn staged(&self) -> Listing
+        ensures { (src : Bytes) → SoundTable src self.now → Lists src result (staging_names (map_of src self.now)) }
+    {
+        let mut names = Listing::new();
+        for x in self.nodes.as_slice() {
+            names.push(x.file);
         }
-        i += 1;
+        names
     }
-    m
-}
 
-// Whether a node is a directory's own.
-fn is_dir(src: &[u8], x: Node) -> bool
-    requires { SoundNode src.now x }
-    ensures { result ≡ is_dir (node_of src.now x) }
-{
-    let file = x.file;
-    spans::length_of(file) == 0
-}
-
-// The place behind a directory's own, where its files start.
-fn files_from(src: &[u8], t: &Nodes, n: usize, dir: NameRef) -> usize
-    requires { SoundTable src.now (table_of t.now n) × Sound src.now dir }
-    ensures { FilesFrom (name_of src.now dir) (map_of src.now (table_of t.now n)) result }
-{
-    let f = find(src, t, n, dir, spans::EMPTY);
-    match f {
-        Found::At(i) => i + 1,
-        Found::Missing(i) => i,
-    }
-}
-
-// Whether a directory holds no file.
-pub fn is_dir_empty(src: &[u8], t: &Nodes, n: usize, dir: NameRef) -> bool
-    requires { SoundTable src.now (table_of t.now n) × Sound src.now dir }
-    ensures { result ≡ if_empty (files (name_of src.now dir) (map_of src.now (table_of t.now n))) true false }
-{
-    let i = files_from(src, t, n, dir);
-    if n <= i {
-        return true;
-    }
-    let x = node_at(t, i);
-    !spans::same(src, dir, x.dir)
-}
-
-// The files of a directory as they stand, "in ascending byte order"; how many there are. They stand one behind the other. The listing is cleared
-// first, so that its length is known: of a lent array it is not.
-pub fn list_files(src: &[u8], t: &Nodes, n: usize, dir: NameRef, names: &mut Listing) -> usize
-    requires { SoundTable src.now (table_of t.now n) × Sound src.now dir }
-    ensures { Lists src.now names.new result (files (name_of src.now dir) (map_of src.now (table_of t.now n))) }
-{
-    *names = [0u32; ROOM];
-    let mut i = files_from(src, t, n, dir);
-    let mut k: usize = 0;
-    while i < n {
-        let x = node_at(t, i);
-        if !spans::same(src, dir, x.dir) {
-            return k;
+    // How many directories and how many files a table holds.
+    pub fn count(&self) -> Counts
+        ensures { (src : Bytes) → SoundTable src self.now → Counted (map_of src self.now) result }
+    {
+        let dirs = self.nodes.iter().filter(|x| x.is_dir()).count();
+        Counts {
+            dirs,
+            files: self.nodes.len() - dirs,
         }
-        names[k] = packed(x.file);
-        k += 1;
-        i += 1;
-    }
-    k
-}
-
-// The directories as they stand; how many there are.
-pub fn list_dirs(src: &[u8], t: &Nodes, n: usize, names: &mut Listing) -> usize
-    requires { SoundTable src.now (table_of t.now n) }
-    ensures { Lists src.now names.new result (dirs (map_of src.now (table_of t.now n))) }
-{
-    *names = [0u32; ROOM];
-    let mut i: usize = 0;
-    let mut k: usize = 0;
-    while i < n {
-        let x = node_at(t, i);
-        if is_dir(src, x) {
-            names[k] = packed(x.dir);
-            k += 1;
-        }
-        i += 1;
-    }
-    k
-}
-
-// The staging files as they stand; how many there are.
-pub fn list_staging(t: &Nodes, n: usize, names: &mut Listing) -> usize
-    requires { n ≤ table_room }
-    ensures { (src : Bytes) → SoundTable src (table_of t.now n) → Lists src names.new result (staging_names (map_of src (table_of t.now n))) }
-{
-    *names = [0u32; ROOM];
-    let mut i: usize = 0;
-    while i < n {
-        let x = t[i];
-        names[i] = x[1];
-        i += 1;
-    }
-    n
-}
-
-// How many directories and how many files a table holds.
-pub fn count(src: &[u8], t: &Nodes, n: usize) -> Counts
-    requires { SoundTable src.now (table_of t.now n) }
-    ensures { Counted (map_of src.now (table_of t.now n)) result }
-{
-    let mut dirs: usize = 0;
-    let mut i: usize = 0;
-    while i < n {
-        let x = node_at(t, i);
-        let xf = x.file;
-        if spans::length_of(xf) == 0 {
-            dirs += 1;
-        }
-        i += 1;
-    }
-    Counts {
-        dirs: dirs,
-        files: n - dirs,
     }
 }

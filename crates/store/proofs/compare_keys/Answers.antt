@@ -1,16 +1,7 @@
 -- `compare_keys`: the first difference decides.
-use mathlib.Core.Path.{◌∙◌}
-use Rattle.basics.specs.Order.{cmp_key}
+use Rattle.std.proofs.Common.{rules, of_calls}
+use Rattle.store.proofs.Keys.{first_decides}
 use Rattle.store.proofs.compare_keys.Goals as goal
 
-pub returns-in-Less : goal.returns-in-Less
-unfolding cmp_key
-returns-in-Less c = rw (← c.compare-o.ensures, c.in-Less.is)
-
-pub returns-in-Greater : goal.returns-in-Greater
-unfolding cmp_key
-returns-in-Greater c = rw (← c.compare-o.ensures, c.in-Greater.is)
-
-pub returns-in-Equal : goal.returns-in-Equal
-unfolding cmp_key
-returns-in-Equal c = c.compare.ensures ∙ rw (← c.compare-o.ensures, c.in-Equal.is)
+pub returns : goal.returns
+returns c = first_decides _ _ _ _ _ _ c.compare.ensures (λ p. search (rules, of_calls)) c.then_with.ensures

@@ -1,11 +1,12 @@
 -- The collections that the operations of a log name: a search through the first of them, and the walk that syncs each where it is named first.
 use mathlib.Core.Path.{◌≡◌, refl, sym, ap, subst, ◌∙◌}
-use mathlib.Core.List.{List, [], ◌∷◌, ◌++◌, map, reverse, reverse_aux-append}
+use mathlib.Core.List.{List, [], ◌∷◌, ◌++◌, map, reverse, reverse_aux, reverse_aux-append}
 use mathlib.Core.Bool.{Bool, true, false}
 use Prim.Native.Nat.{ℕ, zero, suc, ◌+◌, ◌≤◌, ◌<◌}
 use native.Mathlib.Numerals.{add-one}
 use native.Mathlib.Omega.{arith}
 use lib.ListN.{length, take, drop, get_or, length-map, get_or-map, drop_of_length-le}
+use Rattle.std.specs.List.{list_any}
 use lib.Seq.{drop-cons, take-suc}
 use Rattle.basics.specs.Order.{Name}
 use Rattle.basics.specs.Base.{Bytes, is_in, same_bytes}
@@ -15,14 +16,15 @@ use Rattle.plans.specs.Machine.{seq_over, Going}
 use Rattle.plans.proofs.MachineLaws.{begin, turn, goes_as, finish}
 use Rattle.plans.specs.ModelPlans.{plain, in_turn_lem}
 use Rattle.spans.specs.declared.NameRef.{NameRef}
-use Rattle.spans.specs.Spans.{name_of, Sound, Names}
-use Rattle.steps.specs.CodeRuns.{LentRun, run_of, SoundRun, Follows}
+use Rattle.spans.specs.Spans.{name_of, Names}
+use Rattle.steps.specs.declared.Run.{Run}
+use Rattle.steps.specs.CodeRuns.{run_of, SoundRun, Follows}
 use Rattle.transaction.specs.Operations.{op_of, SoundOp}
 use Rattle.transaction.specs.declared.Operation.{Operation}
 use Rattle.transaction.proofs.Lists.{map-append}
 use Rattle.basic_laws.specs.Tests.{All}
 use Rattle.recovery.proofs.Follow.{lawful, follows_as}
-use Rattle.recovery.proofs.Entries.{op-at, all-split}
+use Rattle.recovery.proofs.Entries.{op-at, any-map}
 
 get_or-any : {A : Type 0} (l : List A) (i : ℕ) (d e : A) → i < length l → get_or l i d ≡ get_or l i e
 get_or-any [] i d e h = absurd (omega arith)
@@ -47,46 +49,28 @@ seen-last src front op =
     ap (map collection_of) (map-append (op_of src) front (op ∷ [])) ∙ map-append collection_of (map (op_of src) front) (op_of src op ∷ []) in
     ap reverse e ∙ reverse_aux-append (named src front) (collection_of (op_of src op) ∷ []) []
 
--- `named_before`: the collections of these operations decide, from the first on.
-pub record Earlier (src : Bytes) (ops : List Operation) (dir : NameRef) (left : List Operation) : Type 0 where
-  pub held : All (SoundOp src) left
-  pub sound : Sound src dir
-  pub same : is_in (name_of src dir) (seen src left) ≡ is_in (name_of src dir) (seen src ops)
+pub all-reverse : {A : Type 0} (P : A → Type 0) (l after : List A) → All P l → All P after → All P (reverse_aux l after)
+all-reverse P [] after h k = k
+all-reverse P (a ∷ l) after h k = all-reverse P l (a ∷ after) h.1 (h.0, k)
 
-pub earlier-start : {src : Bytes} {ops : List Operation} {dir : NameRef} → All (SoundOp src) ops → Sound src dir → Earlier src ops dir ops
-earlier-start h s = record { held = h; sound = s; same = refl }
+-- `named_before`: a collection is named before where one of the operations, the latest first, changes it.
+named-back : (src : Bytes) (ops after : List Operation) → map (λ o. collection_of (op_of src o)) (reverse_aux ops after) ≡ reverse_aux (named src ops) (map (λ o. collection_of (op_of src o)) after)
+named-back src [] after = refl
+named-back src (op ∷ ops) after = named-back src ops (op ∷ after)
 
-module _ {src : Bytes} {ops : List Operation} {dir : NameRef} {left : List Operation} (e : Earlier src ops dir left) where
-  pub not_named : left ≡ [] → false ≡ is_in (name_of src dir) (seen src ops)
-  not_named z = rw z at e.same
-
-  module _ (front : List Operation) (op : Operation) (z : left ≡ front ++ op ∷ []) where
-    pub named-op : SoundOp src op
-    named-op = (all-split (SoundOp src) front op (rw z at e.held)).1
-
-    ahead : is_in (name_of src dir) (collection_of (op_of src op) ∷ seen src front) ≡ is_in (name_of src dir) (seen src ops)
-    ahead = rw (z, seen-last src front op) at e.same
-
-    module _ {r : NameRef} (q : Names src r (collection_of (op_of src op))) where
-      told : {b : Bool} → same_bytes (name_of src dir) (name_of src r) ≡ b → same_bytes (name_of src dir) (collection_of (op_of src op)) ≡ b
-      told t = sym (ap (same_bytes (name_of src dir)) q.same) ∙ t
-
-      pub named_here : same_bytes (name_of src dir) (name_of src r) ≡ true → true ≡ is_in (name_of src dir) (seen src ops)
-      named_here t = sym (rw (told t)) ∙ ahead
-
-      pub not-here : same_bytes (name_of src dir) (name_of src r) ≡ false → Earlier src ops dir front
-      not-here t = record { held = (all-split (SoundOp src) front op (rw z at e.held)).0; sound = e.sound; same = sym (rw (told t)) ∙ ahead }
+pub any-named : (src : Bytes) (n : Name) (ops : List Operation) → list_any (λ o. same_bytes n (collection_of (op_of src o))) (reverse ops) ≡ is_in n (seen src ops)
+any-named src n ops = any-map (same_bytes n) (λ o. collection_of (op_of src o)) (reverse ops) ∙ ap (is_in n) (named-back src ops [])
 
 -- `sync_collection_dirs`: the collections from i on are left, those before it seen.
 abbrev left : Bytes → List Operation → ℕ → List Name
 left src ops i = first_namings (seen src (take i ops)) (drop i (named src ops))
 
-pub record Syncing (src : Bytes) (ops : List Operation) (start now : LentRun) (i : ℕ) : Type 0 where
+pub record Syncing (src : Bytes) (ops : List Operation) (start now : Run) (i : ℕ) : Type 0 where
   pub held : All (SoundOp src) ops
   pub sound : SoundRun src now
   pub going : Going plain (seq_over apply sync_existing (first_namings [] (named src ops))) (seq_over apply sync_existing (left src ops i)) (run_of src start) (run_of src now)
 
-pub syncing-start : {src : Bytes} {ops : List Operation} {run : LentRun} → All (SoundOp src) ops → SoundRun src run → Syncing src ops run run 0
+pub syncing-start : {src : Bytes} {ops : List Operation} {run : Run} → All (SoundOp src) ops → SoundRun src run → Syncing src ops run run 0
 syncing-start s r = record { held = s; sound = r; going = begin lawful }
 
 -- The next collection, by whether it was named before.
@@ -99,7 +83,7 @@ module _ (x : Name) (xs : List Name) (l : List Name) where
   unfolding first_namings
   named-first h = rw h
 
-module _ {src : Bytes} {ops : List Operation} {start now : LentRun} {i : ℕ} (g : Syncing src ops start now i) where
+module _ {src : Bytes} {ops : List Operation} {start now : Run} {i : ℕ} (g : Syncing src ops start now i) where
   length-named : length (named src ops) ≡ length ops
   length-named = length-map (map (op_of src) ops) collection_of ∙ length-map ops (op_of src)
 
@@ -145,13 +129,13 @@ module _ {src : Bytes} {ops : List Operation} {start now : LentRun} {i : ℕ} (g
       told-seen : {b : Bool} → is_in (name_of src r) (seen src (take i ops)) ≡ b → is_in x (seen src (take i ops)) ≡ b
       told-seen t = sym (ap (λ (n : Name). is_in n (seen src (take i ops))) q.same) ∙ t
 
-      pub syncing-skip : {next : LentRun} → next ≡ now → is_in (name_of src r) (seen src (take i ops)) ≡ true → Syncing src ops start next (i + 1)
+      pub syncing-skip : {next : Run} → next ≡ now → is_in (name_of src r) (seen src (take i ops)) ≡ true → Syncing src ops start next (i + 1)
       syncing-skip e t =
-          subst (λ (n : LentRun). Syncing src ops start n (i + 1)) (sym e)
+          subst (λ (n : Run). Syncing src ops start n (i + 1)) (sym e)
           record { held = g.held; sound = g.sound; going = goes (at_next ∙ named_again x _ _ (told-seen t) ∙ left_after) }
 
-      pub syncing-next : {next : LentRun} (res : LentRun) → next ≡ res → is_in (name_of src r) (seen src (take i ops)) ≡ false → Follows plain src (sync_existing (name_of src r)) now res → Syncing src ops start next (i + 1)
+      pub syncing-next : {next : Run} (res : Run) → next ≡ res → is_in (name_of src r) (seen src (take i ops)) ≡ false → Follows plain src (sync_existing (name_of src r)) now res → Syncing src ops start next (i + 1)
       syncing-next res e t p =
           let z : Follows plain src (sync_existing x) now res = subst (λ (n : Name). Follows plain src (sync_existing n) now res) q.same p in
-          subst (λ (n : LentRun). Syncing src ops start n (i + 1)) (sym e)
+          subst (λ (n : Run). Syncing src ops start n (i + 1)) (sym e)
           record { held = g.held; sound = p.sound; going = turn lawful (goes (at_next ∙ named-first x _ _ (told-seen t) ∙ ap (λ (l : List Name). x ∷ l) left_after)) z.does }

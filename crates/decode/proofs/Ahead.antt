@@ -2,10 +2,8 @@
 use mathlib.Core.Path.{◌≡◌, refl, sym, ◌∙◌}
 use mathlib.Core.List.{List, [], ◌∷◌}
 use mathlib.Core.Option.{Option, none, some}
-use Rattle.std.specs.Prelude.{Result, Err}
 use Prim.Native.Nat.{ℕ, ◌+◌, ◌-◌, ◌≤◌}
 use native.Mathlib.Omega.{arith}
-use native.Mathlib.Decide.{dec_le}
 use lib.ListN.{length, take, drop, length-drop}
 use Rattle.basics.specs.Base.{Bytes, case_option}
 use Rattle.basics.specs.Field.{Field, from_little_endian, fields_from}
@@ -13,9 +11,7 @@ use Rattle.basic_laws.specs.ListLaws.{part_length}
 use Rattle.basic_laws.specs.Tests.{nil≢cons}
 use Rattle.basic_laws.specs.MapLaws.{none≢some, some_inj}
 use Rattle.field.specs.declared.Item.{Item}
-use Rattle.field.specs.declared.Broken.{Broken}
-use Rattle.field.specs.declared.Broken.TheVariants.{NoHeader, NoValue}
-use Rattle.field.specs.Reading.{field_of, Stands, Headless, Reads}
+use Rattle.field.specs.Reading.{field_of, Stands}
 use Rattle.decode.specs.Reading.{Ahead}
 
 -- The value of the field whose bounds an item holds.
@@ -37,15 +33,6 @@ one_more (some l) f e = (l, (sym (some_inj e), refl))
 -- A whole field stands at the place: it is the first.
 pub first : {src : Bytes} {at : ℕ} {x : Item} {fs : List Field} → Stands src at x → Ahead src at fs → (l : List Field) × ((fs ≡ field_of src x ∷ l) × Ahead src x.end l)
 first {src} {at} {x} s a = one_more (fields_from 0 (drop x.end src)) (field_of src x) (sym s.fields ∙ a)
-
--- None does: either the bytes end there, or they are no fields.
-pub nothing : (src : Bytes) (at : ℕ) (r : Result Item Broken) {fs : List Field} → Reads src at r → (b : Broken) → r ≡ Err b → Ahead src at fs → fs ≡ []
-nothing src at r {fs} h NoHeader e a = go (rw e at h) (dec_le (length src) at)
-  where
-    go : Headless src at → Dec (length src ≤ at) → fs ≡ []
-    go s (yes l) = some_inj (sym a ∙ s.ended l)
-    go s (no l) = none≢some (sym (s.fields (omega arith)) ∙ a)
-nothing src at r h NoValue e a = none≢some (sym (rw e at h).fields ∙ a)
 
 -- No field is left only at the end.
 none_left : (l : Bytes) → fields_from 0 l ≡ some [] → length l ≡ 0

@@ -1,10 +1,10 @@
 -- The loop of `read_nodes`: m was read, and what is left from the place on belongs to it.
-use mathlib.Core.Path.{◌≡◌, refl, sym, ap, subst, ◌∙◌}
+use mathlib.Core.Path.{◌≡◌, refl, sym, ap, ◌∙◌}
 use mathlib.Core.Bool.{Bool, true, false, false≢true}
 use mathlib.Core.List.{List, [], ◌∷◌, ◌++◌, map, map-append, append_assoc, append-nil}
-use Prim.Native.Nat.{ℕ, ◌+◌, ◌≤◌, ◌<◌}
+use Prim.Native.Nat.{ℕ, ◌≤◌, ◌<◌}
 use native.Mathlib.Omega.{arith}
-use lib.ListN.{length, drop, set}
+use lib.ListN.{length, drop}
 use lib.Seq.{append_snoc}
 use Rattle.basics.specs.Limits.{file_limit}
 use Rattle.basics.specs.Order.{lt, Name, Key, cmp_name, cmp_key}
@@ -19,17 +19,17 @@ use Rattle.laws.specs.ImageLaws.{listed, node-parts, staged-parts}
 use Rattle.laws.specs.TreeLaws.{size, is_dir, is_file, ascending-sorted}
 use Rattle.spans.specs.declared.NameRef.{NameRef}
 use Rattle.spans.specs.Spans.{Names}
+use Rattle.spans.proofs.Parts.{empty-name}
 use Rattle.store.specs.Places.{table_room}
-use Rattle.store.specs.Words.{Words, nodes_of}
-use Rattle.store.specs.Tables.{key_of, node_of, table_of, map_of, Holds}
+use Rattle.store.specs.declared.Node.{Node}
+use Rattle.store.specs.declared.Table.{Table}
+use Rattle.store.specs.Tables.{key_of, node_of, live, map_of, Holds}
 use Rattle.store.proofs.Live.{length-table}
 use Rattle.decode.specs.declared.Spot.{Spot}
-use Rattle.decode.specs.declared.Next.{Next}
-use Rattle.decode.specs.declared.Next.TheVariants.{Is, Other, Broken}
-use Rattle.decode.specs.Reading.{Ahead, starts}
+use Rattle.decode.specs.Reading.{Lacks, Ends, Ahead, starts}
 use Rattle.decode.specs.Listing.{own, files_of, valid_at, Formed, last_key, Fits}
-use Rattle.decode.specs.Spots.{LastDir, SoundSpot, Follows, Stops, Breaks, Comes}
-use Rattle.decode.specs.Decoding.{ReadsNodes}
+use Rattle.decode.specs.Spots.{LastDir, SoundSpot, Follows, Breaks}
+use Rattle.decode.specs.Decoding.{NodesRead}
 use Rattle.decode.proofs.Ahead.{one_more}
 use Rattle.decode.proofs.Filling.{unused, stored}
 use Rattle.decode.proofs.Rows.{invalid-nil, last_more, last-below, ascending-more, valid-at, valid-more, size_append, count}
@@ -79,9 +79,9 @@ encode-more : (g : model.Node → Field) (m : Map) (n : model.Node) → encode_f
 unfolding encode_fields
 encode-more g m n = ap encode_fields (map-append g m (n ∷ [])) ∙ encode_append (map g m) (g n ∷ []) ∙ ap (λ (l : Bytes). encode_fields (map g m) ++ l) (append-nil (encode_field (g n)))
 
-pub record Progress (staged : Bool) (src : Bytes) (at : ℕ) (t : Words) (len : ℕ) (p : Spot) : Type 0 where
+pub record Progress (staged : Bool) (src : Bytes) (at : ℕ) (t : Table) (p : Spot) : Type 0 where
   pub m : Map
-  pub holds : Holds src (table_of t len) m
+  pub holds : Holds src t m
   pub spot : SoundSpot staged src p
   pub key : last_key none_yet m ≡ key_of src p.node.dir p.node.file
   pub dirs : p.dirs ≡ size is_dir m
@@ -95,14 +95,20 @@ no-dir false = λ h. absurd (h refl)
 no-dir true = refl
 
 -- The listing is empty.
-pub begin : {staged : Bool} {src : Bytes} {at : ℕ} {t : Words} {none : NameRef} → length (nodes_of t) ≡ table_room → Names src none [] → at ≤ length src →
-    Progress staged src at t 0 (record { node = record { dir = none; file = none; number = 0 }; next = at; dirs = 0; files = 0 })
+abbrev Blank : NameRef → Type 0
+Blank r = (r.start ≡ 0) × ((r.len ≡ 0) × (r.baks ≡ 0))
+
+blank-name : (src : Bytes) (r : NameRef) → Blank r → Names src r []
+blank-name src r e = let p : r ≡ record { start = 0; len = 0; baks = 0 } = λ i. record { start = e.0 i; len = e.1.0 i; baks = e.1.1 i } in rw p (empty-name src)
+
+pub begin : {staged : Bool} {src : Bytes} {at : ℕ} {t : Table} {n : Node} → live t ≡ [] → Blank n.dir × (Blank n.file × (n.number ≡ 0)) → at ≤ length src →
+    Progress staged src at t (record { node = n; next = at; dirs = 0; files = 0 })
 unfolding encode_fields ascending
-begin {staged} {src} {at} {t} {none} h n w = record {
+begin {staged} {src} {at} {t} {n} h e w = let d = blank-name src n.dir e.0 in let f = blank-name src n.file e.1.0 in record {
   m = [];
   holds = unused h;
-  spot = record { node = record { dir = n.sound; file = n.sound }; within = w; dir = rw n.same (no-dir staged); dirs_fit = omega arith; files_fit = omega arith };
-  key = λ i. (sym n.same i, sym n.same i);
+  spot = record { node = record { dir = d.sound; file = f.sound }; within = w; dir = rw d.same (no-dir staged); dirs_fit = omega arith; files_fit = omega arith };
+  key = λ i. (sym d.same i, sym f.same i);
   dirs = refl;
   files = refl;
   formed = record { ascends = refl; valid = refl; dirs = omega arith; files = omega arith };
@@ -110,7 +116,7 @@ begin {staged} {src} {at} {t} {none} h n w = record {
   only = λ y fs f s a. (y, (refl, a));
 }
 
-module _ {staged : Bool} {src : Bytes} {at : ℕ} {t : Words} {len : ℕ} {p : Spot} (w : Progress staged src at t len p) where
+module _ {staged : Bool} {src : Bytes} {at : ℕ} {t : Table} {p : Spot} (w : Progress staged src at t p) where
   -- What a node that fits behind the last one fits.
   behind : (n : model.Node) → Fits staged (key_of src p.node.dir p.node.file) p.dirs p.files n → FitsBehind staged w.m n
   behind n f = rw (w.key, ← w.dirs, ← w.files) f
@@ -119,9 +125,9 @@ module _ {staged : Bool} {src : Bytes} {at : ℕ} {t : Words} {len : ℕ} {p : S
   front n f = rw (← w.key, w.dirs, w.files) f
 
   -- The table has room for one node more.
-  pub room : len < table_room
+  pub room : length (live t) < table_room
   room =
-      let l : length w.m ≡ len = ap length (sym w.holds.same) ∙ length-table src w.holds.sound.sized in
+      let l : length w.m ≡ length (live t) = ap length (sym w.holds.same) ∙ length-table src t in
       omega (arith, count w.m, w.formed.dirs, limit staged w.formed.files)
     where
       limit : (s : Bool) → size is_file w.m ≤ files_of s → size is_file w.m ≤ file_limit
@@ -129,8 +135,8 @@ module _ {staged : Bool} {src : Bytes} {at : ℕ} {t : Words} {len : ℕ} {p : S
       limit true h = omega arith
 
   -- One node more.
-  module _ {q : Spot} {u : Words} (f : Follows staged src p q) (e : nodes_of u ≡ set (nodes_of t) len q.node) where
-    pub goes_on : Progress staged src at u (len + 1) q
+  module _ {q : Spot} {u : Table} (f : Follows staged src p q) (e : live u ≡ live t ++ q.node ∷ []) where
+    pub goes_on : Progress staged src at u q
     goes_on = record {
       m = w.m ++ n ∷ [];
       holds = stored w.holds f.spot.node room e (ascending-sorted (w.m ++ n ∷ []) more.ascends);
@@ -162,44 +168,25 @@ module _ {staged : Bool} {src : Bytes} {at : ℕ} {t : Words} {len : ℕ} {p : S
             (r, (e ∙ rw b (sym (append_snoc w.m n r)), rw (← l) o.1.1))
 
   -- No field of the listing stands there: all of it was read.
-  pub stops : Stops staged src p → ReadsNodes staged src at t (record { ok = true; len = len; next = p.next })
+  pub stops : Ends (own staged) src p.next → NodesRead staged src at t p.next
   stops h = record {
     sound = w.holds.sound;
     reads = record {
       within = w.spot.within;
-      formed = λ e. rw w.holds.same w.formed;
-      bytes = λ e. rw w.holds.same w.bytes;
+      formed = rw w.holds.same w.formed;
+      bytes = rw w.holds.same w.bytes;
       only = λ y fs g s a. let r = w.only y fs g s a in all y fs r.0 r.1.0 r.1.1;
     };
   }
     where
-      all : (y : Map) (fs : List Field) (r : Map) → y ≡ w.m ++ r → Ahead src p.next (map (listed staged) r ++ fs) → (true ≡ true) × ((y ≡ map_of src (table_of t len)) × Ahead src p.next fs)
-      all y fs [] e a = (refl, (e ∙ append-nil w.m ∙ sym w.holds.same, a))
+      all : (y : Map) (fs : List Field) (r : Map) → y ≡ w.m ++ r → Ahead src p.next (map (listed staged) r ++ fs) → (y ≡ map_of src t) × Ahead src p.next fs
+      all y fs [] e a = (e ∙ append-nil w.m ∙ sym w.holds.same, a)
       all y fs (k ∷ r) e a = absurd (false≢true (sym (h.here _ a) ∙ own-listed staged k))
 
   -- A field that no node has which fits: there is no such listing.
-  pub breaks : Breaks staged src p → ReadsNodes staged src at t (record { ok = false; len = len; next = p.next })
-  breaks h = record {
-    sound = w.holds.sound;
-    reads = record {
-      within = w.spot.within;
-      formed = λ e. absurd (false≢true e);
-      bytes = λ e. absurd (false≢true e);
-      only = λ y fs g s a. let r = w.only y fs g s a in absurd (nowhere y fs g s r.0 r.1.0 r.1.1);
-    };
-  }
+  pub breaks : Breaks staged src p → Lacks (map (listed staged)) (Formed staged) (own staged) src at
+  breaks h = record { none = λ y fs g s a. let r = w.only y fs g s a in nowhere y fs g s r.0 r.1.0 r.1.1 }
     where
       nowhere : (y : Map) (fs : List Field) → Formed staged y → starts (own staged) fs ≡ false → (r : Map) → y ≡ w.m ++ r → Ahead src p.next (map (listed staged) r ++ fs) → ⊥
       nowhere y fs g s [] e a = false≢true (sym s ∙ h.here fs a)
       nowhere y fs g s (k ∷ r) e a = h.unfit k _ (front k (fits-behind w.m k r (rw e at g))) a
-
--- What `next_node` answered.
-module _ {staged : Bool} {src : Bytes} {p : Spot} (r : Next) (h : Comes staged src p r) where
-  pub is-node : {q : Spot} → r ≡ Is q → Follows staged src p q
-  is-node e = subst (Comes staged src p) e h
-
-  pub is-other : r ≡ Other → Stops staged src p
-  is-other e = subst (Comes staged src p) e h
-
-  pub is-broken : r ≡ Broken → Breaks staged src p
-  is-broken e = subst (Comes staged src p) e h

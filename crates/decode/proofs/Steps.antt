@@ -22,7 +22,7 @@ use Rattle.laws.specs.ImageLaws.{listed}
 use Rattle.field.specs.declared.Item.{Item}
 use Rattle.field.specs.Reading.{u32_at, field_of}
 use Rattle.field.specs.Writing.{field}
-use Rattle.field.proofs.Fields.{number-there}
+use Rattle.field.proofs.Reading.{number-there}
 use Rattle.spans.specs.declared.NameRef.{NameRef}
 use Rattle.spans.specs.Spans.{name_of, Names}
 use Rattle.store.specs.Tables.{key_of, node_of}

@@ -1,14 +1,16 @@
 -- The four parts of an image, one behind the other.
 use mathlib.Core.Path.{◌≡◌, refl, sym, ap, subst, ◌∙◌}
-use mathlib.Core.Bool.{Bool, true, false, ◌&&◌, false≢true}
+use mathlib.Core.Bool.{Bool, true, false, false≢true}
+use borrow.Author.Tests.{eq-eqb, eqb-true}
 use mathlib.Core.List.{[], ◌∷◌, ◌++◌, map, append-nil}
 use mathlib.Core.Option.{Option, none, some}
+use Rattle.std.specs.Prelude as std
+use Rattle.std.specs.Bool.{then_some}
 use Prim.Native.Nat.{ℕ, ◌≤◌, ◌<◌}
 use native.Mathlib.Omega.{arith}
 use lib.Dec.{eqb}
 use lib.ListN.{length, take, drop, length-append, length-drop, drop_of_length-le}
 use lib.Seq.{take_at}
-use borrow.Author.Tests.{eq-eqb, eqb-true}
 use Rattle.basics.specs.Limits.{image_room}
 use Rattle.basics.specs.Map.{Map}
 use Rattle.basics.specs.Base.{Bytes}
@@ -16,27 +18,23 @@ use Rattle.basics.specs.Field.{encode_fields, decode_fields}
 use Rattle.model.specs.Store as model
 use Rattle.model.specs.Store.{dirs, file_count, well_formed}
 use Rattle.model.specs.Image.{node_field, staged_field, log_field, mark_field, image_fields, decode}
-use Rattle.basic_laws.specs.Tests.{and_both, and_made, le-leb}
+use Rattle.basic_laws.specs.Tests.{le-leb}
 use Rattle.laws.specs.ImageLaws.{listed, Parts, parts, of_parts, regroup, encode-parts, tail, split-encode, decode-encode, decode-only}
 use Rattle.laws.specs.TreeLaws.{size, is_file, one, dir-size, file-size, length-size}
 use Rattle.laws.specs.StoreLaws.{LogFits, fits-log, Good, good}
 use Rattle.basic_laws.specs.ValidNames.{Valid, valid_naming}
 use Rattle.laws.specs.LengthLaws.{encode-length}
 use Rattle.store.specs.declared.Store.{Store}
-use Rattle.store.specs.Words.{Words, nodes_of}
-use Rattle.store.specs.Places.{table_room}
-use Rattle.store.specs.Tables.{table_of, map_of}
+use Rattle.store.specs.declared.LogRef.{LogRef}
+use Rattle.store.specs.declared.Table.{Table}
+use Rattle.store.specs.Tables.{map_of}
 use Rattle.store.specs.Kept.{Kept}
-use Rattle.store.specs.Stores.{store_in, store_of}
+use Rattle.store.specs.Stores.{store_of}
 use Rattle.store.proofs.Lists.{drop-zero}
-use Rattle.decode.specs.declared.NodesPart.{NodesPart}
-use Rattle.decode.specs.declared.LogPart.{LogPart}
-use Rattle.decode.specs.declared.MarkPart.{MarkPart}
-use Rattle.decode.specs.Reading.{Ahead, starts}
+use Rattle.decode.specs.Reading.{Ahead, starts, Reads, Lacks}
 use Rattle.decode.specs.Listing.{own, Formed}
-use Rattle.decode.specs.Decoding.{ReadsNodes, ReadsLog, ReadsMark, Decodes}
+use Rattle.decode.specs.Decoding.{NodesRead, LogRead, Accepts, Decodes}
 use Rattle.decode.proofs.Ahead.{ended}
-use Rattle.decode.proofs.Filling.{unused}
 use Rattle.decode.proofs.Rows.{valid-tree, valid-staging, count, staged-files}
 
 -- What stands behind a part has no tag of it.
@@ -86,23 +84,16 @@ ahead src s e =
     let f : decode_fields src ≡ some (image_fields s) = subst (λ (b : Bytes). decode_fields b ≡ some (image_fields s)) p.0 (split-encode s p.1) in
     rw (drop-zero src) (f ∙ ap some (regroup s))
 
-abbrev joined : NodesPart → NodesPart → LogPart → MarkPart → Store
-joined t g l m = record { tree = t.len; staging = g.len; log = l.log; open_mark = m.mark }
+abbrev joined : Table → Table → std.Option LogRef → Bool → Store
+joined t g l m = record { tree = t; staging = g; log = l; open_mark = m }
 
-module _ {src : Bytes} {u v : Words} {t g : NodesPart} {l : LogPart} {m : MarkPart} (T : ReadsNodes false src 0 u t) (G : ReadsNodes true src t.next v g) (L : ReadsLog src g.next l) (M : ReadsMark src l.next m) where
-  -- All parts were read, up to the end.
-  record Read : Type 0 where
-    tree : t.ok ≡ true
-    staging : g.ok ≡ true
-    log : l.ok ≡ true
-    mark : m.ok ≡ true
-    end : m.next ≡ length src
-
-  accepted : Read → decode src ≡ some (store_of src (store_in u v (joined t g l m)))
-  accepted r = subst (λ (b : Bytes). decode b ≡ some s) (encode-parts s ∙ sym bytes) (decode-encode s (well s (T.reads.formed r.tree) (G.reads.formed r.staging) (L.reads.formed r.log)))
+module _ {src : Bytes} {t g : Table} {l : std.Option LogRef} {m : Bool} {t_end g_end l_end end : ℕ}
+    (T : NodesRead false src 0 t t_end) (G : NodesRead true src t_end g g_end) (L : LogRead src g_end l l_end) (M : Reads mark_field (λ b. Unit {0}) (λ t. eqb t 0x14) src l_end m end) where
+  same : end ≡ length src → decode src ≡ some (store_of src (joined t g l m))
+  same r = subst (λ (b : Bytes). decode b ≡ some s) (encode-parts s ∙ sym bytes) (decode-encode s (well s T.reads.formed G.reads.formed L.reads.formed))
     where
       s : model.Store
-      s = store_of src (store_in u v (joined t g l m))
+      s = store_of src (joined t g l m)
 
       a : Bytes
       a = encode_fields (map node_field s.tree)
@@ -112,71 +103,82 @@ module _ {src : Bytes} {u v : Words} {t g : NodesPart} {l : LogPart} {m : MarkPa
 
       bytes : src ≡ a ++ (b ++ (encode_fields (log_field s.log) ++ encode_fields (mark_field s.open_mark)))
       bytes =
-          sym (drop-zero src) ∙ T.reads.bytes r.tree
-          ∙ ap (a ++◌) (G.reads.bytes r.staging ∙ ap (b ++◌) (L.reads.bytes r.log ∙ ap (encode_fields (log_field s.log) ++◌) (M.reads.bytes r.mark ∙ rw (r.end, drop_of_length-le src {i = length src} (omega arith)) (append-nil (encode_fields (mark_field s.open_mark))))))
+          sym (drop-zero src) ∙ T.reads.bytes
+          ∙ ap (a ++◌) (G.reads.bytes ∙ ap (b ++◌) (L.reads.bytes ∙ ap (encode_fields (log_field s.log) ++◌) (M.bytes ∙ rw (r, drop_of_length-le src {i = length src} (omega arith)) (append-nil (encode_fields (mark_field s.open_mark))))))
 
   -- The tree's fields are the bytes up to its end.
-  tree-kept : t.ok ≡ true → Kept src t.next (map_of src (table_of u t.len))
-  tree-kept e = record { within = T.reads.within; same = λ z. front }
+  tree-kept : Kept src t_end (map_of src t)
+  tree-kept = record { within = T.reads.within; same = λ z. front }
     where
       fields : Bytes
-      fields = encode_fields (map (listed false) (map_of src (table_of u t.len)))
+      fields = encode_fields (map (listed false) (map_of src t))
 
-      whole : src ≡ fields ++ drop t.next src
-      whole = sym (drop-zero src) ∙ T.reads.bytes e
+      whole : src ≡ fields ++ drop t_end src
+      whole = sym (drop-zero src) ∙ T.reads.bytes
 
-      size : t.next ≡ length fields
-      size = let n = ap length whole ∙ length-append fields (drop t.next src) in let d = length-drop t.next src in let w = T.reads.within in omega arith
+      size : t_end ≡ length fields
+      size = let n = ap length whole ∙ length-append fields (drop t_end src) in let d = length-drop t_end src in let w = T.reads.within in omega arith
 
-      front : take t.next src ≡ fields
-      front = ap (take t.next) whole ∙ take_at fields (drop t.next src) t.next (sym size)
+      front : take t_end src ≡ fields
+      front = ap (take t_end) whole ∙ take_at fields (drop t_end src) t_end (sym size)
 
-  all_read : (s : model.Store) → decode src ≡ some s → Read
-  all_read s e =
-      let w = (decode-only src s e).1 in
-      let p = parts s w in
-      let q = good s w in
-      let a = T.reads.only s.tree _ (tree-formed s p q) (staging-behind s.staging s.log s.open_mark) (ahead src s e) in
-      let b = G.reads.only s.staging _ (staging-formed s p q) (tail-behind (own true) refl refl s.log s.open_mark) a.1.1 in
-      let c = L.reads.only s.log _ q.log (mark-behind s.open_mark) b.1.1 in
-      let d = M.reads.only s.open_mark [] tt refl (rw (append-nil (mark_field s.open_mark)) c.1.1) in
-      record { tree = a.0; staging = b.0; log = c.0; mark = d.0; end = ended src m.next M.reads.within d.1.1 }
+  accepted : end ≡ length src → Accepts src (record { store = joined t g l m; tree_end = t_end })
+  accepted r = record { sound = record { tree = T.sound; staging = G.sound; log = L.sound }; plain = L.plain; same = same r; kept = tree-kept }
 
-  pub decided : (ok : Bool) → ok ≡ ((t.ok && g.ok) && (l.ok && (m.ok && eqb m.next (length src)))) → Decodes src u v (record { ok = ok; store = joined t g l m; tree_end = t.next })
-  decided ok e = record {
-    sound = record { tree = T.sound; staging = G.sound; log = L.sound };
-    plain = L.plain;
-    accepted = λ z. accepted (read z);
-    refused = λ z. no z (decode src) refl;
-    kept = λ z. tree-kept (read z).tree;
-  }
+-- What stands behind each part, in an image that the definition accepts.
+module _ (src : Bytes) where
+  refused : ((s : model.Store) → decode src ≡ some s → ⊥) → decode src ≡ none
+  refused h = go (decode src) refl
     where
-      read : ok ≡ true → Read
-      read z =
-          let a = and_both (t.ok && g.ok) (l.ok && (m.ok && eqb m.next (length src))) (sym e ∙ z) in
-          let b = and_both t.ok g.ok a.0 in
-          let c = and_both l.ok (m.ok && eqb m.next (length src)) a.1 in
-          let d = and_both m.ok (eqb m.next (length src)) c.1 in
-          record { tree = b.0; staging = b.1; log = c.0; mark = d.0; end = eqb-true m.next (length src) d.1 }
+      go : (o : Option model.Store) → decode src ≡ o → decode src ≡ none
+      go none q = q
+      go (some s) q = absurd (h s q)
 
-      ready : Read → ok ≡ true
-      ready r = e ∙ and_made (t.ok && g.ok) _ (and_made t.ok g.ok r.tree r.staging) (and_made l.ok _ r.log (and_made m.ok _ r.mark (eq-eqb m.next (length src) r.end)))
+  -- A longer image than any store's.
+  pub too_long : image_room < length src → decode src ≡ none
+  too_long h = refused (λ s q. let p = decode-only src s q in omega (arith, encode-length valid_naming s (good s p.1), ap length p.0))
 
-      no : ok ≡ false → (o : Option model.Store) → decode src ≡ o → decode src ≡ none
-      no z none q = q
-      no z (some s) q = absurd (false≢true (sym z ∙ ready (all_read s q)))
+  tree_there : (s : model.Store) → decode src ≡ some s → Formed false s.tree
+  tree_there s e = let w = (decode-only src s e).1 in tree-formed s (parts s w) (good s w)
 
--- A longer image than any store's.
-pub too_long : (src : Bytes) {t g : Words} → image_room < length src → length (nodes_of t) ≡ table_room → length (nodes_of g) ≡ table_room →
-    Decodes src t g (record { ok = false; store = record { tree = 0; staging = 0; log = record { start = 0; len = 0; stands = false; status = 0 }; open_mark = false }; tree_end = 0 })
-too_long src {t} {g} h T G = record {
-  sound = record { tree = (unused T).sound; staging = (unused G).sound; log = record { inside = omega arith } };
-  plain = refl;
-  accepted = λ z. absurd (false≢true z);
-  refused = λ z. no (decode src) refl;
-  kept = λ z. absurd (false≢true z);
-}
-  where
-    no : (o : Option model.Store) → decode src ≡ o → decode src ≡ none
-    no none q = q
-    no (some s) q = let p = decode-only src s q in absurd (omega (arith, encode-length valid_naming s (good s p.1), ap length p.0))
+  staging_there : (s : model.Store) → decode src ≡ some s → Formed true s.staging
+  staging_there s e = let w = (decode-only src s e).1 in staging-formed s (parts s w) (good s w)
+
+  log_there : (s : model.Store) → decode src ≡ some s → LogFits s.log
+  log_there s e = (good s (decode-only src s e).1).log
+
+module _ {src : Bytes} where
+  pub no_tree : Lacks (map (listed false)) (Formed false) (own false) src 0 → decode src ≡ none
+  no_tree h = refused src (λ s e. h.none s.tree _ (tree_there src s e) (staging-behind s.staging s.log s.open_mark) (ahead src s e))
+
+  module _ {t : Table} {t_end : ℕ} (T : NodesRead false src 0 t t_end) where
+    behind_tree : (s : model.Store) → decode src ≡ some s → Ahead src t_end (map staged_field s.staging ++ tail s)
+    behind_tree s e = (T.reads.only s.tree _ (tree_there src s e) (staging-behind s.staging s.log s.open_mark) (ahead src s e)).1
+
+    pub no_staging : Lacks (map (listed true)) (Formed true) (own true) src t_end → decode src ≡ none
+    no_staging h = refused src (λ s e. h.none s.staging _ (staging_there src s e) (tail-behind (own true) refl refl s.log s.open_mark) (behind_tree s e))
+
+    module _ {g : Table} {g_end : ℕ} (G : NodesRead true src t_end g g_end) where
+      behind_staging : (s : model.Store) → decode src ≡ some s → Ahead src g_end (tail s)
+      behind_staging s e = (G.reads.only s.staging _ (staging_there src s e) (tail-behind (own true) refl refl s.log s.open_mark) (behind_tree s e)).1
+
+      pub no_log : Lacks log_field LogFits (λ t. eqb t 0x13) src g_end → decode src ≡ none
+      no_log h = refused src (λ s e. h.none s.log _ (log_there src s e) (mark-behind s.open_mark) (behind_staging s e))
+
+      module _ {l : std.Option LogRef} {l_end : ℕ} (L : LogRead src g_end l l_end) where
+        behind_log : (s : model.Store) → decode src ≡ some s → Ahead src l_end (mark_field s.open_mark ++ [])
+        behind_log s e = rw (append-nil (mark_field s.open_mark)) (L.reads.only s.log _ (log_there src s e) (mark-behind s.open_mark) (behind_staging s e)).1
+
+        pub no_mark : Lacks mark_field (λ b. Unit {0}) (λ t. eqb t 0x14) src l_end → decode src ≡ none
+        no_mark h = refused src (λ s e. h.none s.open_mark [] tt refl (behind_log s e))
+
+        not_at_end : {m : Bool} {end : ℕ} → Reads mark_field (λ b. Unit {0}) (λ t. eqb t 0x14) src l_end m end → (end ≡ length src → ⊥) → decode src ≡ none
+        not_at_end {m} {end} M n = refused src (λ s e. n (ended src end M.within (M.only s.open_mark [] tt refl (behind_log s e)).1))
+
+        -- All parts were read.
+        pub decided : {m : Bool} {end : ℕ} → Reads mark_field (λ b. Unit {0}) (λ t. eqb t 0x14) src l_end m end → Decodes src (then_some (eqb end (length src)) (record { store = joined t g l m; tree_end = t_end }))
+        decided {m} {end} M = go (eqb end (length src)) refl
+          where
+            go : (b : Bool) → eqb end (length src) ≡ b → Decodes src (then_some b (record { store = joined t g l m; tree_end = t_end }))
+            go true q = accepted T G L M (eqb-true end (length src) q)
+            go false q = not_at_end M (λ n. false≢true (sym q ∙ eq-eqb end (length src) n))

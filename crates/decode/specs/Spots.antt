@@ -1,5 +1,5 @@
 -- What the results of reading a listing stand for.
-use Rattle.std.specs.Prelude.{◌≡◌, Bool, true, false, List, [], ◌∷◌, ◌++◌, ℕ, ◌+◌, ◌≤◌, ◌<◌, length, drop}
+use Rattle.std.specs.Prelude.{◌≡◌, Bool, true, false, List, [], ◌∷◌, ◌++◌, ℕ, ◌+◌, ◌≤◌, ◌<◌, length, drop, Option, None, Some}
 use Rattle.std.proofs.Math.Option.{none, some}
 use Rattle.basics.specs.Limits.{dir_limit, image_room}
 use Rattle.basics.specs.Order.{Name}
@@ -14,8 +14,6 @@ use Rattle.field.specs.Reading.{Stands}
 use Rattle.spans.specs.Spans.{name_of}
 use Rattle.store.specs.Tables.{key_of, node_of, SoundNode}
 use Rattle.decode.specs.declared.Spot.{Spot}
-use Rattle.decode.specs.declared.Next.{Next}
-use Rattle.decode.specs.declared.Next.TheVariants.{Is, Other, Broken}
 use Rattle.decode.specs.Reading.{Ahead, starts}
 use Rattle.decode.specs.Listing.{own, files_of, Fits}
 
@@ -44,22 +42,17 @@ pub record Follows (staged : Bool) (src : Bytes) (p q : Spot) : Type 0 where
   pub bytes : drop p.next src ≡ encode_field (listed staged (node_of src q.node)) ++ drop q.next src
   pub fields : fields_from 0 (drop p.next src) ≡ case_option (fields_from 0 (drop q.next src)) none (λ fs. some (listed staged (node_of src q.node) ∷ fs))
 
--- No field of the listing stands there.
-pub record Stops (staged : Bool) (src : Bytes) (p : Spot) : Type 0 where
-  pub here : (fs : List Field) → Ahead src p.next fs → starts (own staged) fs ≡ false
-
 -- A field of the listing stands there, and no node that may follow has it.
 pub record Breaks (staged : Bool) (src : Bytes) (p : Spot) : Type 0 where
   pub here : (fs : List Field) → Ahead src p.next fs → starts (own staged) fs ≡ true
   pub unfit : (n : Node) (fs : List Field) → FitsAt staged src p n → Ahead src p.next (listed staged n ∷ fs) → ⊥
 
--- What an answer of `next_node` says.
-abbrev pub Comes : Bool → Bytes → Spot → Next → Type 0
-Comes staged src p (Is q) = Follows staged src p q
-Comes staged src p Other = Stops staged src p
-Comes staged src p Broken = Breaks staged src p
+-- What an answer of `node_of` says.
+abbrev pub Gives : Bool → Bytes → Spot → Option Spot → Type 0
+Gives staged src p None = Breaks staged src p
+Gives staged src p (Some q) = Follows staged src p q
 
--- A whole field of this tag stands at the place.
+-- A whole field of this tag stands behind the last node.
 pub record AtField (staged : Bool) (src : Bytes) (p : Spot) (x : Item) (t : ℕ) : Type 0 where
   pub short : length src ≤ image_room
   pub spot : SoundSpot staged src p

@@ -10,7 +10,8 @@ use Rattle.basics.specs.Field.{encode_fields}
 use Rattle.model.specs.Image.{mark_field, encode}
 use Rattle.laws.specs.ImageLaws.{encode-parts}
 use Rattle.field.proofs.Written.{length-written, written_then, written-front}
-use Rattle.store.specs.Stores.{LentStore, store_of}
+use Rattle.store.specs.declared.Store.{Store}
+use Rattle.store.specs.Stores.{store_of}
 use Rattle.wal.specs.declared.Tail.{Tail}
 use Rattle.wal.specs.declared.Tail.TheVariants.{Nothing, Header, Entry}
 use Rattle.wal.specs.Tails.{with_tail}
@@ -34,29 +35,29 @@ module _ {a : Bytes} (b : Bytes) {at p : ℕ} {out mid : Bytes} (A : Puts a at o
   }
 
 -- The bytes of the parts.
-abbrev tree : Bytes → LentStore → Bytes
+abbrev tree : Bytes → Store → Bytes
 tree src s = bytes_of false src s.tree
 
-abbrev staging : Bytes → LentStore → Bytes
+abbrev staging : Bytes → Store → Bytes
 staging src s = bytes_of true src s.staging
 
-abbrev log : Bytes → Tail → LentStore → Bytes
+abbrev log : Bytes → Tail → Store → Bytes
 log src tail s = field_after src tail s.log
 
-abbrev mark : LentStore → Bytes
+abbrev mark : Store → Bytes
 mark s = encode_fields (mark_field s.open_mark)
 
 -- The image that a tail leaves.
-abbrev image : Bytes → Tail → LentStore → Bytes
+abbrev image : Bytes → Tail → Store → Bytes
 image src tail s = encode (with_tail src tail (store_of src s))
 
-in_parts : (src : Bytes) (tail : Tail) (s : LentStore) → image src tail s ≡ tree src s ++ (staging src s ++ (log src tail s ++ mark s))
+in_parts : (src : Bytes) (tail : Tail) (s : Store) → image src tail s ≡ tree src s ++ (staging src s ++ (log src tail s ++ mark s))
 in_parts src Nothing s = encode-parts (with_tail src Nothing (store_of src s))
 in_parts src Header s = encode-parts (with_tail src Header (store_of src s))
 in_parts src (Entry o) s = encode-parts (with_tail src (Entry o) (store_of src s))
 
 -- Each part has room, and all are the image.
-module _ (src : Bytes) (tail : Tail) (s : LentStore) (out : Bytes) (r : length (image src tail s) ≤ length out) where
+module _ (src : Bytes) (tail : Tail) (s : Store) (out : Bytes) (r : length (image src tail s) ≤ length out) where
   room : 0 + length (tree src s ++ (staging src s ++ (log src tail s ++ mark s))) ≤ length out
   room = omega (arith, ap length (in_parts src tail s))
 

@@ -3,9 +3,10 @@ use mathlib.Core.Path.{◌≡◌, refl, sym, ap, ◌∙◌}
 use mathlib.Core.Bool.{Bool, true, false}
 use mathlib.Core.List.{[], ◌∷◌, ◌++◌}
 use mathlib.Core.Option.{Option, none, some}
-use Prim.Native.Nat.{ℕ, zero, suc, ◌+◌, ◌-◌}
+use Prim.Native.Nat.{ℕ, ◌+◌, ◌-◌}
 use native.Mathlib.Omega.{arith}
 use lib.ListN.{length, take, drop, length-append, length-drop}
+use Rattle.std.specs.Prelude.{None, Some}
 use Rattle.basics.specs.Order.{Name}
 use Rattle.basics.specs.Map as model
 use Rattle.basics.specs.Base.{Bytes, if_empty}
@@ -51,31 +52,20 @@ header-length status = refl
 pub marked-length : (status : ℕ) (l : Bytes) → length (with_status status l) ≡ 8 + (length l - 8)
 marked-length status l = omega (arith, length-append (header status) (drop 8 l), header-length status, length-drop 8 l)
 
-is-rewritten : (status : ℕ) (l : Bytes) → (status ≡ 0 → ⊥) → rewritten status l ≡ with_status status l
-is-rewritten zero l h = absurd (h refl)
-is-rewritten (suc n) l h = refl
+-- The bytes of a log that a store holds, as they stand or with the header rewritten.
+abbrev pub plain_value : Bytes → LogRef → Bytes
+plain_value src l = take l.len (drop l.start src)
 
--- The log that a store holds: none, as it stands, or marked.
-module _ (src : Bytes) (l : LogRef) where
-  pub log-absent : l.stands ≡ false → log_bytes src l ≡ none
-  unfolding log_bytes
-  log-absent e = rw e
-
-  pub log-plain : l.stands ≡ true → l.status ≡ 0 → log_bytes src l ≡ some (take l.len (drop l.start src))
-  unfolding log_bytes
-  log-plain e f = rw (e, f)
-
-  pub log-marked : l.stands ≡ true → (l.status ≡ 0 → ⊥) → log_bytes src l ≡ some (with_status l.status (take l.len (drop l.start src)))
-  unfolding log_bytes
-  log-marked e f = rw e (ap some (is-rewritten l.status (take l.len (drop l.start src)) f))
-
--- The bytes of a log that stands.
 abbrev pub log_value : Bytes → LogRef → Bytes
-log_value src l = rewritten l.status (take l.len (drop l.start src))
+log_value src l = rewritten l.rewritten (plain_value src l)
 
-pub log-stands : (src : Bytes) (l : LogRef) → l.stands ≡ true → log_bytes src l ≡ some (log_value src l)
+pub log-stands : (src : Bytes) (l : LogRef) → log_bytes src (Some l) ≡ some (log_value src l)
 unfolding log_bytes
-log-stands src l e = rw e
+log-stands src l = refl
+
+pub log-absent : (src : Bytes) → log_bytes src None ≡ none
+unfolding log_bytes
+log-absent src = refl
 
 pub log-field : {o : Option Bytes} {v : Bytes} → o ≡ some v → encode_fields (log_field o) ≡ encode_field (field 0x13 v)
 log-field {o} {v} e = rw e (encode_one (field 0x13 v))

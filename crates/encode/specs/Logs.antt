@@ -1,5 +1,6 @@
 -- The log of an image, with what a `Tail` puts behind it.
 use Rattle.std.specs.Prelude.{[], ◌∷◌, ◌++◌, ℕ, ◌+◌, length}
+use Rattle.std.specs.Prelude as std
 use Rattle.std.proofs.Math.Option.{Option, none, some}
 use Rattle.basics.specs.Base.{Bytes, case_option}
 use Rattle.basics.specs.Field.{little_endian, encode_fields}
@@ -18,7 +19,7 @@ log_after src Header log = some (header 0)
 log_after src (Entry o) log = case_option log none (λ l. some (append_operation (op_of src o) l))
 
 -- The bytes of its field.
-abbrev pub field_after : Bytes → Tail → LogRef → Bytes
+abbrev pub field_after : Bytes → Tail → std.Option LogRef → Bytes
 field_after src tail l = encode_fields (log_field (log_after src tail (log_bytes src l)))
 
 -- The log's field up to the end of the log, which so many bytes of the field follow.

@@ -15,7 +15,8 @@ use Rattle.model.specs.Plan.{op_steps}
 use Rattle.basic_laws.specs.MapLaws.{look-put-other}
 use Rattle.plans.specs.Machine.{apply_all, single, seq}
 use Rattle.plans.specs.ModelPlans.{careful, turn-of}
-use Rattle.steps.specs.CodeRuns.{LentRun, Follows}
+use Rattle.steps.specs.declared.Run.{Run}
+use Rattle.steps.specs.CodeRuns.{Follows}
 use Rattle.recovery.proofs.Follow.{follows_as, follows_then}
 use Rattle.operations.specs.Parts.{back_up_standing, back_up_standing_dir, make_missing, back_up_all}
 use Rattle.operations.proofs.Careful.{lawful}
@@ -60,6 +61,6 @@ module _ (s : Store) where
       ∙ (unfold seq back_up_standing_dir copy_source op_steps in refl)
 
 -- A copy: its destination is backed up and made, and then what its source asks for.
-pub copied : (a b : Name) {src : Bytes} {run kept made r : LentRun} → Follows careful src (back_up_standing_dir b) run kept → Follows careful src (single (make_directory b)) kept made → Follows careful src (copy_source a b) made r
+pub copied : (a b : Name) {src : Bytes} {run kept made r : Run} → Follows careful src (back_up_standing_dir b) run kept → Follows careful src (single (make_directory b)) kept made → Follows careful src (copy_source a b) made r
     → (existed : Bool) → Follows careful src (op_steps (copy_collection a b existed)) run r
 copied a b p q w existed = follows_as lawful (follows_then lawful (follows_then lawful p q) w) (by_copy _ a b existed)

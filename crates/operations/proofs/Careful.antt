@@ -17,16 +17,17 @@ use Rattle.plans.specs.Machine.{Lawful, single}
 use Rattle.plans.proofs.MachineLaws.{stays}
 use Rattle.plans.specs.ModelPlans.{fault, careful}
 use Rattle.plans.proofs.RunLaws.{careful-lawful, over-stopped}
-use Rattle.steps.specs.CodeRuns.{LentRun, run_of, SoundRun, Follows, Refuses}
+use Rattle.steps.specs.declared.Run.{Run}
+use Rattle.steps.specs.CodeRuns.{run_of, SoundRun, Follows, Refuses}
 
 abbrev pub lawful : Lawful careful
 lawful = careful-lawful apply fault
 
 -- A run that has stopped follows every plan.
-pub stopped : {src : Bytes} {plan : Store → List Step} {run : LentRun} → SoundRun src run → run.stopped ≡ true → Follows careful src plan run run
+pub stopped : {src : Bytes} {plan : Store → List Step} {run : Run} → SoundRun src run → run.stopped ≡ true → Follows careful src plan run run
 stopped {src} {plan} {run} s h = record { sound = s; does = stays lawful (over-stopped (run_of src run) h) }
 
-pub refused : {src : Bytes} {a b : LentRun} → SoundRun src a → Refuses src a b → (x : Step) → step_fault x (store_of src a.store) ≡ some fails → Follows careful src (single x) a b
+pub refused : {src : Bytes} {a b : Run} → SoundRun src a → Refuses src a b → (x : Step) → step_fault x (store_of src a.store) ≡ some fails → Follows careful src (single x) a b
 refused s w x e = record { sound = w.sound s; does = w.does x e }
 
 -- 01, Sixteen numbers, 14: "backup name over 64 bytes".

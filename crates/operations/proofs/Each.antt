@@ -17,11 +17,13 @@ use Rattle.plans.specs.Machine.{single, seq_over, Going}
 use Rattle.plans.proofs.MachineLaws.{begin, turn, goes_as, finish}
 use Rattle.plans.specs.ModelPlans.{careful, in_turn_lem, in_turn-single}
 use Rattle.spans.specs.declared.NameRef.{NameRef}
-use Rattle.store.specs.Words.{name_at}
+use Rattle.arrayvec.specs.ArrayVec.{ArrayVec}
 use Rattle.store.specs.Tables.{map_of}
 use Rattle.store.proofs.Lists.{all_get_d}
+use Rattle.store.proofs.Listed.{no_name}
 use Rattle.steps.specs.Steps.{FileName}
-use Rattle.steps.specs.CodeRuns.{LentRun, run_of, SoundRun, Follows}
+use Rattle.steps.specs.declared.Run.{Run}
+use Rattle.steps.specs.CodeRuns.{run_of, SoundRun, Follows}
 use Rattle.steps.proofs.FileNames.{listed-named}
 use Rattle.transaction.specs.Operations.{op_of, SoundOp}
 use Rattle.transaction.specs.declared.Operation.{Operation}
@@ -37,25 +39,25 @@ each h f = single (h f)
 abbrev pub back_up_file : Name → Name → Step
 back_up_file d f = rename_file d f (backup_name f)
 
-module _ {src : Bytes} {run now : LentRun} {listing : List ℕ} {n i : ℕ} (h : Name → Step) (d : Name) (w : Over lawful src (each h) listing n (files d (map_of src run.store.tree)) run now i) where
+module _ {src : Bytes} {run now : Run} {listing : ArrayVec NameRef} {i : ℕ} (h : Name → Step) (d : Name) (w : Over lawful src (each h) listing (files d (map_of src run.store.tree)) run now i) where
   -- The name at i is not empty.
-  pub each-name : {r : NameRef} → r ≡ name_at (get_or listing i 0) → i < n → FileName src r
+  pub each-name : {r : NameRef} → r ≡ get_or listing.items i no_name → i < length listing.items → FileName src r
   each-name e l = listed-named d (map_of src run.store.tree) w.lists e l
 
-  pub each-end : n ≤ i → Follows careful src (λ s. map h (files d s.tree)) run now
+  pub each-end : length listing.items ≤ i → Follows careful src (λ s. map h (files d s.tree)) run now
   each-end l = follows_as lawful (end lawful w l) (in_turn_lem (each h) (files d (map_of src run.store.tree)) _ ∙ in_turn-single h (files d (map_of src run.store.tree)) _)
 
 -- `apply_operations`: the first i operations are done.
-pub record Ahead (src : Bytes) (ops : List Operation) (start now : LentRun) (i : ℕ) : Type 0 where
+pub record Ahead (src : Bytes) (ops : List Operation) (start now : Run) (i : ℕ) : Type 0 where
   pub held : All (SoundOp src) ops
   pub valid : All ValidOp (map (op_of src) ops)
   pub sound : SoundRun src now
   pub going : Going careful (seq_over apply op_steps (map (op_of src) ops)) (seq_over apply op_steps (drop i (map (op_of src) ops))) (run_of src start) (run_of src now)
 
-pub ahead-start : {src : Bytes} {ops : List Operation} {run : LentRun} → All (SoundOp src) ops → All ValidOp (map (op_of src) ops) → SoundRun src run → Ahead src ops run run 0
+pub ahead-start : {src : Bytes} {ops : List Operation} {run : Run} → All (SoundOp src) ops → All ValidOp (map (op_of src) ops) → SoundRun src run → Ahead src ops run run 0
 ahead-start s v r = record { held = s; valid = v; sound = r; going = begin lawful }
 
-module _ {src : Bytes} {ops : List Operation} {start now : LentRun} {i : ℕ} (a : Ahead src ops start now i) where
+module _ {src : Bytes} {ops : List Operation} {start now : Run} {i : ℕ} (a : Ahead src ops start now i) where
   rest_as : (l : List Op) → drop i (map (op_of src) ops) ≡ l → Going careful (seq_over apply op_steps (map (op_of src) ops)) (seq_over apply op_steps l) (run_of src start) (run_of src now)
   rest_as l e = goes_as lawful a.going (ap (λ (q : List Op). seq_over apply op_steps q (run_of src now).store) e)
 
@@ -69,5 +71,5 @@ module _ {src : Bytes} {ops : List Operation} {start now : LentRun} {i : ℕ} (a
     pub op-ahead : SoundOp src (get_or ops i d) × ValidOp (op_of src (get_or ops i d))
     op-ahead = (op-at src ops i d h a.held, subst ValidOp (get_or-map (op_of src) ops i d) (all_get_d ValidOp (map (op_of src) ops) i (op_of src d) a.valid (omega (arith, length-map ops (op_of src)))))
 
-    pub ahead-next : {next : LentRun} → Follows careful src (op_steps (op_of src (get_or ops i d))) now next → Ahead src ops start next (i + 1)
+    pub ahead-next : {next : Run} → Follows careful src (op_steps (op_of src (get_or ops i d))) now next → Ahead src ops start next (i + 1)
     ahead-next p = record { held = a.held; valid = a.valid; sound = p.sound; going = turn lawful (rest_as _ (read-rest src ops i d h)) p.does }

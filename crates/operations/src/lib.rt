@@ -1,5 +1,6 @@
 // What the operations of a log do at commit: local_storage.rs, `apply_operations`. Each step may fail; behind a failing step no other is
-// done (`steps::attempt`).
+// done (`Run::attempt`). The functions are those of local_storage.rs and parts of them, one for files and one for directories (docs/TWINS.md); each
+// clause names its plan.
 #![tactic(auto)]
 
 ghost use Rattle.std.proofs.Math.Option.{Option};
@@ -14,227 +15,142 @@ ghost use Rattle.spans.specs.Spans.{name_of, Sound};
 ghost use Rattle.plans.specs.Machine.{single};
 ghost use Rattle.plans.specs.ModelPlans.{careful};
 ghost use Rattle.steps.specs.Steps.{FileName};
-ghost use Rattle.steps.specs.CodeRuns.{run_in, SoundRun, Follows};
+ghost use Rattle.steps.specs.CodeRuns.{SoundRun, Follows};
 ghost use Rattle.transaction.specs.Operations.{op_of, SoundOp};
 ghost use Rattle.operations.specs.Parts.{back_up_standing, back_up_standing_dir, make_missing, back_up_all, copy_all};
 
 use spans::NameRef;
 use steps::{Run, Step};
-use store::Nodes;
 use transaction::Operation;
 
 // Renames a file to its backup name. 01, Sixteen numbers, 14: "backup name over 64 bytes".
-fn back_up(
-    src: &[u8],
-    tree: &mut Nodes,
-    staging: &mut Nodes,
-    run: Run,
-    dir: NameRef,
-    file: NameRef,
-) -> Run
-    requires { SoundRun src.now (run_in tree.old staging.old run) × (Sound src.now dir × FileName src.now file) }
-    ensures { Follows careful src.now (single (rename_file (name_of src.now dir) (name_of src.now file) (backup_name (name_of src.now file)))) (run_in tree.old staging.old run) (run_in tree.new staging.new result) }
+fn back_up(src: &[u8], run: &mut Run, dir: NameRef, file: NameRef)
+    requires { SoundRun src.now run.old × (Sound src.now dir × FileName src.now file) }
+    ensures { Follows careful src.now (single (rename_file (name_of src.now dir) (name_of src.now file) (backup_name (name_of src.now file)))) run.old run.new }
 {
     let b = spans::backup(src, file);
     match b {
-        Some(q) => steps::attempt(src, tree, staging, run, Step::RenameFile(dir, file, q)),
-        None => steps::refuse(run),
+        Some(q) => run.attempt(src, Step::RenameFile(dir, file, q)),
+        None => run.refuse(),
     }
 }
 
 // The same for a directory.
-fn back_up_dir(src: &[u8], tree: &mut Nodes, staging: &mut Nodes, run: Run, dir: NameRef) -> Run
-    requires { SoundRun src.now (run_in tree.old staging.old run) × Sound src.now dir }
-    ensures { Follows careful src.now (single (rename_directory (name_of src.now dir) (backup_name (name_of src.now dir)))) (run_in tree.old staging.old run) (run_in tree.new staging.new result) }
+fn back_up_dir(src: &[u8], run: &mut Run, dir: NameRef)
+    requires { SoundRun src.now run.old × Sound src.now dir }
+    ensures { Follows careful src.now (single (rename_directory (name_of src.now dir) (backup_name (name_of src.now dir)))) run.old run.new }
 {
     let b = spans::backup(src, dir);
     match b {
-        Some(q) => steps::attempt(src, tree, staging, run, Step::RenameDirectory(dir, q)),
-        None => steps::refuse(run),
+        Some(q) => run.attempt(src, Step::RenameDirectory(dir, q)),
+        None => run.refuse(),
     }
 }
 
 // Backs up a file, if it stands.
-fn back_up_standing(
-    src: &[u8],
-    tree: &mut Nodes,
-    staging: &mut Nodes,
-    run: Run,
-    dir: NameRef,
-    file: NameRef,
-) -> Run
-    requires { SoundRun src.now (run_in tree.old staging.old run) × (Sound src.now dir × FileName src.now file) }
-    ensures { Follows careful src.now (back_up_standing (name_of src.now dir) (name_of src.now file)) (run_in tree.old staging.old run) (run_in tree.new staging.new result) }
+fn back_up_standing(src: &[u8], run: &mut Run, dir: NameRef, file: NameRef)
+    requires { SoundRun src.now run.old × (Sound src.now dir × FileName src.now file) }
+    ensures { Follows careful src.now (back_up_standing (name_of src.now dir) (name_of src.now file)) run.old run.new }
 {
-    let s = run.store;
-    let n = s.tree;
-    if store::exists(src, tree, n, dir, file) {
-        return back_up(src, tree, staging, run, dir, file);
+    if run.store.tree.exists(src, dir, file) {
+        back_up(src, run, dir, file);
     }
-    run
 }
 
 // The same for a directory.
-fn back_up_standing_dir(
-    src: &[u8],
-    tree: &mut Nodes,
-    staging: &mut Nodes,
-    run: Run,
-    dir: NameRef,
-) -> Run
-    requires { SoundRun src.now (run_in tree.old staging.old run) × Sound src.now dir }
-    ensures { Follows careful src.now (back_up_standing_dir (name_of src.now dir)) (run_in tree.old staging.old run) (run_in tree.new staging.new result) }
+fn back_up_standing_dir(src: &[u8], run: &mut Run, dir: NameRef)
+    requires { SoundRun src.now run.old × Sound src.now dir }
+    ensures { Follows careful src.now (back_up_standing_dir (name_of src.now dir)) run.old run.new }
 {
-    let s = run.store;
-    let n = s.tree;
-    if store::dir_exists(src, tree, n, dir) {
-        return back_up_dir(src, tree, staging, run, dir);
+    if run.store.tree.dir_exists(src, dir) {
+        back_up_dir(src, run, dir);
     }
-    run
 }
 
 // Makes a directory, if it is missing.
-fn make_missing(src: &[u8], tree: &mut Nodes, staging: &mut Nodes, run: Run, dir: NameRef) -> Run
-    requires { SoundRun src.now (run_in tree.old staging.old run) × Sound src.now dir }
-    ensures { Follows careful src.now (make_missing (name_of src.now dir)) (run_in tree.old staging.old run) (run_in tree.new staging.new result) }
+fn make_missing(src: &[u8], run: &mut Run, dir: NameRef)
+    requires { SoundRun src.now run.old × Sound src.now dir }
+    ensures { Follows careful src.now (make_missing (name_of src.now dir)) run.old run.new }
 {
-    let s = run.store;
-    let n = s.tree;
-    if !store::dir_exists(src, tree, n, dir) {
-        return steps::attempt(src, tree, staging, run, Step::MakeDirectory(dir));
+    if !run.store.tree.dir_exists(src, dir) {
+        run.attempt(src, Step::MakeDirectory(dir));
     }
-    run
 }
 
 // A Write, marked or not: the collection is made where it is missing, a file of that name is backed up, the staging file takes its place.
-fn write(
-    src: &[u8],
-    tree: &mut Nodes,
-    staging: &mut Nodes,
-    run: Run,
-    dir: NameRef,
-    key: NameRef,
-    staged: NameRef,
-) -> Run
-    requires { SoundRun src.now (run_in tree.old staging.old run) × (Sound src.now dir × (FileName src.now key × Sound src.now staged)) }
-    ensures { (mark : Option Bool) → Follows careful src.now (op_steps (write (record { collection = name_of src.now dir; key = name_of src.now key; staged = name_of src.now staged; mark = mark }))) (run_in tree.old staging.old run) (run_in tree.new staging.new result) }
+fn write(src: &[u8], run: &mut Run, dir: NameRef, key: NameRef, staged: NameRef)
+    requires { SoundRun src.now run.old × (Sound src.now dir × (FileName src.now key × Sound src.now staged)) }
+    ensures { (mark : Option Bool) → Follows careful src.now (op_steps (write (record { collection = name_of src.now dir; key = name_of src.now key; staged = name_of src.now staged; mark = mark }))) run.old run.new }
 {
-    let made = make_missing(src, tree, staging, run, dir);
-    let kept = back_up_standing(src, tree, staging, made, dir, key);
-    steps::attempt(src, tree, staging, kept, Step::MoveStaged(staged, dir, key))
+    make_missing(src, run, dir);
+    back_up_standing(src, run, dir, key);
+    run.attempt(src, Step::MoveStaged(staged, dir, key));
 }
 
 // Backs up every file of a directory, as it is listed where the walk starts.
-fn backup_all_files_in_dir(
-    src: &[u8],
-    tree: &mut Nodes,
-    staging: &mut Nodes,
-    run: Run,
-    dir: NameRef,
-) -> Run
-    requires { SoundRun src.now (run_in tree.old staging.old run) × Sound src.now dir }
-    ensures { Follows careful src.now (back_up_all (name_of src.now dir)) (run_in tree.old staging.old run) (run_in tree.new staging.new result) }
+fn backup_all_files_in_dir(src: &[u8], run: &mut Run, dir: NameRef)
+    requires { SoundRun src.now run.old × Sound src.now dir }
+    ensures { Follows careful src.now (back_up_all (name_of src.now dir)) run.old run.new }
 {
-    let s = run.store;
-    let mut listing = [0u32; store::ROOM];
-    let n = store::list_files(src, tree, s.tree, dir, &mut listing);
-    let mut work = run;
-    let mut i: usize = 0;
-    while i < n {
-        let file = store::name_at(&listing, i);
-        work = back_up(src, tree, staging, work, dir, file);
-        i += 1;
+    let listing = run.store.tree.files(src, dir);
+    for file in listing.as_slice() {
+        back_up(src, run, dir, *file);
     }
-    work
 }
 
 // Copies every file of a directory, as it is listed where the walk starts.
-fn copy_dir_contents(
-    src: &[u8],
-    tree: &mut Nodes,
-    staging: &mut Nodes,
-    run: Run,
-    from: NameRef,
-    to: NameRef,
-) -> Run
-    requires { SoundRun src.now (run_in tree.old staging.old run) × (Sound src.now from × Sound src.now to) }
-    ensures { Follows careful src.now (copy_all (name_of src.now from) (name_of src.now to)) (run_in tree.old staging.old run) (run_in tree.new staging.new result) }
+fn copy_dir_contents(src: &[u8], run: &mut Run, from: NameRef, to: NameRef)
+    requires { SoundRun src.now run.old × (Sound src.now from × Sound src.now to) }
+    ensures { Follows careful src.now (copy_all (name_of src.now from) (name_of src.now to)) run.old run.new }
 {
-    let s = run.store;
-    let mut listing = [0u32; store::ROOM];
-    let n = store::list_files(src, tree, s.tree, from, &mut listing);
-    let mut work = run;
-    let mut i: usize = 0;
-    while i < n {
-        let file = store::name_at(&listing, i);
-        work = steps::attempt(src, tree, staging, work, Step::CopyFile(from, to, file));
-        i += 1;
+    let listing = run.store.tree.files(src, from);
+    for file in listing.as_slice() {
+        run.attempt(src, Step::CopyFile(from, to, *file));
     }
-    work
 }
 
 // A CopyCollection: its destination is backed up where it stands, and made; then the source is copied. 01, Sixteen numbers, 14: "a copy's
 // source missing".
-fn copy_collection(
-    src: &[u8],
-    tree: &mut Nodes,
-    staging: &mut Nodes,
-    run: Run,
-    from: NameRef,
-    to: NameRef,
-) -> Run
-    requires { SoundRun src.now (run_in tree.old staging.old run) × (Sound src.now from × Sound src.now to) }
-    ensures { (existed : Bool) → Follows careful src.now (op_steps (copy_collection (name_of src.now from) (name_of src.now to) existed)) (run_in tree.old staging.old run) (run_in tree.new staging.new result) }
+fn copy_collection(src: &[u8], run: &mut Run, from: NameRef, to: NameRef)
+    requires { SoundRun src.now run.old × (Sound src.now from × Sound src.now to) }
+    ensures { (existed : Bool) → Follows careful src.now (op_steps (copy_collection (name_of src.now from) (name_of src.now to) existed)) run.old run.new }
 {
-    let kept = back_up_standing_dir(src, tree, staging, run, to);
-    let made = steps::attempt(src, tree, staging, kept, Step::MakeDirectory(to));
-    let s = made.store;
-    let n = s.tree;
-    if store::dir_exists(src, tree, n, from) {
-        return copy_dir_contents(src, tree, staging, made, from, to);
+    back_up_standing_dir(src, run, to);
+    run.attempt(src, Step::MakeDirectory(to));
+    if run.store.tree.dir_exists(src, from) {
+        copy_dir_contents(src, run, from, to);
+    } else {
+        run.refuse();
     }
-    steps::refuse(made)
 }
 
 // What an operation does.
-pub fn apply_operation(
-    src: &[u8],
-    tree: &mut Nodes,
-    staging: &mut Nodes,
-    run: Run,
-    op: Operation,
-) -> Run
-    requires { SoundRun src.now (run_in tree.old staging.old run) × (SoundOp src.now op × ValidOp (op_of src.now op)) }
-    ensures { Follows careful src.now (op_steps (op_of src.now op)) (run_in tree.old staging.old run) (run_in tree.new staging.new result) }
+pub fn apply_operation(src: &[u8], run: &mut Run, op: Operation)
+    requires { SoundRun src.now run.old × (SoundOp src.now op × ValidOp (op_of src.now op)) }
+    ensures { Follows careful src.now (op_steps (op_of src.now op)) run.old run.new }
 {
+    // A run that has stopped looks nothing up any more: docs/DECISIONS.md, 35.
     if run.stopped {
-        return run;
+        return;
     }
     match op {
-        Operation::Write(c, k, f) => write(src, tree, staging, run, c, k, f),
-        Operation::Delete(c, k) => back_up_standing(src, tree, staging, run, c, k),
-        Operation::DeleteAll(c) => backup_all_files_in_dir(src, tree, staging, run, c),
-        Operation::CreateCollection(c) => make_missing(src, tree, staging, run, c),
-        Operation::DeleteCollection(c) => back_up_standing_dir(src, tree, staging, run, c),
-        Operation::CopyCollection(a, b, _) => copy_collection(src, tree, staging, run, a, b),
-        Operation::MarkedWrite(c, k, f, _) => write(src, tree, staging, run, c, k, f),
+        Operation::Write(c, k, f) | Operation::MarkedWrite(c, k, f, _) => {
+            write(src, run, c, k, f)
+        }
+        Operation::Delete(c, k) => back_up_standing(src, run, c, k),
+        Operation::DeleteAll(c) => backup_all_files_in_dir(src, run, c),
+        Operation::CreateCollection(c) => make_missing(src, run, c),
+        Operation::DeleteCollection(c) => back_up_standing_dir(src, run, c),
+        Operation::CopyCollection(a, b, _) => copy_collection(src, run, a, b),
     }
 }
 
 // What operations do, in their order.
-pub fn apply_operations(
-    src: &[u8],
-    tree: &mut Nodes,
-    staging: &mut Nodes,
-    run: Run,
-    ops: &[Operation],
-) -> Run
-    requires { SoundRun src.now (run_in tree.old staging.old run) × (All (SoundOp src.now) ops.now × All ValidOp (map (op_of src.now) ops.now)) }
-    ensures { Follows careful src.now (operation_steps (map (op_of src.now) ops.now)) (run_in tree.old staging.old run) (run_in tree.new staging.new result) }
+pub fn apply_operations(src: &[u8], run: &mut Run, ops: &[Operation])
+    requires { SoundRun src.now run.old × (All (SoundOp src.now) ops.now × All ValidOp (map (op_of src.now) ops.now)) }
+    ensures { Follows careful src.now (operation_steps (map (op_of src.now) ops.now)) run.old run.new }
 {
-    let mut work = run;
     for op in ops {
-        work = apply_operation(src, tree, staging, work, *op);
+        apply_operation(src, run, *op);
     }
-    work
 }

@@ -1,23 +1,24 @@
 -- The operations that were read from the log: a search through them, and the walk from the last to the first.
 use mathlib.Core.Path.{◌≡◌, refl, sym, ap, ◌∙◌}
 use mathlib.Core.List.{List, [], ◌∷◌, ◌++◌, map, reverse, reverse_aux-append}
-use mathlib.Core.Bool.{true, false, ◌||◌}
-use Prim.Native.Nat.{ℕ, suc, ◌+◌, ◌≤◌, ◌<◌}
+use mathlib.Core.Bool.{Bool, ◌||◌}
+use Rattle.std.specs.List.{list_any}
+use Prim.Native.Nat.{ℕ, suc, ◌+◌, ◌<◌}
 use native.Mathlib.Numerals.{add-one}
 use native.Mathlib.Omega.{arith}
-use lib.ListN.{length, drop, get_or, length-map, get_or-map, drop_of_length-le}
+use lib.ListN.{length, drop, get_or, length-map, get_or-map}
 use lib.Seq.{drop-cons}
-use Rattle.basics.specs.Map.{Map}
 use Rattle.basics.specs.Base.{Bytes, any_of}
 use Rattle.model.specs.Operation.{Op}
 use Rattle.model.specs.Store.{Store}
 use Rattle.model.specs.Step.{Step, apply}
-use Rattle.model.specs.Plan.{in_turn, is_new_artifact}
+use Rattle.model.specs.Plan.{in_turn}
 use Rattle.plans.specs.Machine.{seq_over, Going}
 use Rattle.plans.proofs.MachineLaws.{begin, turn, goes_as, finish}
 use Rattle.plans.specs.ModelPlans.{plain, in_turn_lem}
 use Rattle.store.proofs.Lists.{all_get_d}
-use Rattle.steps.specs.CodeRuns.{LentRun, run_of, SoundRun, Follows}
+use Rattle.steps.specs.declared.Run.{Run}
+use Rattle.steps.specs.CodeRuns.{run_of, SoundRun, Follows}
 use Rattle.transaction.specs.Operations.{op_of, SoundOp}
 use Rattle.transaction.specs.declared.Operation.{Operation}
 use Rattle.basic_laws.specs.Tests.{All}
@@ -40,39 +41,22 @@ pub all-split : {A : Type 0} (P : A → Type 0) (l : List A) (a : A) → All P (
 all-split P [] a h = (tt, h.0)
 all-split P (b ∷ l) a h = let q = all-split P l a h.1 in ((h.0, q.0), q.1)
 
--- `has_new_artifacts`: the operations from i on decide.
-pub record Among (src : Bytes) (m : Map) (ops : List Operation) (i : ℕ) : Type 0 where
-  pub sound : All (SoundOp src) ops
-  pub same : any_of (is_new_artifact m) (drop i (map (op_of src) ops)) ≡ any_of (is_new_artifact m) (map (op_of src) ops)
-
-pub among_start : {src : Bytes} (m : Map) {ops : List Operation} → All (SoundOp src) ops → Among src m ops 0
-among_start m s = record { sound = s; same = refl }
-
-module _ {src : Bytes} {m : Map} {ops : List Operation} {i : ℕ} (a : Among src m ops i) where
-  pub none-new : length ops ≤ i → false ≡ any_of (is_new_artifact m) (map (op_of src) ops)
-  none-new h = sym (ap (any_of (is_new_artifact m)) (drop_of_length-le (map (op_of src) ops) {i = i} (omega (arith, length-map ops (op_of src))))) ∙ a.same
-
-  module _ (d : Operation) (h : i < length ops) where
-    ahead : (is_new_artifact m (op_of src (get_or ops i d)) || any_of (is_new_artifact m) (drop (i + 1) (map (op_of src) ops))) ≡ any_of (is_new_artifact m) (map (op_of src) ops)
-    ahead = sym (ap (any_of (is_new_artifact m)) (read-rest src ops i d h)) ∙ a.same
-
-    pub new-found : is_new_artifact m (op_of src (get_or ops i d)) ≡ true → true ≡ any_of (is_new_artifact m) (map (op_of src) ops)
-    new-found e = sym (rw e) ∙ ahead
-
-    pub not_new : is_new_artifact m (op_of src (get_or ops i d)) ≡ false → Among src m ops (i + 1)
-    not_new e = record { sound = a.sound; same = sym (rw e) ∙ ahead }
+-- `has_new_artifacts`: one of the operations passes where one of what they say does.
+pub any-map : {A B : Type 0} (p : B → Bool) (f : A → B) (l : List A) → list_any (λ a. p (f a)) l ≡ any_of p (map f l)
+any-map p f [] = refl
+any-map p f (a ∷ l) = ap (λ (b : Bool). p (f a) || b) (any-map p f l)
 
 -- `remove_new_artifacts`: these operations are left, from the first on.
 module _ (g : Op → Store → List Step) where
-  pub record Back (src : Bytes) (ops : List Operation) (start now : LentRun) (left : List Operation) : Type 0 where
+  pub record Back (src : Bytes) (ops : List Operation) (start now : Run) (left : List Operation) : Type 0 where
     pub left-sound : All (SoundOp src) left
     pub sound : SoundRun src now
     pub going : Going plain (seq_over apply g (reverse (map (op_of src) ops))) (seq_over apply g (reverse (map (op_of src) left))) (run_of src start) (run_of src now)
 
-  pub back_start : {src : Bytes} {ops : List Operation} {run : LentRun} → All (SoundOp src) ops → SoundRun src run → Back src ops run run ops
+  pub back_start : {src : Bytes} {ops : List Operation} {run : Run} → All (SoundOp src) ops → SoundRun src run → Back src ops run run ops
   back_start s r = record { left-sound = s; sound = r; going = begin lawful }
 
-  module _ {src : Bytes} {ops left : List Operation} {start now : LentRun} (b : Back src ops start now left) where
+  module _ {src : Bytes} {ops left : List Operation} {start now : Run} (b : Back src ops start now left) where
     pub back_end : left ≡ [] → Follows plain src (in_turn g (reverse (map (op_of src) ops))) start now
     back_end e =
         follows_as lawful
@@ -83,7 +67,7 @@ module _ (g : Op → Store → List Step) where
       pub op-before : SoundOp src op
       op-before = (all-split (SoundOp src) front op (rw e at b.left-sound)).1
 
-      pub back-next : {next : LentRun} → Follows plain src (g (op_of src op)) now next → Back src ops start next front
+      pub back-next : {next : Run} → Follows plain src (g (op_of src op)) now next → Back src ops start next front
       back-next p =
           let q : map (op_of src) left ≡ map (op_of src) front ++ op_of src op ∷ [] = rw e (map-append (op_of src) front (op ∷ [])) in
           let r : reverse (map (op_of src) left) ≡ op_of src op ∷ reverse (map (op_of src) front) = ap reverse q ∙ reverse_aux-append (map (op_of src) front) (op_of src op ∷ []) [] in

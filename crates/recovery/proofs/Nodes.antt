@@ -1,22 +1,27 @@
 -- A table's nodes: how long their names are.
-use mathlib.Core.Path.{◌≡◌, refl, sym, ◌∙◌}
+use Rattle.std.specs.Prelude as code
+use Rattle.std.specs.Prelude.{None, Some}
+use Rattle.std.specs.Option.{MatchOption}
+use mathlib.Core.Path.{◌≡◌, refl, sym, ap, ◌∙◌}
+use mathlib.Core.List.{[]}
 use mathlib.Core.Option.{Option, none, some}
-use mathlib.Core.Bool.{false}
+use mathlib.Core.Bool.{Bool, false}
 use Prim.Native.Nat.{ℕ, ◌≤◌, ◌<◌}
 use native.Mathlib.Omega.{arith}
 use lib.ListN.{length}
 use Rattle.basics.specs.Order.{Name, Key}
 use Rattle.basics.specs.Map.{look}
 use Rattle.basics.specs.Base.{Bytes, is_some}
-use Rattle.basics.specs.Name.{original_name}
+use Rattle.basics.specs.Name.{backup_name, original_name}
 use Rattle.basic_laws.specs.Tests.{All, all_map}
 use Rattle.basic_laws.specs.MapLaws.{all-look}
 use Rattle.basic_laws.specs.NameLaws.{original-some, original-named}
 use Rattle.basic_laws.specs.ValidNames as valid
-use Rattle.spans.specs.Spans.{name_of, Sound}
+use Rattle.spans.specs.Spans.{name_of, Sound, Backup}
 use Rattle.spans.specs.declared.NameRef.{NameRef}
 use Rattle.spans.proofs.Parts.{length-name}
-use Rattle.store.specs.Tables.{Table, node_of, live, map_of, SoundNode, SoundTable}
+use Rattle.store.specs.declared.Table.{Table}
+use Rattle.store.specs.Tables.{node_of, live, map_of, SoundNode, SoundTable}
 use Rattle.steps.specs.Steps.{FileName}
 use Rattle.steps.proofs.FileNames.{file-name}
 
@@ -36,11 +41,23 @@ module _ {src : Bytes} {t : Table} (s : SoundTable src t) where
       go none e = refl
       go (some x) e = absurd (h x e)
 
-  pub no-long-file : (d f : Name) → 64 < length f → false ≡ is_some (look (d, f) (map_of src t))
+  no-long-file : (d f : Name) → 64 < length f → false ≡ is_some (look (d, f) (map_of src t))
   no-long-file d f h = nowhere (d, f) (λ x e. let k = all-look Short (map_of src t) short (d, f) x e in omega (arith, k.1))
 
-  pub no-long-dir : (d f : Name) → 64 < length d → false ≡ is_some (look (d, f) (map_of src t))
+  no-long-dir : (d f : Name) → 64 < length d → false ≡ is_some (look (d, f) (map_of src t))
   no-long-dir d f h = nowhere (d, f) (λ x e. let k = all-look Short (map_of src t) short (d, f) x e in omega (arith, k.0))
+
+  -- A backup name of over 64 bytes stands nowhere; any other is looked up.
+  module _ (r : NameRef) {b : Bool} {P : NameRef → Type 0} where
+    pub backed-file : (d : Name) (o : code.Option NameRef) → Backup src r o → MatchOption o (b ≡ false) P
+        → ((q : NameRef) → Sound src q → P q → b ≡ is_some (look (d, name_of src q) (map_of src t))) → b ≡ is_some (look (d, backup_name (name_of src r)) (map_of src t))
+    backed-file d None h m k = m ∙ no-long-file d _ h
+    backed-file d (Some q) h m k = k q h.sound m ∙ ap (λ (n : Name). is_some (look (d, n) (map_of src t))) h.same
+
+    pub backed-dir : (o : code.Option NameRef) → Backup src r o → MatchOption o (b ≡ false) P
+        → ((q : NameRef) → Sound src q → P q → b ≡ is_some (look (name_of src q, []) (map_of src t))) → b ≡ is_some (look (backup_name (name_of src r), []) (map_of src t))
+    backed-dir None h m k = m ∙ no-long-dir _ [] h
+    backed-dir (Some q) h m k = k q h.sound m ∙ ap (λ (n : Name). is_some (look (n, []) (map_of src t))) h.same
 
 -- A backup and its original both have a byte at least, so a step may make files of these names.
 pub backup-named : {src : Bytes} (r q : NameRef) → Sound src r → Sound src q → original_name (name_of src r) ≡ some (name_of src q) → FileName src r × FileName src q

@@ -2,7 +2,8 @@
 use mathlib.Core.Path.{◌≡◌, refl, sym, ◌∙◌}
 use mathlib.Core.List.{List, [], ◌∷◌}
 use mathlib.Core.Option.{Option, none, some}
-use mathlib.Core.Bool.{Bool, true, false, false≢true}
+use mathlib.Core.Bool.{true, false, false≢true}
+use Rattle.std.specs.Prelude as std
 use Rattle.basics.specs.Order.{Name}
 use Rattle.basics.specs.Map.{look}
 use Rattle.basics.specs.Base.{Bytes, is_some, if_present, if_missing, if_empty}
@@ -152,17 +153,14 @@ module _ (d : Name) (s : Store) where
       go (some g) e h = absurd (false≢true (sym h))
 
 -- The log, by whether it stands.
-module _ (src : Bytes) (l : LogRef) where
-  pub log-told : is_some (log_bytes src l) ≡ l.stands
+module _ (src : Bytes) where
+  pub log-told : (l : std.Option LogRef) → is_some (log_bytes src l) ≡ std.is_some l
   unfolding log_bytes
-  log-told = go l.stands refl
-    where
-      go : (b : Bool) → l.stands ≡ b → is_some (log_bytes src l) ≡ b
-      go true e = rw e
-      go false e = rw e
+  log-told std.None = refl
+  log-told (std.Some l) = refl
 
-  pub log-gone : l.stands ≡ true → remove_log ∷ [] ≡ if_present (log_bytes src l) (remove_log ∷ [])
-  log-gone h = sym (present (log_bytes src l) _ (log-told ∙ h))
+  pub log-gone : (l : std.Option LogRef) → std.is_some l ≡ true → remove_log ∷ [] ≡ if_present (log_bytes src l) (remove_log ∷ [])
+  log-gone l h = sym (present (log_bytes src l) _ (log-told l ∙ h))
 
-  pub no-log : l.stands ≡ false → if_present (log_bytes src l) (remove_log ∷ []) ≡ []
-  no-log h = absent (log_bytes src l) _ (log-told ∙ h)
+  pub no-log : (l : std.Option LogRef) → std.is_some l ≡ false → if_present (log_bytes src l) (remove_log ∷ []) ≡ []
+  no-log l h = absent (log_bytes src l) _ (log-told l ∙ h)

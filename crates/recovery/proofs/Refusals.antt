@@ -1,14 +1,10 @@
 -- Recovery from a Committing log, by how the walk through it ended.
 use Rattle.std.specs.Prelude.{if◌then◌else◌}
 use mathlib.Core.Path.{◌≡◌, refl}
-use mathlib.Core.List.{List, [], ◌∷◌}
+use mathlib.Core.List.{List}
 use mathlib.Core.Option.{none, some}
 use mathlib.Core.Bool.{true, false, ◌||◌}
-use native.Mathlib.Omega.{arith}
-use mathlib.Core.Logic.{inl, inr}
 use Prim.Native.Nat.{ℕ}
-use types.Run.{OneOf}
-use denote.Enum.Declared.{tag_of}
 use Rattle.basics.specs.Map.{Map}
 use Rattle.basics.specs.Base.{any_of}
 use Rattle.model.specs.Operation.{Op}
@@ -17,7 +13,6 @@ use Rattle.model.specs.Store.{Store, has_backup_files}
 use Rattle.model.specs.Plan.{in_sequence, recover_parts, is_new_artifact}
 use Rattle.wal.specs.declared.Ending.{Ending}
 use Rattle.wal.specs.declared.Ending.TheVariants.{Whole, Truncated, Undecodable, TooMany}
-use Rattle.wal.specs.contracts.Ending.{the_type}
 use Rattle.wal.specs.Logs.{ending_of}
 use Rattle.recovery.specs.Walks.{clean_up}
 use Rattle.recovery.specs.Recoveries.{refusal_of}
@@ -37,10 +32,8 @@ module _ (o : List Op) (t : Map) where
   nothing-found h k = rw (h, k)
 
 -- What is not whole is not undone.
-pub only-cleaned : (o : List Op) (e : Ending) (s : Store) → OneOf (1 ∷ 2 ∷ 3 ∷ []) (tag_of the_type e) → clean_up s ≡ in_sequence (recover_parts (committing o (ending_of e))) s
+pub only-cleaned : (o : List Op) (e : Ending) (s : Store) → (e ≡ Whole → ⊥) → clean_up s ≡ in_sequence (recover_parts (committing o (ending_of e))) s
 only-cleaned o (Truncated c) s h = refl
 only-cleaned o Undecodable s h = refl
 only-cleaned o TooMany s h = refl
-only-cleaned o Whole s (inl z) = absurd (omega arith)
-only-cleaned o Whole s (inr (inl z)) = absurd (omega arith)
-only-cleaned o Whole s (inr (inr z)) = absurd (omega arith)
+only-cleaned o Whole s h = absurd (h refl)

@@ -2,90 +2,73 @@
 // all collections first and at the directories' own names afterwards."
 ghost use Rattle.std.specs.Prelude.{◌≡◌};
 ghost use Rattle.model.specs.Store.{is_backup_file, in_backup_directory, has_backup_files};
-ghost use Rattle.store.specs.Tables.{table_of, map_of, SoundTable};
-ghost use Rattle.recovery.specs.Searches.{Stops, FindsBackup};
+ghost use Rattle.store.specs.Tables.{map_of, SoundTable};
+ghost use Rattle.recovery.specs.Searches.{FirstOf, FindsBackup};
 
 use spans::NameRef;
-use store::{Node, Nodes};
+use store::{Node, Table};
 
 // What the search meets: 02, item 2, "With a yes it names its hit".
-#[derive(Clone, Copy)]
+#[derive(Clone, Copy, Debug, PartialEq, Eq)]
 pub enum BackupHit {
     File(Node),
     Directory(NameRef),
-    Nothing,
 }
 
-// Where the first backup file stands; n for none. 01, Listings and file steps: "The search for a backup leaves both walks at the first hit."
-fn first_backup_file(src: &[u8], t: &Nodes, n: usize) -> usize
-    requires { SoundTable src.now (table_of t.now n) }
-    ensures { Stops is_backup_file src.now (table_of t.now n) result }
+// The first backup file. 01, Listings and file steps: "The search for a backup leaves both walks at the first hit": two loops, the outer one labelled.
+fn first_backup_file(src: &[u8], t: &Table) -> Option<Node>
+    requires { SoundTable src.now t.now }
+    ensures { FirstOf is_backup_file src.now (map_of src.now t.now) result }
 {
+    let nodes = t.nodes.as_slice();
     let mut i: usize = 0;
-    'directories: while i < n {
-        let x = store::node_at(t, i);
-        let dir = x.dir;
+    'directories: while i < nodes.len() {
+        let dir = nodes[i].dir;
         // The nodes of this directory: its own, whose file name is empty, and those of its files.
-        while i < n {
-            let y = store::node_at(t, i);
-            let of = y.dir;
-            let file = y.file;
-            if !spans::same(src, dir, of) {
+        while i < nodes.len() {
+            let x = nodes[i];
+            if !spans::same(src, dir, x.dir) {
                 break;
             }
-            if spans::is_backup(src, file) {
+            if spans::is_backup(src, x.file) {
                 break 'directories;
             }
             i += 1;
         }
     }
-    i
+    if i < nodes.len() {
+        Some(nodes[i])
+    } else {
+        None
+    }
 }
 
-// Where the first directory with a backup's name stands; n for none.
-fn first_backup_directory(src: &[u8], t: &Nodes, n: usize) -> usize
-    requires { SoundTable src.now (table_of t.now n) }
-    ensures { Stops in_backup_directory src.now (table_of t.now n) result }
+// The first directory with a backup's name, by a node of it.
+fn first_backup_directory(src: &[u8], t: &Table) -> Option<Node>
+    requires { SoundTable src.now t.now }
+    ensures { FirstOf in_backup_directory src.now (map_of src.now t.now) result }
 {
-    let mut i: usize = 0;
-    while i < n {
-        let x = store::node_at(t, i);
-        let dir = x.dir;
-        if spans::is_backup(src, dir) {
-            break;
-        }
-        i += 1;
-    }
-    i
+    t.nodes
+        .iter()
+        .find(|x| spans::is_backup(src, x.dir))
+        .copied()
 }
 
 // 02, item 2: "the first backup file in image order, or if no file is one the first directory with a backup's name".
-pub fn find_backup(src: &[u8], t: &Nodes, n: usize) -> BackupHit
-    requires { SoundTable src.now (table_of t.now n) }
-    ensures { FindsBackup src.now (map_of src.now (table_of t.now n)) result }
+pub fn find_backup(src: &[u8], t: &Table) -> Option<BackupHit>
+    requires { SoundTable src.now t.now }
+    ensures { FindsBackup src.now (map_of src.now t.now) result }
 {
-    let i = first_backup_file(src, t, n);
-    if i < n {
-        let x = store::node_at(t, i);
-        return BackupHit::File(x);
+    if let Some(x) = first_backup_file(src, t) {
+        return Some(BackupHit::File(x));
     }
-    let j = first_backup_directory(src, t, n);
-    if j < n {
-        let x = store::node_at(t, j);
-        let dir = x.dir;
-        return BackupHit::Directory(dir);
-    }
-    BackupHit::Nothing
+    first_backup_directory(src, t).map(|x| BackupHit::Directory(x.dir))
 }
 
 // Whether any backup stands.
-pub fn has_backup_files(src: &[u8], t: &Nodes, n: usize) -> bool
-    requires { SoundTable src.now (table_of t.now n) }
-    ensures { result ≡ has_backup_files (map_of src.now (table_of t.now n)) }
+pub fn has_backup_files(src: &[u8], t: &Table) -> bool
+    requires { SoundTable src.now t.now }
+    ensures { result ≡ has_backup_files (map_of src.now t.now) }
 {
-    let hit = find_backup(src, t, n);
-    match hit {
-        BackupHit::File(_) | BackupHit::Directory(_) => true,
-        BackupHit::Nothing => false,
-    }
+    find_backup(src, t).is_some()
 }

@@ -1,22 +1,13 @@
 -- `apply_inner`: the start, the operations, and one of two ends.
-use Rattle.store.specs.Stores.{store_in}
+use Rattle.steps.proofs.Running.{not-refused, refused-by}
 use Rattle.commit.proofs.Applying.{read-valid, finished, rolled_back}
 use Rattle.commit.proofs.apply_inner.Goals as goal
 
-pub mark_and_sync-begun-requires : goal.mark_and_sync-begun-requires
-mark_and_sync-begun-requires c = (c.start-run.ensures c.args.tree.now c.args.staging.now).sound _ c.requires.0
+pub apply_operations-requires : goal.apply_operations-requires
+apply_operations-requires c = (c.mark_and_sync.ensures.sound, (c.requires.1.0, read-valid _ c.args.store c.args.ops.now c.requires.1.1))
 
-pub apply_operations-tried-requires : goal.apply_operations-tried-requires
-apply_operations-tried-requires c = (c.mark_and_sync-begun.ensures.sound, (c.requires.1.0, read-valid _ (store_in c.args.tree.now c.args.staging.now c.args.s) c.args.ops.now c.requires.1.1))
+pub returns-then-is_none : goal.returns-then-is_none
+returns-then-is_none c = finished _ c.args.store c.args.ops.now c.requires.1.1 c.args.end c.new-run.ensures c.mark_and_sync.ensures c.apply_operations.ensures (not-refused _ (rw c.if-is_none.true at c.is_none.ensures)) c.finish.ensures
 
-pub finish-requires : goal.finish-requires
-finish-requires c = (c.apply_operations-tried.ensures.sound, c.requires.1.0)
-
-pub roll_back-requires : goal.roll_back-requires
-roll_back-requires c = (c.apply_operations-tried.ensures.sound, c.requires.1.0)
-
-pub returns-then-refusal-eq0 : goal.returns-then-refusal-eq0
-returns-then-refusal-eq0 c = finished _ (store_in c.args.tree.now c.args.staging.now c.args.s) c.args.ops.now c.requires.1.1 c.args.holds (c.start-run.ensures c.args.tree.now c.args.staging.now) c.mark_and_sync-begun.ensures c.apply_operations-tried.ensures c.if-refusal-eq0.true c.finish.ensures
-
-pub returns-else-refusal-eq0 : goal.returns-else-refusal-eq0
-returns-else-refusal-eq0 c = rolled_back _ (store_in c.args.tree.now c.args.staging.now c.args.s) c.args.ops.now c.requires.1.1 c.args.holds (c.start-run.ensures c.args.tree.now c.args.staging.now) c.mark_and_sync-begun.ensures c.apply_operations-tried.ensures c.if-refusal-eq0.false c.roll_back.ensures
+pub returns-else-is_none : goal.returns-else-is_none
+returns-else-is_none c = rolled_back _ c.args.store c.args.ops.now c.requires.1.1 c.args.end c.new-run.ensures c.mark_and_sync.ensures c.apply_operations.ensures (refused-by _ (rw c.if-is_none.false at c.is_none.ensures)) c.roll_back.ensures

@@ -5,14 +5,14 @@ use Rattle.steps.specs.Steps.{step_of}
 use Rattle.recovery.proofs.Follow.{step_then}
 use Rattle.commit.proofs.hold_log.Goals as goal
 
-pub advance-held-requires : goal.advance-held-requires
-unfolding step_of
-advance-held-requires c = ((c.requires, record { names = tt }), tt)
-
 pub advance-requires : goal.advance-requires
 unfolding step_of
-advance-requires c = ((c.advance-held.ensures.sound, record { names = tt }), tt)
+advance-requires c = ((c.requires, record { names = tt }), tt)
+
+pub advance-requires-2 : goal.advance-requires-2
+unfolding step_of
+advance-requires-2 c = ((c.advance.ensures.sound, record { names = tt }), tt)
 
 pub returns : goal.returns
 unfolding step_of
-returns c = step_then c.advance-held.ensures (sync_log ∷ []) c.advance.ensures
+returns c = step_then c.advance.ensures (sync_log ∷ []) c.advance-2.ensures

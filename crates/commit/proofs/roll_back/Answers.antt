@@ -6,4 +6,4 @@ use Rattle.recovery.proofs.Follow.{last-part, part_then, undone_then}
 use Rattle.commit.proofs.roll_back.Goals as goal
 
 pub returns : goal.returns
-returns c = undone_then _ c.undo_all-undone.ensures ((λ s. remove_log ∷ sync_journal ∷ []) ∷ remove_staging_files ∷ []) (part_then c.remove_log_durably-removed.ensures (remove_staging_files ∷ []) (last-part c.cleanup_staging_dir.ensures))
+returns c = undone_then _ c.undo_all.ensures ((λ s. remove_log ∷ sync_journal ∷ []) ∷ remove_staging_files ∷ []) (part_then c.remove_log_durably.ensures (remove_staging_files ∷ []) (last-part c.cleanup_staging_dir.ensures))

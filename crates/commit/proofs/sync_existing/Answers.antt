@@ -13,5 +13,5 @@ pub returns-then-dir_exists : goal.returns-then-dir_exists
 unfolding step_of
 returns-then-dir_exists c = follows_as lawful c.advance.ensures (synced _ _ (sym c.dir_exists.ensures ∙ c.if-dir_exists.true))
 
-pub returns : goal.returns
-returns c = stays lawful c.requires.0 (not-synced _ _ (sym c.dir_exists.ensures ∙ c.if-dir_exists.false))
+pub returns-else-dir_exists : goal.returns-else-dir_exists
+returns-else-dir_exists c = stays lawful c.requires.0 (not-synced _ _ (sym c.dir_exists.ensures ∙ c.if-dir_exists.false))

@@ -2,13 +2,9 @@
 use mathlib.Core.Path.{sym, ◌∙◌}
 use mathlib.Core.Bool.{false≢true}
 use native.Mathlib.Omega.{arith}
-use borrow.Author.Rules.{rules}
-use Rattle.decode.proofs.Steps.{name-fits, dir-broken, dir-ordered, dir-followed}
 use Rattle.spans.proofs.Parts.{empty-name}
+use Rattle.decode.proofs.Steps.{name-fits, dir-broken, dir-ordered, dir-followed}
 use Rattle.decode.proofs.dir_at.Goals as goal
-
-pub returns-then-dirs-ge-DIR_LIMIT : goal.returns-then-dirs-ge-DIR_LIMIT
-returns-then-dirs-ge-DIR_LIMIT c = dir-broken c.requires (λ t. let r = t.room in omega arith)
 
 pub returns-then-not-sanitize_path_segment : goal.returns-then-not-sanitize_path_segment
 returns-then-not-sanitize_path_segment c = dir-broken c.requires (λ t. false≢true (sym (c.if-not-sanitize_path_segment.true) ∙ c.sanitize_path_segment.ensures ∙ t.valid))
@@ -23,7 +19,7 @@ pub returns : goal.returns
 returns c =
     dir-followed c.requires
     record {
-      room = search rules;
+      room = omega arith;
       valid = sym c.sanitize_path_segment.ensures ∙ c.if-not-sanitize_path_segment.false;
       above = (dir-ordered c.requires c.span-name.ensures c.is_below.ensures).0 (c.if-not-is_below.false);
     }

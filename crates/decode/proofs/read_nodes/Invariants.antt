@@ -5,8 +5,8 @@ use lib.ListN.{length}
 use Rattle.decode.proofs.Progress.{Progress}
 use Rattle.decode.proofs.read_nodes.Given as goal
 
-abbrev pub invariant-loop-p : goal.invariant-loop-p
-invariant-loop-p l = Progress l.staged l.src l.at l.t l.len l.last
+abbrev pub invariant-loop-x : goal.invariant-loop-x
+invariant-loop-x l = Progress l.staged l.src l.at l.table l.last
 
-abbrev pub decreases-loop-p : goal.decreases-loop-p
-decreases-loop-p l = length l.src - l.last.next
+abbrev pub decreases-loop-x : goal.decreases-loop-x
+decreases-loop-x l = length l.src - l.last.next

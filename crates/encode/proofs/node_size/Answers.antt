@@ -1,12 +1,15 @@
 -- `encode::node_size` meets its contract.
+use mathlib.Core.Path.{sym, ◌∙◌}
 use Rattle.encode.proofs.Counting.{staged-size, file-size, dir-size}
 use Rattle.encode.proofs.node_size.Goals as goal
+use Rattle.encode.proofs.node_size.Goals.{else-not-staged-via-then-not-staged+else-is_dir, else-not-staged-via-else-not-staged}
 
-pub returns-then-staged : goal.returns-then-staged
-returns-then-staged c = staged-size c.length_of-n.ensures.0 c.if-staged.true
-
-pub returns-then-n-eq0 : goal.returns-then-n-eq0
-returns-then-n-eq0 c = dir-size c.length_of-n.ensures.0 c.if-staged.false c.if-n-eq0.true c.length_of.ensures.0
+pub returns-then-is_dir : goal.returns-then-is_dir
+returns-then-is_dir c = dir-size c.if-not-staged.true (sym c.is_dir.ensures ∙ c.if-is_dir.true) c.length_of.ensures.0
 
 pub returns : goal.returns
-returns c = file-size c.length_of-n.ensures.0 c.if-staged.false c.if-n-eq0.false
+returns c =
+    elim c.else-not-staged.branch [
+      | else-not-staged-via-then-not-staged+else-is_dir w ↦ file-size w.if-not-staged.true (sym w.is_dir.ensures ∙ w.if-is_dir.false) c.length_of-2.ensures.0
+      | else-not-staged-via-else-not-staged w ↦ staged-size w.if-not-staged.false c.length_of-2.ensures.0
+    ]

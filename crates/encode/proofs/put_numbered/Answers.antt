@@ -1,10 +1,14 @@
--- `encode::put_numbered` meets its contract: tag and length, number, name.
-use native.Mathlib.Omega.{arith}
-use Rattle.encode.proofs.Placing.{numbered-written, numbered-none}
+-- `encode::put_numbered` meets its contract: the number's bytes stand in front of the name.
+use mathlib.Core.Path.{ap, ◌∙◌}
+use mathlib.Core.List.{◌++◌}
+use Rattle.basics.specs.Base.{Bytes}
+use Rattle.basics.specs.Field.{encode_field}
+use Rattle.spans.specs.Spans.{name_of}
+use Rattle.field.specs.Writing.{written, field}
+use Rattle.field.proofs.Numbers.{bytes-four}
 use Rattle.encode.proofs.put_numbered.Goals as goal
 
-pub returns-then-n-saturating_sub : goal.returns-then-n-saturating_sub
-returns-then-n-saturating_sub c = numbered-written c.requires _ _ _ _ _ c.length_of-n.ensures.0 c.put_field_head.ensures c.put_u32.ensures c.put_name.ensures (omega arith)
-
-pub returns-else-n-saturating_sub : goal.returns-else-n-saturating_sub
-returns-else-n-saturating_sub c = numbered-none c.requires _ _ _ _ _ c.length_of-n.ensures.0 (omega arith)
+pub returns : goal.returns
+returns c =
+    c.put_fronted_field.ensures
+    ∙ ap (λ (b : Bytes). written c.args.at (encode_field (field c.args.tag (b ++ name_of c.args.src.now c.args.name))) c.args.out.now) (c.to_le_bytes.ensures ∙ bytes-four c.args.number)

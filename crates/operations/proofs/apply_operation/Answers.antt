@@ -1,4 +1,5 @@
 -- `apply_operation`: by the operation's kind.
+use mathlib.Core.Logic.{inl, inr}
 use mathlib.Core.Option.{none, some}
 use Rattle.basic_laws.specs.ValidNames.{valid-named}
 use Rattle.steps.proofs.FileNames.{file-name}
@@ -11,28 +12,21 @@ pub returns-then-run : goal.returns-then-run
 returns-then-run c = stopped c.requires.0 c.if-run.true
 
 pub write-requires : goal.write-requires
-write-requires c = let o = rw c.in-Write.is at c.requires.1 in (c.requires.0, (o.0.0, (file-name o.0.1.0 (valid-named _ o.1.1), o.0.1.1)))
+write-requires c =
+    elim c.in-Write.is [
+      | inl e ↦ let o = rw e at c.requires.1 in (c.requires.0, (o.0.0, (file-name o.0.1.0 (valid-named _ o.1.1), o.0.1.1)))
+      | inr e ↦ let o = rw e.1 at c.requires.1 in (c.requires.0, (o.0.0, (file-name o.0.1.0 (valid-named _ o.1.1), o.0.1.1)))
+    ]
 
 pub back_up_standing-requires : goal.back_up_standing-requires
 back_up_standing-requires c = let o = rw c.in-Delete.is at c.requires.1 in (c.requires.0, (o.0.0, file-name o.0.1 (valid-named _ o.1.1)))
 
-pub backup_all_files_in_dir-requires : goal.backup_all_files_in_dir-requires
-backup_all_files_in_dir-requires c = let o = rw c.in-DeleteAll.is at c.requires.1 in (c.requires.0, o.0)
-
-pub make_missing-requires : goal.make_missing-requires
-make_missing-requires c = let o = rw c.in-CreateCollection.is at c.requires.1 in (c.requires.0, o.0)
-
-pub back_up_standing_dir-requires : goal.back_up_standing_dir-requires
-back_up_standing_dir-requires c = let o = rw c.in-DeleteCollection.is at c.requires.1 in (c.requires.0, o.0)
-
-pub copy_collection-requires : goal.copy_collection-requires
-copy_collection-requires c = let o = rw c.in-CopyCollection.is at c.requires.1 in (c.requires.0, o.0)
-
-pub write-requires-in-MarkedWrite : goal.write-requires-in-MarkedWrite
-write-requires-in-MarkedWrite c = let o = rw c.in-MarkedWrite.is at c.requires.1 in (c.requires.0, (o.0.0, (file-name o.0.1.0 (valid-named _ o.1.1), o.0.1.1)))
-
 pub returns-in-Write : goal.returns-in-Write
-returns-in-Write c = rw c.in-Write.is (c.write.ensures none)
+returns-in-Write c =
+    elim c.in-Write.is [
+      | inl e ↦ rw e (c.write.ensures none)
+      | inr e ↦ rw e.1 (c.write.ensures (some _))
+    ]
 
 pub returns-in-Delete : goal.returns-in-Delete
 returns-in-Delete c = follows_as lawful c.back_up_standing.ensures (rw c.in-Delete.is (by-delete _ _ _))
@@ -48,6 +42,3 @@ returns-in-DeleteCollection c = follows_as lawful c.back_up_standing_dir.ensures
 
 pub returns-in-CopyCollection : goal.returns-in-CopyCollection
 returns-in-CopyCollection c = rw c.in-CopyCollection.is (c.copy_collection.ensures _)
-
-pub returns-in-MarkedWrite : goal.returns-in-MarkedWrite
-returns-in-MarkedWrite c = rw c.in-MarkedWrite.is (c.write-in-MarkedWrite.ensures (some _))

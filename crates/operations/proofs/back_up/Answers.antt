@@ -15,4 +15,4 @@ unfolding step_of
 returns-in-Some c = rw (rw c.in-Some.is at c.backup-b.ensures).same at c.attempt.ensures
 
 pub returns-in-None : goal.returns-in-None
-returns-in-None c = refused c.requires.0 (c.refuse.ensures _ c.args.tree.now c.args.staging.now) _ (long-file _ _ _ _ (rw c.in-None.is at c.backup-b.ensures))
+returns-in-None c = refused c.requires.0 (c.refuse.ensures _) _ (long-file _ _ _ _ (rw c.in-None.is at c.backup-b.ensures))

@@ -8,5 +8,5 @@ use Rattle.operations.proofs.back_up_standing.Goals as goal
 pub returns-then-exists : goal.returns-then-exists
 returns-then-exists c = follows_as lawful c.back_up.ensures (file-kept _ _ _ (sym c.exists.ensures ∙ c.if-exists.true))
 
-pub returns : goal.returns
-returns c = stays lawful c.requires.0 (no-file _ _ _ (sym c.exists.ensures ∙ c.if-exists.false))
+pub returns-else-exists : goal.returns-else-exists
+returns-else-exists c = stays lawful c.requires.0 (no-file _ _ _ (sym c.exists.ensures ∙ c.if-exists.false))

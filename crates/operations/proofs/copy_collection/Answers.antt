@@ -9,10 +9,10 @@ use Rattle.operations.proofs.copy_collection.Goals as goal
 
 pub returns-then-dir_exists : goal.returns-then-dir_exists
 unfolding step_of
-returns-then-dir_exists c = copied _ _ c.back_up_standing_dir-kept.ensures c.attempt-made.ensures (follows_as lawful c.copy_dir_contents.ensures (source-copied _ _ _ (sym c.dir_exists.ensures ∙ c.if-dir_exists.true)))
+returns-then-dir_exists c = copied _ _ c.back_up_standing_dir.ensures c.attempt.ensures (follows_as lawful c.copy_dir_contents.ensures (source-copied _ _ _ (sym c.dir_exists.ensures ∙ c.if-dir_exists.true)))
 
-pub returns : goal.returns
+pub returns-else-dir_exists : goal.returns-else-dir_exists
 unfolding step_of
-returns c =
+returns-else-dir_exists c =
     let gone = sym c.dir_exists.ensures ∙ c.if-dir_exists.false in
-    copied _ _ c.back_up_standing_dir-kept.ensures c.attempt-made.ensures (follows_as lawful (refused c.attempt-made.ensures.sound (c.refuse.ensures _ c.attempt-made.new.tree c.attempt-made.new.staging) _ (no_source _ _ _ gone)) (source-gone _ _ _ gone))
+    copied _ _ c.back_up_standing_dir.ensures c.attempt.ensures (follows_as lawful (refused c.attempt.ensures.sound (c.refuse.ensures _) _ (no_source _ _ _ gone)) (source-gone _ _ _ gone))

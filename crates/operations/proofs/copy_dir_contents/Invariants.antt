@@ -1,17 +1,12 @@
 -- `copy_dir_contents` walks through the listing, and copies each file of the directory.
-use Prim.Native.Nat.{◌-◌}
 use Rattle.model.specs.Store.{files}
 use Rattle.model.specs.Step.{copy_file}
 use Rattle.spans.specs.Spans.{name_of}
-use Rattle.store.specs.Tables.{table_of, map_of}
-use Rattle.steps.specs.CodeRuns.{run_in}
+use Rattle.store.specs.Tables.{map_of}
 use Rattle.recovery.proofs.Over.{Over}
 use Rattle.operations.proofs.Careful.{lawful}
 use Rattle.operations.proofs.Each.{each}
 use Rattle.operations.proofs.copy_dir_contents.Given as goal
 
-abbrev pub invariant-loop-i : goal.invariant-loop-i
-invariant-loop-i l = Over lawful l.src (each (copy_file (name_of l.src l.from) (name_of l.src l.to))) l.listing l.n (files (name_of l.src l.from) (map_of l.src (table_of l.initial.tree l.initial.work.store.tree))) (run_in l.initial.tree l.initial.staging l.initial.work) (run_in l.tree l.staging l.work) l.i
-
-abbrev pub decreases-loop-i : goal.decreases-loop-i
-decreases-loop-i l = l.n - l.i
+abbrev pub invariant-loop-file : goal.invariant-loop-file
+invariant-loop-file l = Over lawful l.src (each (copy_file (name_of l.src l.from) (name_of l.src l.to))) (record { items = l.file-items }) (files (name_of l.src l.from) (map_of l.src l.initial.run.store.tree)) l.initial.run l.run l.file-index

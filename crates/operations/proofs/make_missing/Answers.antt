@@ -10,5 +10,5 @@ pub returns-then-not-dir_exists : goal.returns-then-not-dir_exists
 unfolding step_of
 returns-then-not-dir_exists c = follows_as lawful c.attempt.ensures (dir-made _ _ (sym c.dir_exists.ensures ∙ c.if-not-dir_exists.true))
 
-pub returns : goal.returns
-returns c = stays lawful c.requires.0 (dir-stands _ _ (sym c.dir_exists.ensures ∙ c.if-not-dir_exists.false))
+pub returns-else-not-dir_exists : goal.returns-else-not-dir_exists
+returns-else-not-dir_exists c = stays lawful c.requires.0 (dir-stands _ _ (sym c.dir_exists.ensures ∙ c.if-not-dir_exists.false))

@@ -6,9 +6,6 @@ use Rattle.operations.proofs.Careful.{lawful}
 use Rattle.operations.proofs.ByKind.{by-write}
 use Rattle.operations.proofs.write.Goals as goal
 
-pub attempt-requires : goal.attempt-requires
-attempt-requires c = (c.back_up_standing-kept.ensures.sound, record { names = (c.requires.1.1.1, (c.requires.1.0, c.requires.1.1.0)) })
-
 pub returns : goal.returns
 unfolding step_of
-returns c = λ mark. follows_as lawful (follows_then lawful (follows_then lawful c.make_missing-made.ensures c.back_up_standing-kept.ensures) c.attempt.ensures) (by-write _ _ _ _ mark (filled c.requires.1.1.0))
+returns c = λ mark. follows_as lawful (follows_then lawful (follows_then lawful c.make_missing.ensures c.back_up_standing.ensures) c.attempt.ensures) (by-write _ _ _ _ mark (filled c.requires.1.1.0))

@@ -13,5 +13,5 @@ pub returns-then-exists : goal.returns-then-exists
 unfolding step_of
 returns-then-exists c = follows_as lawful c.advance.ensures (file_cleared _ _ _ (sym c.exists.ensures ∙ c.if-exists.true))
 
-pub returns : goal.returns
-returns c = stays lawful c.requires.0 (no-file _ _ _ (sym c.exists.ensures ∙ c.if-exists.false))
+pub returns-else-exists : goal.returns-else-exists
+returns-else-exists c = stays lawful c.requires.0 (no-file _ _ _ (sym c.exists.ensures ∙ c.if-exists.false))

@@ -13,5 +13,5 @@ pub returns-then-is_backup : goal.returns-then-is_backup
 unfolding step_of
 returns-then-is_backup c = follows_as lawful c.advance.ensures (drops-backup _ _ _ (sym c.is_backup.ensures ∙ c.if-is_backup.true))
 
-pub returns : goal.returns
-returns c = stays lawful c.requires.0 (no-backup _ _ _ (sym c.is_backup.ensures ∙ c.if-is_backup.false))
+pub returns-else-is_backup : goal.returns-else-is_backup
+returns-else-is_backup c = stays lawful c.requires.0 (no-backup _ _ _ (sym c.is_backup.ensures ∙ c.if-is_backup.false))

@@ -6,5 +6,5 @@ use Rattle.recovery.proofs.is_new_file.Goals as goal
 pub returns-then-exists : goal.returns-then-exists
 returns-then-exists c = file-new _ _ _ (sym c.exists.ensures ∙ c.if-exists.true) c.has_backup.ensures
 
-pub returns : goal.returns
-returns c = file-old _ _ _ (sym c.exists.ensures ∙ c.if-exists.false)
+pub returns-else-exists : goal.returns-else-exists
+returns-else-exists c = c.if-exists.false ∙ file-old _ _ _ (sym c.exists.ensures ∙ c.if-exists.false)

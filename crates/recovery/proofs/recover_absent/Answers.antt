@@ -5,4 +5,4 @@ use Rattle.recovery.proofs.Follow.{last-part, part_then}
 use Rattle.recovery.proofs.recover_absent.Goals as goal
 
 pub returns : goal.returns
-returns c = part_then c.delete_all_backup_files-deleted.ensures (remove_standing_log ∷ remove_staging_files ∷ []) (part_then c.remove_log-removed.ensures (remove_staging_files ∷ []) (last-part c.cleanup_staging_dir.ensures))
+returns c = part_then c.delete_all_backup_files.ensures (remove_standing_log ∷ remove_staging_files ∷ []) (part_then c.remove_log.ensures (remove_staging_files ∷ []) (last-part c.cleanup_staging_dir.ensures))

@@ -1,4 +1,5 @@
 -- `remove_log` removes a log that stands.
+use mathlib.Core.Path.{sym, ◌∙◌}
 use Rattle.steps.specs.Steps.{step_of}
 use Rattle.recovery.proofs.Follow.{lawful, stays, follows_as}
 use Rattle.recovery.proofs.Picks.{log-gone, no-log}
@@ -8,9 +9,9 @@ pub advance-requires : goal.advance-requires
 unfolding step_of
 advance-requires c = ((c.requires, record { names = tt }), tt)
 
-pub returns-then-log : goal.returns-then-log
+pub returns-then-is_some : goal.returns-then-is_some
 unfolding step_of
-returns-then-log c = follows_as lawful c.advance.ensures (log-gone _ _ c.if-log.true)
+returns-then-is_some c = follows_as lawful c.advance.ensures (log-gone _ _ (sym c.is_some.ensures ∙ c.if-is_some.true))
 
-pub returns : goal.returns
-returns c = stays lawful c.requires (no-log _ _ c.if-log.false)
+pub returns-else-is_some : goal.returns-else-is_some
+returns-else-is_some c = stays lawful c.requires (no-log _ _ (sym c.is_some.ensures ∙ c.if-is_some.false))

@@ -6,12 +6,9 @@ use Rattle.recovery.proofs.Nodes.{backup-named}
 use Rattle.recovery.proofs.Picks.{restores, drops_tmp, leaves}
 use Rattle.recovery.proofs.restore_file.Goals as goal
 
-pub clear_file-cleared-requires : goal.clear_file-cleared-requires
-clear_file-cleared-requires c = (c.requires.0, (c.requires.1.0, (rw c.in-Some.is at c.original-o.ensures).0))
-
 pub advance-requires : goal.advance-requires
 unfolding step_of
-advance-requires c = let o = rw c.in-Some.is at c.original-o.ensures in ((c.clear_file-cleared.ensures.sound, record { names = (c.requires.1.0, backup-named _ _ c.requires.1.1 o.0 o.1) }), tt)
+advance-requires c = let o = rw c.in-Some.is at c.original-restored.ensures in ((c.clear_file.ensures.sound, record { names = (c.requires.1.0, backup-named _ _ c.requires.1.1 o.0 o.1) }), tt)
 
 pub advance-requires-then-is_tmp : goal.advance-requires-then-is_tmp
 unfolding step_of
@@ -19,11 +16,11 @@ advance-requires-then-is_tmp c = ((c.requires.0, record { names = c.requires.1 }
 
 pub returns-then-is_tmp : goal.returns-then-is_tmp
 unfolding step_of
-returns-then-is_tmp c = follows_as lawful c.advance-then-is_tmp.ensures (drops_tmp _ _ _ (rw c.in-None.is at c.original-o.ensures) (sym c.is_tmp.ensures ∙ c.if-is_tmp.true))
+returns-then-is_tmp c = follows_as lawful c.advance-then-is_tmp.ensures (drops_tmp _ _ _ (rw c.in-None.is at c.original-restored.ensures) (sym c.is_tmp.ensures ∙ c.if-is_tmp.true))
 
 pub returns-in-Some : goal.returns-in-Some
 unfolding step_of
-returns-in-Some c = follows_as lawful (follows_then lawful c.clear_file-cleared.ensures c.advance.ensures) (restores _ _ _ _ (rw c.in-Some.is at c.original-o.ensures).1)
+returns-in-Some c = follows_as lawful (follows_then lawful c.clear_file.ensures c.advance.ensures) (restores _ _ _ _ (rw c.in-Some.is at c.original-restored.ensures).1)
 
 pub returns-else-is_tmp : goal.returns-else-is_tmp
-returns-else-is_tmp c = stays lawful c.requires.0 (leaves _ _ _ (rw c.in-None.is at c.original-o.ensures) (sym c.is_tmp.ensures ∙ c.if-is_tmp.false))
+returns-else-is_tmp c = stays lawful c.requires.0 (leaves _ _ _ (rw c.in-None.is at c.original-restored.ensures) (sym c.is_tmp.ensures ∙ c.if-is_tmp.false))

@@ -1,15 +1,10 @@
--- `rollback_partial_commit` walks through the listing, and restores each directory.
-use Prim.Native.Nat.{◌-◌}
+-- `rollback_partial_commit` walks through the listing of the directories.
 use Rattle.model.specs.Store.{dirs}
 use Rattle.model.specs.Plan.{restore_directory}
-use Rattle.store.specs.Tables.{table_of, map_of}
-use Rattle.steps.specs.CodeRuns.{run_in}
+use Rattle.store.specs.Tables.{map_of}
 use Rattle.recovery.proofs.Follow.{lawful}
 use Rattle.recovery.proofs.Over.{Over}
 use Rattle.recovery.proofs.rollback_partial_commit.Given as goal
 
-abbrev pub invariant-loop-i : goal.invariant-loop-i
-invariant-loop-i l = Over lawful l.src restore_directory l.listing l.n (dirs (map_of l.src (table_of l.initial.tree l.initial.work.store.tree))) (run_in l.initial.tree l.initial.staging l.initial.work) (run_in l.tree l.staging l.work) l.i
-
-abbrev pub decreases-loop-i : goal.decreases-loop-i
-decreases-loop-i l = l.n - l.i
+abbrev pub invariant-loop-dir : goal.invariant-loop-dir
+invariant-loop-dir l = Over lawful l.src restore_directory (record { items = l.dir-items }) (dirs (map_of l.src l.initial.run.store.tree)) l.initial.run l.run l.dir-index

@@ -5,4 +5,4 @@ use Rattle.recovery.proofs.undo_all.Goals as goal
 
 pub returns : goal.returns
 unfolding undo_all
-returns c = follows_then lawful c.remove_new_artifacts-undone.ensures c.rollback_partial_commit.ensures
+returns c = follows_then lawful c.remove_new_artifacts.ensures c.rollback_partial_commit.ensures

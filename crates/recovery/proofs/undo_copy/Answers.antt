@@ -12,9 +12,9 @@ pub advance-requires : goal.advance-requires
 unfolding step_of
 advance-requires c = ((c.requires.0, record { names = c.requires.1 }), tt)
 
-pub returns-then-dir_exists : goal.returns-then-dir_exists
+pub returns-else-has_backup_dir : goal.returns-else-has_backup_dir
 unfolding step_of
-returns-then-dir_exists c = follows_as lawful c.advance.ensures (copy_gone _ _ (sym c.dir_exists.ensures ∙ c.if-dir_exists.true) (sym c.has_backup_dir.ensures ∙ c.if-has_backup_dir.false))
+returns-else-has_backup_dir c = follows_as lawful c.advance.ensures (copy_gone _ _ (sym c.dir_exists.ensures ∙ c.if-dir_exists.true) (sym c.has_backup_dir.ensures ∙ c.if-has_backup_dir.false))
 
-pub returns : goal.returns
-returns c = stays lawful c.requires.0 (copy_none _ _ (sym c.dir_exists.ensures ∙ c.if-dir_exists.false))
+pub returns-else-dir_exists : goal.returns-else-dir_exists
+returns-else-dir_exists c = stays lawful c.requires.0 (copy_none _ _ (sym c.dir_exists.ensures ∙ c.if-dir_exists.false))

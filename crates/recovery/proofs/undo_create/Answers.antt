@@ -13,8 +13,8 @@ pub returns-then-is_dir_empty : goal.returns-then-is_dir_empty
 unfolding step_of
 returns-then-is_dir_empty c = follows_as lawful c.advance.ensures (create_gone _ _ (sym c.dir_exists.ensures ∙ c.if-dir_exists.true) (sym c.is_dir_empty.ensures ∙ c.if-is_dir_empty.true))
 
-pub returns-then-dir_exists : goal.returns-then-dir_exists
-returns-then-dir_exists c = stays lawful c.requires.0 (create_kept _ _ (sym c.dir_exists.ensures ∙ c.if-dir_exists.true) (sym c.is_dir_empty.ensures ∙ c.if-is_dir_empty.false))
+pub returns-else-is_dir_empty : goal.returns-else-is_dir_empty
+returns-else-is_dir_empty c = stays lawful c.requires.0 (create_kept _ _ (sym c.dir_exists.ensures ∙ c.if-dir_exists.true) (sym c.is_dir_empty.ensures ∙ c.if-is_dir_empty.false))
 
-pub returns : goal.returns
-returns c = stays lawful c.requires.0 (create_none _ _ (sym c.dir_exists.ensures ∙ c.if-dir_exists.false))
+pub returns-else-dir_exists : goal.returns-else-dir_exists
+returns-else-dir_exists c = stays lawful c.requires.0 (create_none _ _ (sym c.dir_exists.ensures ∙ c.if-dir_exists.false))

@@ -12,9 +12,9 @@ pub advance-requires : goal.advance-requires
 unfolding step_of
 advance-requires c = ((c.requires.0, record { names = c.requires.1 }), tt)
 
-pub returns-then-exists : goal.returns-then-exists
+pub returns-else-has_backup : goal.returns-else-has_backup
 unfolding step_of
-returns-then-exists c = follows_as lawful c.advance.ensures (write-gone _ _ _ (sym c.exists.ensures ∙ c.if-exists.true) (sym c.has_backup.ensures ∙ c.if-has_backup.false))
+returns-else-has_backup c = follows_as lawful c.advance.ensures (write-gone _ _ _ (sym c.exists.ensures ∙ c.if-exists.true) (sym c.has_backup.ensures ∙ c.if-has_backup.false))
 
-pub returns : goal.returns
-returns c = stays lawful c.requires.0 (write-none _ _ _ (sym c.exists.ensures ∙ c.if-exists.false))
+pub returns-else-exists : goal.returns-else-exists
+returns-else-exists c = stays lawful c.requires.0 (write-none _ _ _ (sym c.exists.ensures ∙ c.if-exists.false))

@@ -1,46 +1,37 @@
-use borrow.Author.Rules.{rules}
 use native.Mathlib.Omega.{arith}
-use mathlib.Core.Path.{sym, ◌∙◌}
-use Rattle.recovery.proofs.Seek.{start, node, enter, moved, next, none_left, passes}
+use mathlib.Core.Path.{sym, ap, ◌∙◌}
+use lib.ListN.{length}
+use Rattle.store.proofs.Live.{same_item}
+use Prim.Native.Nat.{◌<◌}
+use Rattle.model.specs.Store.{is_backup_file}
+use Rattle.store.specs.Tables.{live}
+use Rattle.recovery.proofs.Seek.{Stops, moved, next, none_left, passes, first_at}
+use Rattle.recovery.proofs.search.first_backup_file.Goals.{else-directories-test, then-directories-test+then-loop-i-test+else-not-same+then-is_backup}
 use Rattle.recovery.proofs.search.first_backup_file.Goals as goal
 
-pub directories-init : goal.directories-init
-directories-init c = start c.requires
-
-pub node_at-x-requires : goal.node_at-x-requires
-node_at-x-requires c = omega (arith, c.directories.invariant.sound.sized.room)
-
-pub loop-i-init : goal.loop-i-init
-loop-i-init c = enter c.directories.invariant c.node_at-x.ensures (omega arith)
-
-pub directories-smaller-in-loop-i : goal.directories-smaller-in-loop-i
-directories-smaller-in-loop-i c = omega arith
-
-pub directories-preserved-in-loop-i : goal.directories-preserved-in-loop-i
-directories-preserved-in-loop-i c = c.loop-i.invariant.seek
-
-pub node_at-y-requires : goal.node_at-y-requires
-node_at-y-requires c = omega (arith, c.loop-i.invariant.seek.sound.sized.room)
-
-pub same-requires : goal.same-requires
-same-requires c = (c.loop-i.invariant.sound, (node c.loop-i.invariant.seek c.node_at-y.ensures (omega arith)).dir)
+pub loop-i-preserved : goal.loop-i-preserved
+loop-i-preserved c = next c.loop-i.invariant (same_item c.loop-i.i c.as_slice-nodes.ensures.value) (rw (← c.as_slice-nodes.ensures.value) (omega arith)) (sym c.is_backup.ensures ∙ c.if-is_backup.false)
 
 pub directories-smaller : goal.directories-smaller
-directories-smaller c = omega (arith, moved c.loop-i.invariant c.node_at-y.ensures (sym c.same.ensures ∙ c.if-not-same.true))
+directories-smaller c =
+    let m = moved c.loop-i.invariant (same_item c.loop-i.i c.as_slice-nodes.ensures.value) (sym c.same.ensures ∙ c.if-not-same.true) in
+    omega (arith, m, ap length c.as_slice-nodes.ensures.value)
 
-pub directories-preserved : goal.directories-preserved
-directories-preserved c = c.loop-i.invariant.seek
+pub returns-then-i-nodes : goal.returns-then-i-nodes
+returns-then-i-nodes c =
+    let e = c.as_slice-nodes.ensures.value in
+    let stops : Stops is_backup_file c.args.src.now c.args.t.now c.directories-test.i = elim c.directories-test.branch [
+      | else-directories-test w ↦ rw w.i-is (none_left c.directories.invariant (rw (← e) (omega arith)))
+      | then-directories-test+then-loop-i-test+else-not-same+then-is_backup w ↦ rw w.i-is (passes w.loop-i.invariant.seek (same_item _ e) (rw (← e) (omega arith)) (sym w.is_backup.ensures ∙ w.if-is_backup.true))
+    ] in
+    let h : c.directories-test.i < length (live c.args.t.now) = rw (← e) (omega arith) in
+    rw e (first_at c.requires stops h)
 
-pub is_backup-requires : goal.is_backup-requires
-is_backup-requires c =
-    let s = node c.loop-i.invariant.seek c.node_at-y.ensures (omega arith) in
-    search (rules, s)
-
-pub loop-i-preserved : goal.loop-i-preserved
-loop-i-preserved c = next c.loop-i.invariant c.node_at-y.ensures (omega arith) (sym c.is_backup.ensures ∙ c.if-is_backup.false)
-
-pub returns-after-directories : goal.returns-after-directories
-returns-after-directories c = none_left c.directories.invariant (omega arith)
-
-pub returns-then-is_backup : goal.returns-then-is_backup
-returns-then-is_backup c = passes c.loop-i.invariant.seek c.node_at-y.ensures (omega arith) (sym c.is_backup.ensures ∙ c.if-is_backup.true)
+pub returns-else-i-nodes : goal.returns-else-i-nodes
+returns-else-i-nodes c =
+    let e = c.as_slice-nodes.ensures.value in
+    let stops : Stops is_backup_file c.args.src.now c.args.t.now c.directories-test.i = elim c.directories-test.branch [
+      | else-directories-test w ↦ rw w.i-is (none_left c.directories.invariant (rw (← e) (omega arith)))
+      | then-directories-test+then-loop-i-test+else-not-same+then-is_backup w ↦ rw w.i-is (passes w.loop-i.invariant.seek (same_item _ e) (rw (← e) (omega arith)) (sym w.is_backup.ensures ∙ w.if-is_backup.true))
+    ] in
+    stops.past (rw (← e) (omega arith))

@@ -1,7 +1,8 @@
 -- Bytes with a name written at a place.
-use mathlib.Core.Path.{◌≡◌, refl, sym, ap, ◌∙◌}
+use Rattle.std.specs.Prelude.{None, Some}
+use mathlib.Core.Path.{◌≡◌, refl, ap, ◌∙◌}
 use mathlib.Core.List.{◌++◌}
-use mathlib.Core.Bool.{Bool, true, false, false≢true}
+use mathlib.Core.Bool.{Bool, true, false}
 use Prim.Native.Nat.{ℕ, ◌+◌, ◌-◌, ◌≤◌, ◌<◌}
 use native.Mathlib.Omega.{arith}
 use lib.ListN.{length, take, drop, length-append}
@@ -32,12 +33,11 @@ long-key k h = too_long (lower k) (omega (arith, length-lower k))
 
 module _ (at : ℕ) (n : Name) (before : Bytes) (room : at + name_limit ≤ length before) where
   -- Nothing is lent.
-  pub not-lent : {after : Bytes} {r : Named} → length after ≡ length before → take at after ≡ take at before → valid_name n ≡ false → (r.valid ≡ false) × (r.end ≡ at) → Lends at n before after r
+  pub not-lent : {after : Bytes} {r : Named} → length after ≡ length before → take at after ≡ take at before → valid_name n ≡ false → (r.name ≡ None) × (r.end ≡ at) → Lends at n before after r
   not-lent s f v e = record {
     size = s;
     front = f;
-    valid = e.0 ∙ sym v;
-    names = λ h. absurd (false≢true (sym e.0 ∙ h));
+    names = rw e.0 v;
     starts = omega (arith, e.1);
     ends = omega (arith, e.1);
   }
@@ -64,12 +64,11 @@ module _ (at : ℕ) (n : Name) (before : Bytes) (room : at + name_limit ≤ leng
     pub part : drop at (take (at + length n) after) ≡ n
     part = ap (drop at) up_to ∙ drop_at (take at before) n at fit
 
-    pub lent : valid_name n ≡ true → {k : ℕ} → k ≡ length n → {r : NameRef} → Names (take (at + k) after) r (take k (drop at (take (at + k) after))) → Lends at n before after (record { valid = true; name = r; end = at + k })
+    pub lent : valid_name n ≡ true → {k : ℕ} → k ≡ length n → {r : NameRef} → Names (take (at + k) after) r (take k (drop at (take (at + k) after))) → Lends at n before after (record { name = Some r; end = at + k })
     lent v {k} e {r} q = record {
       size = same_size;
       front = kept;
-      valid = sym v;
-      names = λ h. record { sound = q.sound; same = q.same ∙ named };
+      names = (v, record { sound = q.sound; same = q.same ∙ named });
       starts = omega arith;
       ends = omega (arith, e);
     }

@@ -1,28 +1,26 @@
 // The bytes into which the spans of a recording entry point: a copy of the image, and behind it the names that were given.
 #![tactic(auto)]
 
-ghost use Rattle.std.specs.Prelude.{◌≡◌, false, ◌+◌, ◌≤◌, ◌<◌, length};
+ghost use Rattle.std.specs.Prelude.{◌≡◌, None, ◌+◌, ◌≤◌, ◌<◌, length};
 ghost use Rattle.basics.specs.Limits.{name_limit};
 ghost use Rattle.basics.specs.Name.{lower};
 ghost use Rattle.lend.specs.Lending.{Lends};
 
 use spans::NameRef;
 
-// A given name that was tested: where it is valid, it stands in the bytes before `end`.
-#[derive(Clone, Copy)]
+// A given name that was tested: the name, where it is valid and so stands in the bytes; and where the next one may be put.
+#[derive(Clone, Copy, Debug, PartialEq, Eq)]
 pub struct Named {
-    pub valid: bool,
-    pub name: NameRef,
+    pub name: Option<NameRef>,
     pub end: usize,
 }
 
 // A name that is not valid, or none: nothing of it is lent.
 pub fn not_valid(at: usize) -> Named
-    ensures { (result.valid ≡ false) × (result.end ≡ at) }
+    ensures { (result.name ≡ None) × (result.end ≡ at) }
 {
     Named {
-        valid: false,
-        name: spans::EMPTY,
+        name: None,
         end: at,
     }
 }
@@ -37,9 +35,8 @@ pub fn lend_name(src: &mut [u8], at: usize, name: &[u8]) -> Named
         let end = at + n;
         field::put_bytes(src, at, name);
         return Named {
-            valid: true,
-            name: spans::span(&src[..end], at, n),
-            end: end,
+            name: Some(spans::span(&src[..end], at, n)),
+            end,
         };
     }
     not_valid(at)
@@ -58,9 +55,8 @@ pub fn lend_key(src: &mut [u8], at: usize, key: &[u8]) -> Named
     let end = at + n;
     if paths::sanitize_path_segment(&src[at..end]) {
         return Named {
-            valid: true,
-            name: spans::span(&src[..end], at, n),
-            end: end,
+            name: Some(spans::span(&src[..end], at, n)),
+            end,
         };
     }
     not_valid(at)

@@ -1,5 +1,5 @@
 -- The keys of a listing, name by name.
-use Rattle.std.specs.Prelude.{if◌then◌else◌}
+use Rattle.std.specs.Prelude.{if◌then◌else◌, None, Some}
 use mathlib.Core.Path.{◌≡◌, refl, sym, ap, ◌∙◌}
 use mathlib.Core.List.{List, [], ◌∷◌, ◌++◌}
 use mathlib.Core.Option.{some}
@@ -18,24 +18,13 @@ use Rattle.field.specs.Writing.{written, Writes, field}
 use Rattle.field.proofs.Written.{written-written, written-nil, length-written}
 use Rattle.spans.specs.Spans.{name_of}
 use Rattle.spans.specs.declared.NameRef.{NameRef}
-use Rattle.store.specs.Words.{name_at}
+use Rattle.arrayvec.specs.ArrayVec.{ArrayVec}
 use Rattle.store.specs.Tables.{Lists}
-use Rattle.store.proofs.Listed.{names_in, listed-own, listed-end, listed-rest}
+use Rattle.store.proofs.Listed.{no_name, listed-end, listed-rest}
 use Rattle.steps.specs.Steps.{FileName}
-use Rattle.local_collection.specs.declared.OtherCase.{OtherCase}
-use Rattle.local_collection.specs.declared.OtherCase.TheVariants.{Is, Nothing}
 use Rattle.local_collection.specs.Keys.{is_key, keys_in, keys_of, OtherCaseOf, Puts}
 
 module _ (f : Name) where
-  -- The tests of the code, each in its two ways.
-  pub a_backup : is_backup f ≡ true → false ≡ is_key f
-  unfolding is_key
-  a_backup e = rw e
-
-  pub no-backup : is_backup f ≡ false → not (is_tmp f) ≡ is_key f
-  unfolding is_key
-  no-backup e = rw e
-
   -- Names with one more in front.
   module _ (l : List Name) where
     keys-next : keys_in (f ∷ l) ≡ (if is_key f then encode_field (field 3 (lower f)) ++ keys_in l else keys_in l)
@@ -55,16 +44,16 @@ module _ (f : Name) where
     case_next k = refl
 
 -- The loop of `other_case`: none of the names before i is the key in another case.
-pub record Seeking (src : Bytes) (l : List ℕ) (n : ℕ) (names : List Name) (key : NameRef) (i : ℕ) : Type 0 where
-  pub lists : Lists src l n names
+pub record Seeking (src : Bytes) (l : ArrayVec NameRef) (names : List Name) (key : NameRef) (i : ℕ) : Type 0 where
+  pub lists : Lists src l names
   pub same : other_case (name_of src key) (drop i names) ≡ other_case (name_of src key) names
 
-pub seeking : {src : Bytes} {l : List ℕ} {n : ℕ} {names : List Name} {key : NameRef} → Lists src l n names → Seeking src l n (names_in src l n) key 0
-seeking s = record { lists = listed-own s; same = refl }
+pub seeking : {src : Bytes} {l : ArrayVec NameRef} {names : List Name} {key : NameRef} → Lists src l names → Seeking src l names key 0
+seeking s = record { lists = s; same = refl }
 
-module _ {src : Bytes} {l : List ℕ} {n : ℕ} {names : List Name} {key : NameRef} {i : ℕ} (w : Seeking src l n names key i) where
+module _ {src : Bytes} {l : ArrayVec NameRef} {names : List Name} {key : NameRef} {i : ℕ} (w : Seeking src l names key i) where
   -- The name r at i, by the tests of the code.
-  module _ {r : NameRef} (e : r ≡ name_at (get_or l i 0)) (h : i < n) where
+  module _ {r : NameRef} (e : r ≡ get_or l.items i no_name) (h : i < length l.items) where
     here : {a b : Bool} → is_key (name_of src r) ≡ a → same_bytes (lower (name_of src r)) (name_of src key) ≡ b →
         (if a && b then some (name_of src r) else other_case (name_of src key) (drop (i + 1) names)) ≡ other_case (name_of src key) names
     here p q =
@@ -72,37 +61,32 @@ module _ {src : Bytes} {l : List ℕ} {n : ℕ} {names : List Name} {key : NameR
         ∙ ap (other_case (name_of src key)) (sym (listed-rest w.lists e h))
         ∙ w.same
 
-    pub sought_past : is_key (name_of src r) ≡ false → Seeking src l n names key (i + 1)
+    pub sought_past : is_key (name_of src r) ≡ false → Seeking src l names key (i + 1)
     sought_past p = record { lists = w.lists; same = here p refl }
 
     module _ (p : is_key (name_of src r) ≡ true) where
-      pub sought_other : same_bytes (lower (name_of src r)) (name_of src key) ≡ false → Seeking src l n names key (i + 1)
+      pub sought_other : same_bytes (lower (name_of src r)) (name_of src key) ≡ false → Seeking src l names key (i + 1)
       sought_other q = record { lists = w.lists; same = here p q }
 
-      pub sought_found : FileName src r → same_bytes (lower (name_of src r)) (name_of src key) ≡ true → OtherCaseOf src (name_of src key) names (Is r)
+      pub sought_found : FileName src r → same_bytes (lower (name_of src r)) (name_of src key) ≡ true → OtherCaseOf src (name_of src key) names (Some r)
       sought_found f q = record { sound = f; same = here p q }
 
-  pub sought_nothing : n ≤ i → OtherCaseOf src (name_of src key) names Nothing
+  pub sought_nothing : length l.items ≤ i → OtherCaseOf src (name_of src key) names None
   unfolding other_case
   sought_nothing h = record { sound = tt; same = ap (other_case (name_of src key)) (sym (listed-end w.lists h)) ∙ w.same }
 
--- The names in a listing are those that are listed, so what was found among the ones was found among the others.
-pub among_listed : {src : Bytes} {l : List ℕ} {n : ℕ} {names : List Name} {k : Name} {o : OtherCase} →
-    Lists src l n names → OtherCaseOf src k (names_in src l n) o → OtherCaseOf src k names o
-among_listed s w = rw s.same at w
-
 -- The loop of `put_keys`: what the names from i on give is still to be written, at `at`.
-pub record Listing (src : Bytes) (l : List ℕ) (n : ℕ) (names : List Name) (before now : Bytes) (at i : ℕ) : Type 0 where
-  pub lists : Lists src l n names
+pub record Listing (src : Bytes) (l : ArrayVec NameRef) (names : List Name) (before now : Bytes) (at i : ℕ) : Type 0 where
+  pub lists : Lists src l names
   pub room : length (keys_in names) ≤ length before
   pub small : at ≤ 67 * i
   pub size : length now ≡ length before
   pub told : at + length (keys_in (drop i names)) ≡ length (keys_in names)
   pub wrote : written at (keys_in (drop i names)) now ≡ written 0 (keys_in names) before
 
-module _ {src : Bytes} {l : List ℕ} {n : ℕ} {names : List Name} {before now : Bytes} {at i : ℕ} (w : Listing src l n names before now at i) where
+module _ {src : Bytes} {l : ArrayVec NameRef} {names : List Name} {before now : Bytes} {at i : ℕ} (w : Listing src l names before now at i) where
   -- The name r at i, by the test of the code.
-  module _ {r : NameRef} (e : r ≡ name_at (get_or l i 0)) (h : i < n) where
+  module _ {r : NameRef} (e : r ≡ get_or l.items i no_name) (h : i < length l.items) where
     abbrev new : Bytes
     new = encode_field (field 3 (lower (name_of src r)))
 
@@ -112,7 +96,7 @@ module _ {src : Bytes} {l : List ℕ} {n : ℕ} {names : List Name} {before now 
     these : {b : Bool} → is_key (name_of src r) ≡ b → keys_in (drop i names) ≡ (if b then new ++ later else later)
     these p = ap keys_in (listed-rest w.lists e h) ∙ rw p at (keys-next (name_of src r) (drop (i + 1) names))
 
-    pub listed-past : is_key (name_of src r) ≡ false → {next : Bytes} {m : ℕ} → next ≡ now → m ≡ at → Listing src l n names before next m (i + 1)
+    pub listed-past : is_key (name_of src r) ≡ false → {next : Bytes} {m : ℕ} → next ≡ now → m ≡ at → Listing src l names before next m (i + 1)
     listed-past p f g = rw (f, g) record {
       lists = w.lists;
       room = w.room;
@@ -123,7 +107,7 @@ module _ {src : Bytes} {l : List ℕ} {n : ℕ} {names : List Name} {before now 
     }
 
     pub listed-key : is_key (name_of src r) ≡ true → {next after : Bytes} {m k : ℕ} → Puts (lower (name_of src r)) at now after k → next ≡ after →
-        m ≡ at + k → Listing src l n names before next m (i + 1)
+        m ≡ at + k → Listing src l names before next m (i + 1)
     listed-key p {k = k} q f g =
         let long : length (keys_in (drop i names)) ≡ length new + length later = ap length (these p) ∙ length-append new later in
         let told : at + k + length later ≡ length (keys_in names) = omega (arith, w.told, q.size) in
@@ -140,7 +124,7 @@ module _ {src : Bytes} {l : List ℕ} {n : ℕ} {names : List Name} {before now 
               ∙ w.wrote;
         }
 
-  all-written : n ≤ i → Writes (keys_in names) 0 before now at
+  all-written : length l.items ≤ i → Writes (keys_in names) 0 before now at
   unfolding keys_in
   all-written h =
       let none : keys_in (drop i names) ≡ [] = ap keys_in (listed-end w.lists h) in
@@ -150,17 +134,15 @@ module _ {src : Bytes} {l : List ℕ} {n : ℕ} {names : List Name} {before now 
         size = omega (arith, w.told);
       }
 
--- The names in the listing are a directory's files: where the loop starts, and where it ends.
-module _ (d : Name) (m : Map) {src : Bytes} {l : List ℕ} {n : ℕ} (s : Lists src l n (files d m)) where
-  keys_in_lem : keys_in (names_in src l n) ≡ keys_of d m
+-- The names of the listing are a directory's files: where the loop starts, and where it ends.
+module _ (d : Name) (m : Map) {src : Bytes} {l : ArrayVec NameRef} where
+  pub listing : Lists src l (files d m) → {out : Bytes} → length (keys_of d m) ≤ length out → Listing src l (files d m) out out 0 0
   unfolding keys_of
-  keys_in_lem = ap keys_in s.same
+  listing s h = record { lists = s; room = h; small = omega arith; size = refl; told = omega arith; wrote = refl }
 
-  pub listing : {out : Bytes} → length (keys_of d m) ≤ length out → Listing src l n (names_in src l n) out out 0 0
-  listing h = record { lists = listed-own s; room = rw keys_in_lem h; small = omega arith; size = refl; told = omega arith; wrote = refl }
-
-  pub listed-all : {at i : ℕ} {before now : Bytes} → Listing src l n (names_in src l n) before now at i → n ≤ i → Writes (keys_of d m) 0 before now at
-  listed-all w h = rw (← keys_in_lem) (all-written w h)
+  pub listed-all : {at i : ℕ} {before now : Bytes} → Listing src l (files d m) before now at i → length l.items ≤ i → Writes (keys_of d m) 0 before now at
+  unfolding keys_of
+  listed-all w h = all-written w h
 
 -- The model's key list is that of its tree.
 module _ (c : Name) (s : Store) where

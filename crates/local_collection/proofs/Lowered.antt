@@ -1,19 +1,19 @@
 -- A file's name in lower case: compared with a key byte by byte, and written as a field.
-use mathlib.Core.Path.{◌≡◌, refl, sym, ap, ◌∙◌}
-use mathlib.Core.List.{◌∷◌}
+use mathlib.Core.Path.{◌≡◌, refl, sym, ap, ap₂, ◌∙◌}
+use mathlib.Core.List.{[], ◌∷◌, ◌++◌, map, map-append}
 use mathlib.Core.Bool.{Bool, true, false}
-use Prim.Native.Nat.{ℕ, ◌+◌, ◌-◌, ◌≤◌, ◌<◌}
+use Prim.Native.Nat.{ℕ, zero, suc, ◌+◌, ◌-◌, ◌≤◌, ◌<◌}
 use native.Mathlib.Omega.{arith}
-use native.Mathlib.Numerals.{add-one}
-use lib.ListN.{length, get_or, take}
-use lib.Seq.{take-length, take-suc}
+use lib.ListN.{length, get_or, drop}
+use Rattle.std.specs.Bool.{MatchBool}
+use Rattle.std.specs.List.{zip, AllWithin, HoldsAt}
 use Rattle.basics.specs.Base.{Bytes, same_bytes}
 use Rattle.basics.specs.Name.{lower_byte, lower}
 use Rattle.basics.specs.Field.{little_endian, encode_field}
 use Rattle.basic_laws.specs.Tests.{same-eq, same_refl}
 use Rattle.field.specs.Writing.{written, field}
 use Rattle.field.proofs.Written.{written_none, encoded_length, field-short, field-written}
-use Rattle.paths.proofs.Lower.{length-lower, lower-at}
+use Rattle.paths.proofs.Lower.{length-lower}
 use Rattle.spans.specs.Spans.{name_of, length_of, Sound}
 use Rattle.spans.specs.declared.NameRef.{NameRef}
 use Rattle.spans.proofs.Parts.{length-name}
@@ -30,53 +30,33 @@ apart a b h = go (same_bytes a b) refl
     go false e = refl
     go true e = absurd (h (same-eq a b e))
 
--- The loop of `lowers_to`: the bytes passed agree.
-pub record Matching (src : Bytes) (file key : NameRef) (n i : ℕ) : Type 0 where
-  pub file-sound : Sound src file
-  pub key-sound : Sound src key
-  pub long : n ≡ length_of file
-  pub alike : n ≡ length_of key
-  pub within : i ≤ n
-  pub same : take i (lower (name_of src file)) ≡ take i (name_of src key)
+pub other_length : {src : Bytes} {file key : NameRef} {n m : ℕ} → Sound src file → Sound src key → n ≡ length_of file → m ≡ length_of key → (n ≡ m → ⊥) → false ≡ same_bytes (lower (name_of src file)) (name_of src key)
+other_length {src} {file} {key} f k e q h = apart (lower (name_of src file)) (name_of src key) (λ p. h (e ∙ sym (length-lowered f) ∙ ap length p ∙ length-name k ∙ sym q))
 
-module _ {src : Bytes} {file key : NameRef} (f : Sound src file) (k : Sound src key) {n m : ℕ} (e : n ≡ length_of file) (q : m ≡ length_of key) where
-  pub other_length : (n ≡ m → ⊥) → false ≡ same_bytes (lower (name_of src file)) (name_of src key)
-  other_length h = apart (lower (name_of src file)) (name_of src key) (λ p. h (e ∙ sym (length-lowered f) ∙ ap length p ∙ length-name k ∙ sym q))
+-- A name in lower case is the key where each of its bytes is the key's, and is not where one is not.
+zipped-same : (a b : Bytes) → length a ≡ length b → AllWithin (λ (p : ℕ × ℕ). lower_byte p.0 ≡ p.1) (zip a b) 0 (length (zip a b)) → lower a ≡ b
+unfolding lower
+zipped-same [] [] h w = refl
+zipped-same [] (y ∷ b) h w = absurd (omega arith)
+zipped-same (x ∷ a) [] h w = absurd (omega arith)
+zipped-same (x ∷ a) (y ∷ b) h w = ap₂ ◌∷◌ (w 0 (0, 0) (omega arith) (omega arith)) (zipped-same a b (omega arith) (λ k d l m. w (suc k) d (omega arith) (omega arith)))
 
-  pub matching : n ≡ m → Matching src file key n 0
-  matching h = record { file-sound = f; key-sound = k; long = e; alike = h ∙ q; within = omega arith; same = refl }
+zipped-apart : (a b : Bytes) (k : ℕ) → k < length (zip a b) → HoldsAt (λ (p : ℕ × ℕ). lower_byte p.0 ≡ p.1 → ⊥) (zip a b) k → lower a ≡ b → ⊥
+unfolding lower
+zipped-apart [] b k l h e = absurd (omega arith)
+zipped-apart (x ∷ a) [] k l h e = absurd (omega arith)
+zipped-apart (x ∷ a) (y ∷ b) zero l h e = h (0, 0) (ap (λ (s : Bytes). get_or s 0 0) e)
+zipped-apart (x ∷ a) (y ∷ b) (suc k) l h e = zipped-apart a b k (omega arith) h (ap (drop 1) e)
 
-module _ {src : Bytes} {file key : NameRef} {n i : ℕ} (w : Matching src file key n i) where
-  module _ {a b x : ℕ} (h : i < n) (p : a ≡ get_or (name_of src file) i 0) (l : x ≡ lower_byte a) (q : b ≡ get_or (name_of src key) i 0) where
-    low : x ≡ get_or (lower (name_of src file)) i 0
-    low = l ∙ ap lower_byte p ∙ lower-at (name_of src file) i
+pub zipped : (a b : Bytes) → length a ≡ length b → (r : Bool) → MatchBool r (AllWithin (λ (p : ℕ × ℕ). lower_byte p.0 ≡ p.1) (zip a b) 0 (length (zip a b))) ((k : ℕ) × (k < length (zip a b)) × HoldsAt (λ (p : ℕ × ℕ). lower_byte p.0 ≡ p.1 → ⊥) (zip a b) k)
+    → r ≡ same_bytes (lower a) b
+zipped a b h true w = sym (rw (zipped-same a b h w) (same_refl b))
+zipped a b h false w = apart (lower a) b (zipped-apart a b w.0 w.1 w.2)
 
-    pub other_byte : (x ≡ b → ⊥) → false ≡ same_bytes (lower (name_of src file)) (name_of src key)
-    other_byte d = apart (lower (name_of src file)) (name_of src key) (λ z. d (low ∙ ap (λ (s : Bytes). get_or s i 0) z ∙ sym q))
-
-    pub same_byte : x ≡ b → Matching src file key n (i + 1)
-    same_byte e = record {
-      file-sound = w.file-sound;
-      key-sound = w.key-sound;
-      long = w.long;
-      alike = w.alike;
-      within = omega arith;
-      same =
-          let l : i < length (lower (name_of src file)) = omega (arith, length-lowered w.file-sound, w.long) in
-          let r : i < length (name_of src key) = omega (arith, length-name w.key-sound, w.alike) in
-          rw (add-one, take-suc (lower (name_of src file)) i 0 l, take-suc (name_of src key) i 0 r, w.same, ← low, e, q);
-    }
-
-  pub all_same : n ≤ i → true ≡ same_bytes (lower (name_of src file)) (name_of src key)
-  all_same h =
-      let a : i ≡ length (lower (name_of src file)) = omega (arith, length-lowered w.file-sound, w.long, w.within) in
-      let b : i ≡ length (name_of src key) = omega (arith, length-name w.key-sound, w.alike, w.within) in
-      let e : lower (name_of src file) ≡ name_of src key
-      = sym (ap (λ (k : ℕ). take k (lower (name_of src file))) a ∙ take-length (lower (name_of src file)))
-      ∙ w.same
-      ∙ ap (λ (k : ℕ). take k (name_of src key)) b
-      ∙ take-length (name_of src key) in
-      sym (rw e (same_refl (name_of src key)))
+-- Both slices of a name in lower case.
+pub both-lowered : (a b : Bytes) {n : Bytes} → a ++ b ≡ n → lower a ++ lower b ≡ lower n
+unfolding lower
+both-lowered a b e = sym (map-append lower_byte a b) ∙ ap (map lower_byte) e
 
 -- A key's field: crate field's laws, with the length that the code counted.
 module _ {src : Bytes} {r : NameRef} (s : Sound src r) (n at : ℕ) (out : Bytes) (e : n ≡ length_of r) where

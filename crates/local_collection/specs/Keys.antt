@@ -1,6 +1,7 @@
 -- The keys among the files of a directory, and what the functions over them answer.
-use Rattle.std.specs.Prelude.{◌≡◌, ℕ, ◌≤◌, List, [], Bool, not, ◌&&◌, ◌||◌, length, if◌then◌else◌}
-use Rattle.std.proofs.Math.Option.{Option, none, some}
+use Rattle.std.specs.Prelude.{◌≡◌, ℕ, ◌≤◌, List, [], Bool, not, ◌&&◌, ◌||◌, length, if◌then◌else◌, Option, None, Some}
+use Rattle.std.proofs.Math.Option as maths
+use Rattle.std.proofs.Math.Option.{none, some}
 use Rattle.basics.specs.Order.{Name}
 use Rattle.basics.specs.Map.{Map}
 use Rattle.basics.specs.Base.{Bytes, flat_map}
@@ -11,10 +12,9 @@ use Rattle.model.specs.Record.{other_case, case_renamed}
 use Rattle.field.specs.Writing.{written, field}
 use Rattle.spans.specs.Spans.{name_of}
 use Rattle.spans.specs.declared.NameRef.{NameRef}
-use Rattle.store.specs.Stores.{LentStore, store_of}
+use Rattle.store.specs.Stores.{store_of}
+use Rattle.store.specs.declared.Store.{Store}
 use Rattle.steps.specs.Steps.{FileName, Fits}
-use Rattle.local_collection.specs.declared.OtherCase.{OtherCase}
-use Rattle.local_collection.specs.declared.OtherCase.TheVariants.{Is, Nothing}
 
 -- A name that is listed as a key: no backup's and no staging file's.
 unfoldable pub is_key : Name → Bool
@@ -27,21 +27,22 @@ keys_in l = flat_map (λ f. if is_backup f || is_tmp f then [] else encode_field
 unfoldable pub keys_of : Name → Map → Bytes
 keys_of c t = keys_in (files c t)
 
-abbrev pub case_of : Bytes → OtherCase → Option Name
-case_of src (Is f) = some (name_of src f)
-case_of src Nothing = none
+-- The file that is the key in another case, if there is one.
+abbrev pub case_of : Bytes → Option NameRef → maths.Option Name
+case_of src (Some f) = some (name_of src f)
+case_of src None = none
 
-abbrev pub SoundCase : Bytes → OtherCase → Type 0
-SoundCase src (Is f) = FileName src f
-SoundCase src Nothing = Unit {0}
+abbrev pub SoundCase : Bytes → Option NameRef → Type 0
+SoundCase src (Some f) = FileName src f
+SoundCase src None = Unit {0}
 
 -- What `other_case` answers.
-pub record OtherCaseOf (src : Bytes) (k : Name) (l : List Name) (o : OtherCase) : Type 0 where
+pub record OtherCaseOf (src : Bytes) (k : Name) (l : List Name) (o : Option NameRef) : Type 0 where
   pub sound : SoundCase src o
   pub same : case_of src o ≡ other_case k l
 
 -- What `ensure_normalized_on_disk` answers.
-pub record Normalized (src : Bytes) (dir key : NameRef) (s r : LentStore) : Type 0 where
+pub record Normalized (src : Bytes) (dir key : NameRef) (s r : Store) : Type 0 where
   pub fits : Fits src r
   pub same : store_of src r ≡ case_renamed (name_of src dir) (name_of src key) (store_of src s)
 

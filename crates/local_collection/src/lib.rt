@@ -8,21 +8,14 @@ ghost use Rattle.model.specs.Store.{files};
 ghost use Rattle.field.specs.Writing.{written, Writes};
 ghost use Rattle.spans.specs.Spans.{name_of, Sound};
 ghost use Rattle.model.specs.Record.{key_list};
-ghost use Rattle.store.specs.Tables.{table_of, map_of, SoundTable};
-ghost use Rattle.store.specs.Stores.{store_in, store_of, SoundStore};
+ghost use Rattle.store.specs.Tables.{map_of, SoundTable};
+ghost use Rattle.store.specs.Stores.{store_of, SoundStore};
 ghost use Rattle.steps.specs.Steps.{FileName, Fits};
 ghost use Rattle.local_collection.specs.Keys.{is_key, keys_of, Puts, OtherCaseOf, Normalized};
 
 use spans::NameRef;
 use steps::Step;
-use store::{Held, Nodes, Store};
-
-// A file whose name is the key in another case, if there is one.
-#[derive(Clone, Copy)]
-pub enum OtherCase {
-    Is(NameRef),
-    Nothing,
-}
+use store::{Store, Table};
 
 // 01, Modules in port order: "key list (0x03 fields)".
 const KEY_TAG: u8 = 3;
@@ -32,77 +25,49 @@ fn lowers_to(src: &[u8], file: NameRef, key: NameRef) -> bool
     requires { Sound src.now file × Sound src.now key }
     ensures { result ≡ same_bytes (lower (name_of src.now file)) (name_of src.now key) }
 {
-    let n = spans::length_of(file);
-    if n != spans::length_of(key) {
+    if spans::length_of(file) != spans::length_of(key) {
         return false;
     }
-    for i in 0..n {
-        let raw = spans::byte_at(src, file, i);
-        let low = raw.to_ascii_lowercase();
-        if low != spans::byte_at(src, key, i) {
-            return false;
-        }
-    }
-    true
+    let (part, baks) = spans::slices(src, file);
+    let (key_part, key_baks) = spans::slices(src, key);
+    let mut pairs = part.iter().chain(baks).zip(key_part.iter().chain(key_baks));
+    pairs.all(|(b, k)| b.to_ascii_lowercase() == *k)
 }
 
 // Whether a file is listed as a key: no backup, no staging file (`is_valid_key`).
+#[tactic(auto, unfolding(crate::specs::Keys::is_key))]
 pub fn is_valid_key(src: &[u8], file: NameRef) -> bool
     requires { Sound src.now file }
     ensures { result ≡ is_key (name_of src.now file) }
 {
-    if spans::is_backup(src, file) {
-        return false;
-    }
-    !spans::is_tmp(src, file)
+    !spans::is_backup(src, file) && !spans::is_tmp(src, file)
 }
 
-// The first file of a listing that is the key in another case.
-pub fn other_case(src: &[u8], t: &Nodes, n: usize, dir: NameRef, key: NameRef) -> OtherCase
-    requires { SoundTable src.now (table_of t.now n) × (Sound src.now dir × Sound src.now key) }
-    ensures { OtherCaseOf src.now (name_of src.now key) (files (name_of src.now dir) (map_of src.now (table_of t.now n))) result }
+// The first file of a directory that is the key in another case, if there is one.
+pub fn other_case(src: &[u8], t: &Table, dir: NameRef, key: NameRef) -> Option<NameRef>
+    requires { SoundTable src.now t.now × (Sound src.now dir × Sound src.now key) }
+    ensures { OtherCaseOf src.now (name_of src.now key) (files (name_of src.now dir) (map_of src.now t.now)) result }
 {
-    let mut names = [0u32; store::ROOM];
-    let m = store::list_files(src, t, n, dir, &mut names);
-    let mut i: usize = 0;
-    while i < m {
-        let f = store::name_at(&names, i);
-        if is_valid_key(src, f) && lowers_to(src, f, key) {
-            return OtherCase::Is(f);
+    let listing = t.files(src, dir);
+    for file in listing.as_slice() {
+        if is_valid_key(src, *file) && lowers_to(src, *file, key) {
+            return Some(*file);
         }
-        i += 1;
     }
-    OtherCase::Nothing
+    None
 }
 
 // A file that is the key in another case is renamed, unless the key's own stands (`ensure_normalized_on_disk`).
-pub fn ensure_normalized_on_disk(
-    src: &[u8],
-    tree: &mut Nodes,
-    staging: &mut Nodes,
-    s: Store,
-    dir: NameRef,
-    key: NameRef,
-) -> Store
-    requires { Fits src.now (store_in tree.old staging.old s) × (Sound src.now dir × FileName src.now key) }
-    ensures { Normalized src.now dir key (store_in tree.old staging.old s) (store_in tree.new staging.new result) }
+pub fn ensure_normalized_on_disk(src: &[u8], store: &mut Store, dir: NameRef, key: NameRef)
+    requires { Fits src.now store.old × (Sound src.now dir × FileName src.now key) }
+    ensures { Normalized src.now dir key store.old store.new }
 {
-    let h = store::look(src, tree, s.tree, dir, key);
-    match h {
-        Held::Number(_) => s,
-        Held::Nothing => {
-            let o = other_case(src, tree, s.tree, dir, key);
-            match o {
-                OtherCase::Is(f) => steps::apply(
-                    src,
-                    tree,
-                    staging,
-                    s,
-                    Step::RenameFile(dir, f, key),
-                ),
-                OtherCase::Nothing => s,
-            }
-        }
+    if store.tree.exists(src, dir, key) {
+        return;
+    }
+    if let Some(file) = other_case(src, &store.tree, dir, key) {
+        let rename = Step::RenameFile(dir, file, key);
+        rename.apply(src, store);
     }
 }
 
@@ -111,11 +76,10 @@ fn put_lower(src: &[u8], file: NameRef, out: &mut [u8], at: usize)
     requires { Sound src.now file }
     ensures { out.new ≡ written at (lower (name_of src.now file)) out.old }
 {
-    let n = spans::length_of(file);
-    if n <= out.len().saturating_sub(at) {
-        for i in 0..n {
-            out[at + i] = spans::byte_at(src, file, i).to_ascii_lowercase();
-        }
+    let (part, baks) = spans::slices(src, file);
+    if part.len() + baks.len() <= out.len().saturating_sub(at) {
+        paths::normalize_key(part, out, at);
+        paths::normalize_key(baks, out, at + part.len());
     }
 }
 
@@ -134,35 +98,24 @@ fn put_key(src: &[u8], file: NameRef, out: &mut [u8], at: usize) -> usize
 }
 
 // The keys of a tree's directory as fields at the start of the output, and how long they are.
-fn put_keys(src: &[u8], t: &Nodes, n: usize, dir: NameRef, out: &mut [u8]) -> usize
-    requires { (SoundTable src.now (table_of t.now n) × Sound src.now dir) × (length (keys_of (name_of src.now dir) (map_of src.now (table_of t.now n))) ≤ length out.old) }
-    ensures { Writes (keys_of (name_of src.now dir) (map_of src.now (table_of t.now n))) 0 out.old out.new result }
+fn put_keys(src: &[u8], t: &Table, dir: NameRef, out: &mut [u8]) -> usize
+    requires { (SoundTable src.now t.now × Sound src.now dir) × (length (keys_of (name_of src.now dir) (map_of src.now t.now)) ≤ length out.old) }
+    ensures { Writes (keys_of (name_of src.now dir) (map_of src.now t.now)) 0 out.old out.new result }
 {
-    let mut names = [0u32; store::ROOM];
-    let m = store::list_files(src, t, n, dir, &mut names);
+    let listing = t.files(src, dir);
     let mut at: usize = 0;
-    let mut i: usize = 0;
-    while i < m {
-        let f = store::name_at(&names, i);
-        if is_valid_key(src, f) {
-            at += put_key(src, f, out, at);
+    for file in listing.as_slice() {
+        if is_valid_key(src, *file) {
+            at += put_key(src, *file, out, at);
         }
-        i += 1;
     }
     at
 }
 
 // 01, Modules in port order: "key list (0x03 fields)" (`list_keys_in_dir`); a missing collection reads as empty.
-pub fn list_keys(
-    src: &[u8],
-    tree: &Nodes,
-    staging: &Nodes,
-    s: Store,
-    dir: NameRef,
-    out: &mut [u8],
-) -> usize
-    requires { (SoundStore src.now (store_in tree.now staging.now s) × Sound src.now dir) × (length (key_list (name_of src.now dir) (store_of src.now (store_in tree.now staging.now s))) ≤ length out.old) }
-    ensures { Writes (key_list (name_of src.now dir) (store_of src.now (store_in tree.now staging.now s))) 0 out.old out.new result }
+pub fn list_keys(src: &[u8], store: &Store, dir: NameRef, out: &mut [u8]) -> usize
+    requires { (SoundStore src.now store.now × Sound src.now dir) × (length (key_list (name_of src.now dir) (store_of src.now store.now)) ≤ length out.old) }
+    ensures { Writes (key_list (name_of src.now dir) (store_of src.now store.now)) 0 out.old out.new result }
 {
-    put_keys(src, tree, s.tree, dir, out)
+    put_keys(src, &store.tree, dir, out)
 }

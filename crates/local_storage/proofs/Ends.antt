@@ -1,55 +1,69 @@
 -- `begin_transaction` and `rollback` as answers.
-use mathlib.Core.Path.{◌≡◌, refl, sym, ◌∙◌}
-use mathlib.Core.Bool.{Bool, true, false}
+use mathlib.Core.Path.{◌≡◌, sym, ◌∙◌}
+use mathlib.Core.List.{[]}
+use mathlib.Core.Bool.{Bool, true, false, false≢true}
+use mathlib.Core.Option.{none}
 use native.Mathlib.Omega.{arith}
+use Rattle.std.specs.Prelude.{Option, None, Some, is_some, Ok}
 use Rattle.basics.specs.Base.{Bytes}
 use Rattle.model.specs.Log.{is_held, journal}
-use Rattle.model.specs.Record.{begin_transaction, discard}
-use Rattle.store.specs.Words.{Words}
-use Rattle.store.specs.Tables.{Table, map_of, SoundTable}
-use Rattle.store.specs.Stores.{LentStore, store_in, log_bytes, SoundStore}
+use Rattle.model.specs.Record.{give, transaction, begin_transaction, discard}
+use Rattle.refusals.specs.declared.Refusal.TheVariants.{NoTransaction, TransactionBusy, HeldUpdate}
+use Rattle.store.specs.Tables.{map_of, SoundTable}
+use Rattle.store.specs.Stores.{store_of, log_bytes, SoundStore}
 use Rattle.store.specs.declared.Store.{Store}
+use Rattle.store.specs.declared.Table.{Table}
+use Rattle.wal.specs.declared.Tail.TheVariants.{Nothing, Header}
+use Rattle.wal.specs.declared.WalRead.{WalRead}
 use Rattle.local_storage.specs.declared.LocalStorage.{LocalStorage}
 use Rattle.local_storage.specs.declared.Recorded.{Recorded}
-use Rattle.local_storage.specs.declared.Transaction.{Transaction}
-use Rattle.wal.specs.declared.Tail.TheVariants.{Nothing, Header}
-use Rattle.local_storage.specs.Recording.{storage_of, refused_with, Answers, Opens, Discarded}
-use Rattle.local_storage.proofs.Opened.{none_open, some_open}
-use Rattle.local_storage.proofs.Outcomes.{untouched, refused}
+use Rattle.local_storage.specs.Recording.{storage_of, Answers, Opens, Discarded}
+use Rattle.local_storage.proofs.Outcomes.{refused_with, refused}
 
--- A table of which no place is in use.
-abbrev emptied : Table → Table
-emptied t = record { nodes = t.nodes; len = 0 }
-
-empty-sound : {src : Bytes} {t : Table} → SoundTable src t → SoundTable src (emptied t)
+-- A table without nodes.
+pub empty-map : (src : Bytes) {t : Table} → t.nodes.items ≡ [] → map_of src t ≡ []
 unfolding map_of
-empty-sound g = record { sized = record { size = g.sized.size; room = omega arith }; each = tt; sorted = tt }
+empty-map src e = rw e
 
-pub all-gone : {src : Bytes} {s : LentStore} → Discarded src s (record { tree = s.tree; staging = emptied s.staging; log = record { start = s.log.start; len = s.log.len; stands = false; status = s.log.status }; open_mark = false })
-unfolding map_of log_bytes
-all-gone = record { sound = λ g. record { tree = g.tree; staging = empty-sound g.staging; log = record { inside = g.log.inside } }; same = refl }
+pub empty-sound : (src : Bytes) {t : Table} → t.nodes.items ≡ [] → SoundTable src t
+unfolding map_of
+empty-sound src e = record { room = rw e (omega arith); each = rw e tt; sorted = rw e tt }
 
-module _ {src : Bytes} {tree staging : Words} {self : LocalStorage} (g : SoundStore src (store_in tree staging self.store)) where
-  pub busy : {r : Recorded} → self.store.open_mark ≡ true → r ≡ refused_with self 3 → Answers src (begin_transaction (storage_of src tree staging self)) tree staging self tree staging r
+pub all-gone : (src : Bytes) {s : Store} {t : Table} → t.nodes.items ≡ [] → Discarded src s (record { tree = s.tree; staging = t; log = None; open_mark = false })
+unfolding log_bytes
+all-gone src e = record {
+  sound = λ g. record { tree = g.tree; staging = empty-sound src e; log = record { inside = tt } };
+  same = rw (empty-map src e);
+}
+
+module _ {src : Bytes} {self : LocalStorage} (g : SoundStore src self.store) where
+  pub busy : {r : Recorded} → self.store.open_mark ≡ true → r ≡ refused_with self TransactionBusy → Answers src (begin_transaction (storage_of src self)) self r
   unfolding begin_transaction
-  busy h e = refused (untouched g) e (omega arith) (rw h)
+  busy h e = refused g e (rw h)
 
-  pub still-held : {r : Recorded} {b : Bool} → self.store.open_mark ≡ false → b ≡ is_held (journal (log_bytes src self.store.log)) → b ≡ true → r ≡ refused_with self 17 →
-      Answers src (begin_transaction (storage_of src tree staging self)) tree staging self tree staging r
-  unfolding begin_transaction
-  still-held h i f e = refused (untouched g) e (omega arith) (rw (h, sym i ∙ f))
+  module _ {b : Bool} (h : self.store.open_mark ≡ false) (i : b ≡ is_held (journal (log_bytes src self.store.log))) where
+    pub still-held : {r : Recorded} → b ≡ true → r ≡ refused_with self HeldUpdate → Answers src (begin_transaction (storage_of src self)) self r
+    unfolding begin_transaction
+    still-held f e = refused g e (rw (h, sym i ∙ f))
 
-  pub begun : {t : Store} {b : Bool} → self.store.open_mark ≡ false → b ≡ is_held (journal (log_bytes src self.store.log)) → b ≡ false → t ≡ record { tree = self.store.tree; staging = self.store.staging; log = self.store.log; open_mark = true } →
-      Answers src (begin_transaction (storage_of src tree staging self)) tree staging self tree staging (record { number = 0; storage = record { store = t }; tail = Header })
-  unfolding begin_transaction
-  begun h i f e = rw e record { same = rw (h, sym i ∙ f); sound = record { tree = g.tree; staging = g.staging; log = g.log }; tail = tt; kept = λ z. absurd (z refl) }
+    pub begun : b ≡ false → Answers src (begin_transaction (storage_of src self)) self
+        (record { storage = record { store = record { tree = self.store.tree; staging = self.store.staging; log = self.store.log; open_mark = true } }; done = Ok Header })
+    unfolding begin_transaction
+    begun f = record { same = rw (h, sym i ∙ f); sound = record { tree = g.tree; staging = g.staging; log = g.log }; stands = tt }
 
-  module _ {t : Transaction} (w : (x y : Words) → Opens src (storage_of src x y self) t) where
-    pub not_open : {r : Recorded} → t.found ≡ false → r ≡ refused_with self 4 → Answers src (discard (storage_of src tree staging self)) tree staging self tree staging r
+  not_found : (o : Option WalRead) → Opens src (storage_of src self) o → is_some o ≡ false → transaction (storage_of src self) ≡ none
+  not_found None w h = sym w.same
+  not_found (Some t) w h = absurd (false≢true (sym h))
+
+  module _ {o : Option WalRead} (w : Opens src (storage_of src self) o) where
+    pub not_open : {r : Recorded} → is_some o ≡ false → r ≡ refused_with self NoTransaction → Answers src (discard (storage_of src self)) self r
     unfolding discard
-    not_open h e = refused (untouched g) e (omega arith) (rw (none_open (w tree staging) h))
+    not_open h e = refused g e (rw (not_found o w h))
 
-    pub rolled_back : {s : Store} → t.found ≡ true → ((x y : Words) → Discarded src (store_in x y self.store) (store_in x y s)) →
-        Answers src (discard (storage_of src tree staging self)) tree staging self tree staging (record { number = 0; storage = record { store = s }; tail = Nothing })
+    pub rolled_back : {s : Store} → is_some o ≡ true → Discarded src self.store s → Answers src (discard (storage_of src self)) self (record { storage = record { store = s }; done = Ok Nothing })
     unfolding discard
-    rolled_back h d = record { same = rw (some_open (w tree staging) h, (d tree staging).same); sound = (d tree staging).sound g; tail = tt; kept = λ z. absurd (z refl) }
+    rolled_back {s} h d = record { same = go o w h; sound = d.sound g; stands = tt }
+      where
+        go : (o : Option WalRead) → Opens src (storage_of src self) o → is_some o ≡ true → give (store_of src s) ≡ discard (storage_of src self)
+        go None w h = absurd (false≢true h)
+        go (Some t) w h = rw (← w.same, d.same)

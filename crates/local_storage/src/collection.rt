@@ -1,53 +1,45 @@
 // The methods of local_collection.rs that record.
-ghost use Rattle.std.specs.Prelude.{◌≡◌, true, ◌<◌};
+ghost use Rattle.std.specs.Prelude.{◌≡◌, ◌<◌, length, IfSome};
 ghost use Rattle.basics.specs.Order.{Name};
+ghost use Rattle.basics.specs.Name.{lower};
 ghost use Rattle.model.specs.Record.{record_write, record_delete, record_delete_all};
-ghost use Rattle.spans.specs.Spans.{name_of, Sound};
-ghost use Rattle.store.specs.Words.{Words};
-ghost use Rattle.store.specs.Tables.{table_of, map_of, SoundTable};
-ghost use Rattle.store.specs.Stores.{store_in, SoundStore};
+ghost use Rattle.spans.specs.Spans.{name_of, Sound, Given};
+ghost use Rattle.store.specs.Places.{table_room};
+ghost use Rattle.store.specs.Tables.{map_of, SoundTable};
+ghost use Rattle.store.specs.Stores.{SoundStore};
 ghost use Rattle.steps.specs.Steps.{FileName, Within};
-ghost use Rattle.local_storage.specs.Recording.{Readable, Ready, storage_of, Answers, Given, GivenKey, GivenWrite, can_stage, Staged};
+ghost use Rattle.local_storage.specs.Recording.{Readable, Ready, storage_of, Answers, can_stage, Staged};
 
 use crate::{LocalStorage, Recorded};
+use refusals::Refusal;
 use spans::NameRef;
-use store::{Node, Nodes, Store};
+use store::{Node, Store, Table};
 use transaction::Operation;
 
 // 01, Sixteen numbers: "10. A staging file of a Write's staging name stands, 32 staging files stand, or the number is 0."
-fn can_stage(src: &[u8], t: &Nodes, n: usize, staged: NameRef, number: u32) -> bool
-    requires { SoundTable src.now (table_of t.now n) × Sound src.now staged }
-    ensures { result ≡ can_stage (name_of src.now staged) number (map_of src.now (table_of t.now n)) }
+fn can_stage(src: &[u8], staging: &Table, staged: NameRef, number: u32) -> bool
+    requires { SoundTable src.now staging.now × Sound src.now staged }
+    ensures { result ≡ can_stage (name_of src.now staged) number (map_of src.now staging.now) }
 {
-    if store::exists(src, t, n, spans::EMPTY, staged) {
+    if staging.exists(src, spans::EMPTY, staged) {
         return false;
     }
-    if basics::STAGING_LIMIT <= n {
-        return false;
-    }
-    if number == 0 {
-        return false;
-    }
-    true
+    staging.nodes.len() < basics::STAGING_LIMIT && number != 0
 }
 
 // "An accepted Write adds its staging file."
-fn stage(src: &[u8], staging: &mut Nodes, s: Store, staged: NameRef, number: u32) -> Store
-    requires { (SoundTable src.now (table_of staging.old s.staging) × Sound src.now staged) × (s.staging < 145) }
-    ensures { (tree : Words) → SoundStore src.now (store_in tree staging.old s) → Staged src.now staged number (store_in tree staging.old s) (store_in tree staging.new result) }
+fn stage(src: &[u8], store: &mut Store, staged: NameRef, number: u32)
+    requires { (SoundTable src.now store.old.staging × Sound src.now staged) × (length (map_of src.now store.old.staging) < table_room) }
+    ensures { SoundStore src.now store.old → Staged src.now staged number store.old store.new }
 {
-    let mut r = s;
-    r.staging = store::put(
+    store.staging.put(
         src,
-        staging,
-        s.staging,
         Node {
             dir: spans::EMPTY,
             file: staged,
-            number: number,
+            number,
         },
     );
-    r
 }
 
 impl LocalStorage {
@@ -55,80 +47,59 @@ impl LocalStorage {
     pub fn write(
         self,
         src: &[u8],
-        tree: &Nodes,
-        staging: &mut Nodes,
-        valid: bool,
-        collection: NameRef,
-        key: NameRef,
-        staged: NameRef,
+        collection: Option<NameRef>,
+        key: Option<NameRef>,
+        staged: Option<NameRef>,
         number: u32,
     ) -> Recorded
-        requires { Ready src.now (store_in tree.now staging.old self.store) × (valid ≡ true → Sound src.now collection × (Sound src.now key × Sound src.now staged)) }
-        ensures { (c k f : Name) → GivenWrite src.now valid collection key staged c k f → Answers src.now (record_write c k f number (storage_of src.now tree.now staging.old self)) tree.now staging.old self tree.now staging.new result }
+        requires { Ready src.now self.store × (IfSome collection (Sound src.now) × (IfSome key (Sound src.now) × IfSome staged (Sound src.now))) }
+        ensures { (c k f : Name) → Given src.now collection c → Given src.now key (lower k) → Given src.now staged f → Answers src.now (record_write c k f number (storage_of src.now self)) self result }
     {
-        let n = crate::refusal(src, self.store);
-        if n != 0 {
-            return crate::refused(self, n);
+        if let Err(refusal) = crate::admit(src, &self.store) {
+            return self.refuse(refusal);
         }
-        if !valid {
-            return crate::refused(self, 6);
+        let (Some(c), Some(k), Some(f)) = (collection, key, staged) else {
+            return self.refuse(Refusal::InvalidName);
+        };
+        if !can_stage(src, &self.store.staging, f, number) {
+            return self.refuse(Refusal::StagingRefused);
         }
-        let s = self.store;
-        if !can_stage(src, staging, s.staging, staged, number) {
-            return crate::refused(self, 10);
-        }
-        let stood = store::exists(src, tree, s.tree, collection, key);
-        let t = stage(src, staging, s, staged, number);
-        crate::accepted(
-            LocalStorage { store: t },
-            Operation::MarkedWrite(collection, key, staged, stood),
-        )
+        let stood = self.store.tree.exists(src, c, k);
+        let mut storage = self;
+        stage(src, &mut storage.store, f, number);
+        storage.accept(Operation::MarkedWrite(c, k, f, stood))
     }
 
     // 4, 5, 6; "8. The key to delete is missing, after the case rename."
-    pub fn delete(
-        self,
-        src: &[u8],
-        tree: &mut Nodes,
-        staging: &mut Nodes,
-        valid: bool,
-        collection: NameRef,
-        key: NameRef,
-    ) -> Recorded
-        requires { (Ready src.now (store_in tree.old staging.old self.store) × Within (map_of src.now (table_of tree.old self.store.tree))) × (valid ≡ true → Sound src.now collection × FileName src.now key) }
-        ensures { (c k : Name) → GivenKey src.now valid collection key c k → Answers src.now (record_delete c k (storage_of src.now tree.old staging.old self)) tree.old staging.old self tree.new staging.new result }
+    pub fn delete(self, src: &[u8], collection: Option<NameRef>, key: Option<NameRef>) -> Recorded
+        requires { (Ready src.now self.store × Within (map_of src.now self.store.tree)) × (IfSome collection (Sound src.now) × IfSome key (FileName src.now)) }
+        ensures { (c k : Name) → Given src.now collection c → Given src.now key (lower k) → Answers src.now (record_delete c k (storage_of src.now self)) self result }
     {
-        let n = crate::refusal(src, self.store);
-        if n != 0 {
-            return crate::refused(self, n);
+        if let Err(refusal) = crate::admit(src, &self.store) {
+            return self.refuse(refusal);
         }
-        if !valid {
-            return crate::refused(self, 6);
+        let (Some(c), Some(k)) = (collection, key) else {
+            return self.refuse(Refusal::InvalidName);
+        };
+        let mut storage = self;
+        local_collection::ensure_normalized_on_disk(src, &mut storage.store, c, k);
+        if !storage.store.tree.exists(src, c, k) {
+            return storage.refuse(Refusal::KeyNotFound);
         }
-        let s = local_collection::ensure_normalized_on_disk(
-            src, tree, staging, self.store, collection, key,
-        );
-        if !store::exists(src, tree, s.tree, collection, key) {
-            return crate::refused(self, 8);
-        }
-        crate::accepted(
-            LocalStorage { store: s },
-            Operation::Delete(collection, key),
-        )
+        storage.accept(Operation::Delete(c, k))
     }
 
     // 4, 5, 6. 01, Corners, local_collection.rs: "Deleting all in a missing collection is recorded."
-    pub fn delete_all(self, src: &[u8], valid: bool, name: NameRef) -> Recorded
-        requires { Readable src.now self.store.log × (valid ≡ true → Sound src.now name) }
-        ensures { (tree staging : Words) → SoundStore src.now (store_in tree staging self.store) → (c : Name) → Given src.now valid name c → Answers src.now (record_delete_all c (storage_of src.now tree staging self)) tree staging self tree staging result }
+    pub fn delete_all(self, src: &[u8], name: Option<NameRef>) -> Recorded
+        requires { Readable src.now self.store.log × IfSome name (Sound src.now) }
+        ensures { SoundStore src.now self.store → (c : Name) → Given src.now name c → Answers src.now (record_delete_all c (storage_of src.now self)) self result }
     {
-        let n = crate::refusal(src, self.store);
-        if n != 0 {
-            return crate::refused(self, n);
+        if let Err(refusal) = crate::admit(src, &self.store) {
+            return self.refuse(refusal);
         }
-        if !valid {
-            return crate::refused(self, 6);
-        }
-        crate::accepted(self, Operation::DeleteAll(name))
+        let Some(c) = name else {
+            return self.refuse(Refusal::InvalidName);
+        };
+        self.accept(Operation::DeleteAll(c))
     }
 }

@@ -13,15 +13,6 @@ pub returns-then-n-gt-NAME_LIMIT : goal.returns-then-n-gt-NAME_LIMIT
 returns-then-n-gt-NAME_LIMIT c =
     not-lent c.args.at (lower c.args.key.now) c.args.src.now c.requires.0 refl refl (long-key c.args.key.now c.if-n-gt-NAME_LIMIT.true) c.not_valid.ensures
 
-pub slice_bounds-span-end-then-sanitize_path_segment : goal.slice_bounds-span-end-then-sanitize_path_segment
-slice_bounds-span-end-then-sanitize_path_segment c =
-    let k = c.args.key.now in
-    sym (length-take-le _ _ (omega (arith, c.requires.0, length-lower k, c.if-n-gt-NAME_LIMIT.false, same_size c.args.at (lower k) c.args.src.now c.requires.0 (omega (arith, length-lower k, c.if-n-gt-NAME_LIMIT.false)) c.normalize_key.ensures)))
-
-pub span-requires : goal.span-requires
-span-requires c =
-    (omega (arith, c.requires.0, c.requires.1), c.if-n-gt-NAME_LIMIT.false, omega (arith, slice_bounds-span-end-then-sanitize_path_segment c))
-
 pub returns-then-sanitize_path_segment : goal.returns-then-sanitize_path_segment
 returns-then-sanitize_path_segment c =
     let k = c.args.key.now in

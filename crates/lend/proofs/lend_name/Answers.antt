@@ -27,7 +27,3 @@ pub returns-then-sanitize_path_segment : goal.returns-then-sanitize_path_segment
 returns-then-sanitize_path_segment c =
     let e = sym c.sanitize_path_segment.ensures ∙ c.if-sanitize_path_segment.true in
     lent c.args.at c.args.name.now c.args.src.now c.requires.0 (valid-length c.args.name.now e).1 c.put_bytes.ensures e refl c.span.ensures
-
-pub returns : goal.returns
-returns c =
-    not-lent c.args.at c.args.name.now c.args.src.now c.requires.0 refl refl (sym c.sanitize_path_segment.ensures ∙ c.if-sanitize_path_segment.false) c.not_valid.ensures

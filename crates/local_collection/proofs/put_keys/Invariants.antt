@@ -1,11 +1,9 @@
 -- `put_keys` goes through the listing and writes a field for each key.
-use Prim.Native.Nat.{◌-◌}
-use Rattle.store.proofs.Listed.{names_in}
+use Rattle.model.specs.Store.{files}
+use Rattle.spans.specs.Spans.{name_of}
+use Rattle.store.specs.Tables.{map_of}
 use Rattle.local_collection.proofs.Listed.{Listing}
 use Rattle.local_collection.proofs.put_keys.Given as goal
 
-abbrev pub invariant-loop-i : goal.invariant-loop-i
-invariant-loop-i l = Listing l.src l.names l.m (names_in l.src l.names l.m) l.initial.out l.out l.at l.i
-
-abbrev pub decreases-loop-i : goal.decreases-loop-i
-decreases-loop-i l = l.m - l.i
+abbrev pub invariant-loop-file : goal.invariant-loop-file
+invariant-loop-file l = Listing l.src (record { items = l.file-items }) (files (name_of l.src l.fn.dir) (map_of l.src l.fn.t)) l.initial.out l.out l.at l.file-index

@@ -1,25 +1,16 @@
-use mathlib.Core.Path.{◌∙◌, ap}
-use Rattle.basics.specs.Name.{lower_byte}
-use Rattle.field.proofs.Written.{pasting, pasted, all-pasted, written_none}
-use Rattle.paths.proofs.Lower.{lowered, lower-at}
-use Rattle.local_collection.proofs.Lowered.{length-lowered}
+-- `put_lower` meets its contract: both slices of the name in lower case, or neither.
 use native.Mathlib.Omega.{arith}
+use Rattle.basics.specs.Name.{lower}
+use Rattle.paths.proofs.Lower.{length-lower}
+use Rattle.spans.proofs.Written.{both-written, both-none}
+use Rattle.local_collection.proofs.Lowered.{both-lowered}
 use Rattle.local_collection.proofs.put_lower.Goals as goal
 
-pub loop-i-init : goal.loop-i-init
-loop-i-init c = pasting _ _ _ (omega (arith, length-lowered c.requires))
+pub returns-then-part-baks : goal.returns-then-part-baks
+returns-then-part-baks c =
+    both-written _ _ (lower c.slices.result.0.now) (lower c.slices.result.1.now) _ _ (both-lowered _ _ c.slices.ensures.whole) c.normalize_key.ensures c.normalize_key-then-part-baks.ensures
+    (omega (arith, length-lower c.slices.result.0.now)) (omega (arith, length-lower c.slices.result.0.now, length-lower c.slices.result.1.now))
 
-pub overflow_add-out : goal.overflow_add-out
-overflow_add-out c = omega (arith, length-lowered c.requires)
-
-pub bounds-out-at : goal.bounds-out-at
-bounds-out-at c = omega (arith, length-lowered c.requires)
-
-pub loop-i-preserved : goal.loop-i-preserved
-loop-i-preserved c = pasted c.loop-i.invariant _ (c.to_ascii_lowercase.ensures.value ∙ lowered _ ∙ ap lower_byte c.byte_at.ensures ∙ lower-at _ _) (omega (arith, length-lowered c.requires))
-
-pub returns-after-loop-i : goal.returns-after-loop-i
-returns-after-loop-i c = all-pasted c.loop-i.invariant (omega (arith, length-lowered c.requires))
-
-pub returns-else-n-saturating_sub : goal.returns-else-n-saturating_sub
-returns-else-n-saturating_sub c = written_none _ _ _ (omega (arith, length-lowered c.requires))
+pub returns-else-part-baks : goal.returns-else-part-baks
+returns-else-part-baks c =
+    both-none _ (lower c.slices.result.0.now) (lower c.slices.result.1.now) _ _ (both-lowered _ _ c.slices.ensures.whole) (omega (arith, length-lower c.slices.result.0.now, length-lower c.slices.result.1.now))

@@ -1,24 +1,35 @@
 -- `copy_collection` meets its contract.
-use Rattle.local_storage.proofs.Collections.{copy_4_5, copy_6, copy_7, copy_6_again, copy_0}
+use mathlib.Core.Path.{sym, ◌∙◌}
+use Rattle.model.specs.Record.{record_copy}
+use Rattle.local_storage.proofs.Outcomes.{admitted, holds, not-admitted, fails, accepted}
 use Rattle.local_storage.proofs.LocalStorage.copy_collection.Goals as goal
 
-pub returns-then-n-ne0 : goal.returns-then-n-ne0
-returns-then-n-ne0 c = λ n m w u. copy_4_5 c.requires.0.sound c.refusal-n.ensures w u c.if-n-ne0.true c.refused.ensures
+pub returns-in-Err : goal.returns-in-Err
+unfolding record_copy
+returns-in-Err c = λ n m w u. not-admitted c.requires.0.sound c.refuse.ensures _ _ c.admit.ensures c.in-Err.is
 
-pub returns-then-not-valid_source : goal.returns-then-not-valid_source
-returns-then-not-valid_source c = λ n m w u. copy_6 c.requires.0.sound c.refusal-n.ensures w u c.if-n-ne0.false c.if-not-valid_source.true-raw c.refused-then-not-valid_source.ensures
+pub returns-in_default-source : goal.returns-in_default-source
+unfolding record_copy
+returns-in_default-source c = λ n m w u. admitted _ _ c.admit.ensures c.in_default.is (fails c.requires.0.sound c.refuse-in_default-source.ensures _ (rw c.in_default-source.is at w))
 
-pub has_dir-requires : goal.has_dir-requires
-has_dir-requires c = (c.requires.0.sound.tree, c.requires.1.0 (c.if-not-valid_source.false))
+pub returns-then-not-dir_exists : goal.returns-then-not-dir_exists
+unfolding record_copy
+returns-then-not-dir_exists c = λ n m w u.
+    let v = rw c.in-Some.is at w in
+    rw (← v.1.same) (admitted _ _ c.admit.ensures c.in_default.is (holds 6 _ (rw (← v.1.same) at v.0)
+    (fails c.requires.0.sound c.refuse-then-not-dir_exists.ensures _ (sym c.dir_exists.ensures ∙ c.if-not-dir_exists.true))))
 
-pub returns-then-not-has_dir : goal.returns-then-not-has_dir
-returns-then-not-has_dir c = λ n m w u. copy_7 c.requires.0.sound c.refusal-n.ensures w u c.if-n-ne0.false c.if-not-valid_source.false-raw c.has_dir.ensures c.if-not-has_dir.true-raw c.refused-then-not-has_dir.ensures
-
-pub returns-then-not-valid_dest : goal.returns-then-not-valid_dest
-returns-then-not-valid_dest c = λ n m w u. copy_6_again c.requires.0.sound c.refusal-n.ensures w u c.if-n-ne0.false c.if-not-valid_source.false-raw c.has_dir.ensures c.if-not-has_dir.false-raw c.if-not-valid_dest.true-raw c.refused-then-not-valid_dest.ensures
-
-pub has_dir-existed-requires : goal.has_dir-existed-requires
-has_dir-existed-requires c = (c.requires.0.sound.tree, c.requires.1.1 (c.if-not-valid_dest.false))
+pub returns-in_default-dest : goal.returns-in_default-dest
+unfolding record_copy
+returns-in_default-dest c = λ n m w u.
+    let v = rw c.in-Some.is at w in
+    rw (← v.1.same) (admitted _ _ c.admit.ensures c.in_default.is (holds 6 _ (rw (← v.1.same) at v.0) (holds 7 _ (sym c.dir_exists.ensures ∙ c.if-not-dir_exists.false)
+    (fails c.requires.0.sound c.refuse-in_default-dest.ensures _ (rw c.in_default-dest.is at u)))))
 
 pub returns : goal.returns
-returns c = λ n m w u. copy_0 c.requires.0.sound c.refusal-n.ensures w u c.if-n-ne0.false c.if-not-valid_source.false-raw c.has_dir.ensures c.if-not-has_dir.false-raw c.if-not-valid_dest.false-raw c.has_dir-existed.ensures c.accepted.ensures
+unfolding record_copy
+returns c = λ n m w u.
+    let v = rw c.in-Some.is at w in
+    let x = rw c.in-Some-dest.is at u in
+    rw (← v.1.same, ← x.1.same) (admitted _ _ c.admit.ensures c.in_default.is (holds 6 _ (rw (← v.1.same) at v.0) (holds 7 _ (sym c.dir_exists.ensures ∙ c.if-not-dir_exists.false)
+    (holds 6 _ (rw (← x.1.same) at x.0) (accepted c.requires.0.sound c.accept.ensures (v.1.sound, x.1.sound) (rw c.dir_exists-existed.ensures))))))

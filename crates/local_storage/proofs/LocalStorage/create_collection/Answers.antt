@@ -1,18 +1,26 @@
 -- `create_collection` meets its contract.
-use Rattle.local_storage.proofs.Collections.{create_4_5, create_6, create_9, create_0}
+use mathlib.Core.Path.{refl, sym, ap, ◌∙◌}
+use mathlib.Core.Bool.{not}
+use Rattle.model.specs.Record.{record_create}
+use Rattle.local_storage.proofs.Outcomes.{admitted, holds, not-admitted, fails, accepted}
 use Rattle.local_storage.proofs.LocalStorage.create_collection.Goals as goal
 
-pub returns-then-n-ne0 : goal.returns-then-n-ne0
-returns-then-n-ne0 c = λ n w. create_4_5 c.requires.0.sound c.refusal-n.ensures w c.if-n-ne0.true c.refused.ensures
+pub returns-in-Err : goal.returns-in-Err
+unfolding record_create
+returns-in-Err c = λ n w. not-admitted c.requires.0.sound c.refuse.ensures _ _ c.admit.ensures c.in-Err.is
 
-pub returns-then-not-valid : goal.returns-then-not-valid
-returns-then-not-valid c = λ n w. create_6 c.requires.0.sound c.refusal-n.ensures w c.if-n-ne0.false c.if-not-valid.true-raw c.refused-then-not-valid.ensures
+pub returns-in_default-name : goal.returns-in_default-name
+unfolding record_create
+returns-in_default-name c = λ n w. admitted _ _ c.admit.ensures c.in_default.is (fails c.requires.0.sound c.refuse-in_default-name.ensures _ (rw c.in_default-name.is at w))
 
-pub has_dir-requires : goal.has_dir-requires
-has_dir-requires c = (c.requires.0.sound.tree, c.requires.1 (c.if-not-valid.false))
-
-pub returns-then-has_dir : goal.returns-then-has_dir
-returns-then-has_dir c = λ n w. create_9 c.requires.0.sound c.refusal-n.ensures w c.if-n-ne0.false c.if-not-valid.false-raw c.has_dir.ensures c.if-has_dir.true c.refused-then-has_dir.ensures
+pub returns-then-dir_exists : goal.returns-then-dir_exists
+unfolding record_create
+returns-then-dir_exists c = λ n w.
+    let v = rw c.in-Some.is at w in
+    rw (← v.1.same) (admitted _ _ c.admit.ensures c.in_default.is (holds 6 _ (rw (← v.1.same) at v.0) (fails c.requires.0.sound c.refuse-then-dir_exists.ensures _ (ap not (sym c.dir_exists.ensures ∙ c.if-dir_exists.true)))))
 
 pub returns : goal.returns
-returns c = λ n w. create_0 c.requires.0.sound c.refusal-n.ensures w c.if-n-ne0.false c.if-not-valid.false-raw c.has_dir.ensures c.if-has_dir.false c.accepted.ensures
+unfolding record_create
+returns c = λ n w.
+    let v = rw c.in-Some.is at w in
+    rw (← v.1.same) (admitted _ _ c.admit.ensures c.in_default.is (holds 6 _ (rw (← v.1.same) at v.0) (holds 9 _ (ap not (sym c.dir_exists.ensures ∙ c.if-dir_exists.false)) (accepted c.requires.0.sound c.accept.ensures v.1.sound refl))))

@@ -1,21 +1,42 @@
 -- `delete` meets its contract.
-use Rattle.local_storage.proofs.Keyed.{delete_4_5, delete_6, delete_8, delete_0}
+use mathlib.Core.Path.{refl}
+use mathlib.Core.Bool.{◌&&◌}
+use Rattle.basics.specs.Name.{valid_name, lower}
+use Rattle.model.specs.Record.{record_delete}
+use Rattle.local_storage.proofs.Outcomes.{admitted, holds, not-admitted, fails, failed-back, accepted, both, first-not-of-two, second-not-of-two}
+use Rattle.local_storage.proofs.Renamed.{key-stands, still, deleted}
 use Rattle.local_storage.proofs.LocalStorage.delete.Goals as goal
+use Rattle.local_storage.proofs.LocalStorage.delete.Goals.{in_default-2-via-in-Some+in_default, in_default-2-via-in_default}
 
-pub returns-then-n-ne0 : goal.returns-then-n-ne0
-returns-then-n-ne0 c = λ n m w. delete_4_5 c.requires.0.0.sound c.refusal-n.ensures w c.if-n-ne0.true c.refused.ensures
+pub returns-in-Err : goal.returns-in-Err
+unfolding record_delete
+returns-in-Err c = λ n m w u. not-admitted c.requires.0.0.sound c.refuse.ensures _ _ c.admit.ensures c.in-Err.is
 
-pub returns-then-not-valid : goal.returns-then-not-valid
-returns-then-not-valid c = λ n m w. delete_6 c.requires.0.0.sound c.refusal-n.ensures w c.if-n-ne0.false c.if-not-valid.true-raw c.refused-then-not-valid.ensures
-
-pub ensure_normalized_on_disk-s-requires : goal.ensure_normalized_on_disk-s-requires
-ensure_normalized_on_disk-s-requires c = (record { sound = c.requires.0.0.sound; within = c.requires.0.1 }, c.requires.1 (c.if-not-valid.false))
-
-pub exists-requires : goal.exists-requires
-exists-requires c = (c.ensure_normalized_on_disk-s.ensures.fits.sound.tree, ((c.requires.1 (c.if-not-valid.false)).0, (c.requires.1 (c.if-not-valid.false)).1.sound))
+pub returns-in_default-2 : goal.returns-in_default-2
+unfolding record_delete
+returns-in_default-2 c = λ n m w u.
+    admitted _ _ c.admit.ensures c.in_default.is (fails c.requires.0.0.sound c.refuse-in_default-2.ensures {t = valid_name n && valid_name (lower m)} _ (
+    elim c.in_default-2.branch [
+      | in_default-2-via-in-Some+in_default z ↦ second-not-of-two (valid_name n) (rw z.in_default-2.is-1 at u)
+      | in_default-2-via-in_default z ↦ first-not-of-two (valid_name (lower m)) (rw z.in_default-2.is-0 at w)
+    ]))
 
 pub returns-then-not-exists : goal.returns-then-not-exists
-returns-then-not-exists c = λ n m w. delete_8 c.requires.0.0.sound c.refusal-n.ensures w c.if-n-ne0.false c.if-not-valid.false-raw c.ensure_normalized_on_disk-s.ensures c.exists.ensures c.if-not-exists.true-raw c.refused-then-not-exists.ensures
+unfolding record_delete
+returns-then-not-exists c = λ n m w u.
+    let x = rw c.in-Some-Some.is-0 at w in
+    let y = rw c.in-Some-Some.is-1 at u in
+    let e = c.ensure_normalized_on_disk.ensures in
+    rw (← x.1.same, ← y.1.same)
+    (admitted _ _ c.admit.ensures c.in_default.is (holds 6 _ (both (rw (← x.1.same) at x.0) (rw (← y.1.same) at y.0))
+    (failed-back e.fits.sound (still e c.exists.ensures c.if-not-exists.true refl) c.refuse-then-not-exists.ensures _ (key-stands e c.exists.ensures c.if-not-exists.true))))
 
 pub returns : goal.returns
-returns c = λ n m w. delete_0 c.requires.0.0.sound c.refusal-n.ensures w c.if-n-ne0.false c.if-not-valid.false-raw c.ensure_normalized_on_disk-s.ensures c.exists.ensures c.if-not-exists.false-raw c.accepted.ensures
+unfolding record_delete
+returns c = λ n m w u.
+    let x = rw c.in-Some-Some.is-0 at w in
+    let y = rw c.in-Some-Some.is-1 at u in
+    let e = c.ensure_normalized_on_disk.ensures in
+    rw (← x.1.same, ← y.1.same)
+    (admitted _ _ c.admit.ensures c.in_default.is (holds 6 _ (both (rw (← x.1.same) at x.0) (rw (← y.1.same) at y.0))
+    (holds 8 _ (key-stands e c.exists.ensures c.if-not-exists.false) (accepted e.fits.sound c.accept.ensures (x.1.sound, y.1.sound) (deleted e)))))

@@ -1,12 +1,19 @@
 -- `delete_all` meets its contract.
-use Rattle.local_storage.proofs.Collections.{all_4_5, all_6, all_0}
+use mathlib.Core.Path.{refl}
+use Rattle.model.specs.Record.{record_delete_all}
+use Rattle.local_storage.proofs.Outcomes.{admitted, holds, not-admitted, fails, accepted}
 use Rattle.local_storage.proofs.LocalStorage.delete_all.Goals as goal
 
-pub returns-then-n-ne0 : goal.returns-then-n-ne0
-returns-then-n-ne0 c = λ tree staging g n w. all_4_5 g c.refusal-n.ensures w c.if-n-ne0.true c.refused.ensures
+pub returns-in-Err : goal.returns-in-Err
+unfolding record_delete_all
+returns-in-Err c = λ g n w. not-admitted g c.refuse.ensures _ _ c.admit.ensures c.in-Err.is
 
-pub returns-then-not-valid : goal.returns-then-not-valid
-returns-then-not-valid c = λ tree staging g n w. all_6 g c.refusal-n.ensures w c.if-n-ne0.false c.if-not-valid.true-raw c.refused-then-not-valid.ensures
+pub returns-in_default-name : goal.returns-in_default-name
+unfolding record_delete_all
+returns-in_default-name c = λ g n w. admitted _ _ c.admit.ensures c.in_default.is (fails g c.refuse-in_default-name.ensures _ (rw c.in_default-name.is at w))
 
 pub returns : goal.returns
-returns c = λ tree staging g n w. all_0 g c.refusal-n.ensures w c.if-n-ne0.false c.if-not-valid.false-raw c.accepted.ensures
+unfolding record_delete_all
+returns c = λ g n w.
+    let v = rw c.in-Some.is at w in
+    rw (← v.1.same) (admitted _ _ c.admit.ensures c.in_default.is (holds 6 _ (rw (← v.1.same) at v.0) (accepted g c.accept.ensures v.1.sound refl)))

@@ -1,18 +1,27 @@
 -- `delete_collection` meets its contract.
-use Rattle.local_storage.proofs.Collections.{delete_4_5, delete_6, delete_7, delete_0}
+use mathlib.Core.Path.{refl, sym, ◌∙◌}
+use Rattle.model.specs.Record.{record_delete_collection}
+use Rattle.local_storage.proofs.Outcomes.{admitted, holds, not-admitted, fails, accepted}
 use Rattle.local_storage.proofs.LocalStorage.delete_collection.Goals as goal
 
-pub returns-then-n-ne0 : goal.returns-then-n-ne0
-returns-then-n-ne0 c = λ n w. delete_4_5 c.requires.0.sound c.refusal-n.ensures w c.if-n-ne0.true c.refused.ensures
+pub returns-in-Err : goal.returns-in-Err
+unfolding record_delete_collection
+returns-in-Err c = λ n w. not-admitted c.requires.0.sound c.refuse.ensures _ _ c.admit.ensures c.in-Err.is
 
-pub returns-then-not-valid : goal.returns-then-not-valid
-returns-then-not-valid c = λ n w. delete_6 c.requires.0.sound c.refusal-n.ensures w c.if-n-ne0.false c.if-not-valid.true-raw c.refused-then-not-valid.ensures
+pub returns-in_default-name : goal.returns-in_default-name
+unfolding record_delete_collection
+returns-in_default-name c = λ n w. admitted _ _ c.admit.ensures c.in_default.is (fails c.requires.0.sound c.refuse-in_default-name.ensures _ (rw c.in_default-name.is at w))
 
-pub has_dir-requires : goal.has_dir-requires
-has_dir-requires c = (c.requires.0.sound.tree, c.requires.1 (c.if-not-valid.false))
-
-pub returns-then-not-has_dir : goal.returns-then-not-has_dir
-returns-then-not-has_dir c = λ n w. delete_7 c.requires.0.sound c.refusal-n.ensures w c.if-n-ne0.false c.if-not-valid.false-raw c.has_dir.ensures c.if-not-has_dir.true-raw c.refused-then-not-has_dir.ensures
+pub returns-then-not-dir_exists : goal.returns-then-not-dir_exists
+unfolding record_delete_collection
+returns-then-not-dir_exists c = λ n w.
+    let v = rw c.in-Some.is at w in
+    rw (← v.1.same) (admitted _ _ c.admit.ensures c.in_default.is (holds 6 _ (rw (← v.1.same) at v.0)
+    (fails c.requires.0.sound c.refuse-then-not-dir_exists.ensures _ (sym c.dir_exists.ensures ∙ c.if-not-dir_exists.true))))
 
 pub returns : goal.returns
-returns c = λ n w. delete_0 c.requires.0.sound c.refusal-n.ensures w c.if-n-ne0.false c.if-not-valid.false-raw c.has_dir.ensures c.if-not-has_dir.false-raw c.accepted.ensures
+unfolding record_delete_collection
+returns c = λ n w.
+    let v = rw c.in-Some.is at w in
+    rw (← v.1.same) (admitted _ _ c.admit.ensures c.in_default.is (holds 6 _ (rw (← v.1.same) at v.0) (holds 7 _ (sym c.dir_exists.ensures ∙ c.if-not-dir_exists.false)
+    (accepted c.requires.0.sound c.accept.ensures v.1.sound refl))))

@@ -1,35 +1,46 @@
 -- `write` meets its contract.
-use mathlib.Core.Path.{◌∙◌, sym}
-use Rattle.local_storage.proofs.Stagings.{few-staged}
-use Rattle.local_storage.proofs.Keyed.{write_4_5, write_6, write_10, write_0}
+use mathlib.Core.Path.{sym, ◌∙◌}
+use mathlib.Core.Bool.{◌&&◌}
+use Rattle.basics.specs.Name.{valid_name, lower}
+use Rattle.model.specs.Record.{record_write}
+use Rattle.local_storage.specs.Recording.{can_stage}
+use Rattle.local_storage.proofs.Stagings.{few-staged, marked_write}
+use Rattle.local_storage.proofs.Outcomes.{admitted, holds, not-admitted, fails, accepted, all-three, first-not, second-not, third-not}
 use Rattle.local_storage.proofs.LocalStorage.write.Goals as goal
+use Rattle.local_storage.proofs.LocalStorage.write.Goals.{in_default-2-via-in-Some+in-Some+in_default, in_default-2-via-in-Some+in_default, in_default-2-via-in_default}
 
-pub returns-then-n-ne0 : goal.returns-then-n-ne0
-returns-then-n-ne0 c = λ n m f w. write_4_5 c.requires.0.sound c.refusal-n.ensures _ w c.if-n-ne0.true c.refused.ensures
+pub returns-in-Err : goal.returns-in-Err
+unfolding record_write
+returns-in-Err c = λ n m f w u v. not-admitted c.requires.0.sound c.refuse.ensures _ _ c.admit.ensures c.in-Err.is
 
-pub returns-then-not-valid : goal.returns-then-not-valid
-returns-then-not-valid c = λ n m f w. write_6 c.requires.0.sound c.refusal-n.ensures _ w c.if-n-ne0.false c.if-not-valid.true-raw c.refused-then-not-valid.ensures
-
-pub can_stage-requires : goal.can_stage-requires
-can_stage-requires c = (c.requires.0.sound.staging, (c.requires.1 (c.if-not-valid.false)).1.1)
+pub returns-in_default-2 : goal.returns-in_default-2
+unfolding record_write
+returns-in_default-2 c = λ n m f w u v.
+    admitted _ _ c.admit.ensures c.in_default.is (fails c.requires.0.sound c.refuse-in_default-2.ensures {t = valid_name n && valid_name (lower m) && valid_name f} _ (
+    elim c.in_default-2.branch [
+      | in_default-2-via-in-Some+in-Some+in_default z ↦ third-not (valid_name n) (valid_name (lower m)) (rw z.in_default-2.is-2 at v)
+      | in_default-2-via-in-Some+in_default z ↦ second-not (valid_name n) (valid_name f) (rw z.in_default-2.is-1 at u)
+      | in_default-2-via-in_default z ↦ first-not (valid_name (lower m)) (valid_name f) (rw z.in_default-2.is-0 at w)
+    ]))
 
 pub returns-then-not-can_stage : goal.returns-then-not-can_stage
-returns-then-not-can_stage c = λ n m f w. write_10 c.requires.0.sound c.refusal-n.ensures _ w c.if-n-ne0.false c.if-not-valid.false-raw c.can_stage.ensures c.if-not-can_stage.true-raw c.refused-then-not-can_stage.ensures
+unfolding record_write can_stage
+returns-then-not-can_stage c = λ n m f w u v.
+    let x = rw c.in-Some-Some-Some.is-0 at w in
+    let y = rw c.in-Some-Some-Some.is-1 at u in
+    let z = rw c.in-Some-Some-Some.is-2 at v in
+    rw (← z.1.same) (admitted _ _ c.admit.ensures c.in_default.is (holds 6 _ (all-three x.0 y.0 (rw (← z.1.same) at z.0)) (fails c.requires.0.sound c.refuse-then-not-can_stage.ensures _ (sym c.can_stage.ensures ∙ c.if-not-can_stage.true))))
 
-pub exists-stood-requires : goal.exists-stood-requires
-exists-stood-requires c =
-    let o = c.requires.1 (c.if-not-valid.false) in
-    (c.requires.0.sound.tree, (o.0, o.1.0))
-
-pub stage-t-requires : goal.stage-t-requires
-stage-t-requires c =
-    let t = c.can_stage in (
-      (c.requires.0.sound.staging, (c.requires.1 (c.if-not-valid.false)).1.1),
-      few-staged _ _ c.requires.0.sound.staging (sym t.ensures ∙ c.if-not-can_stage.false),
-    )
+pub stage-requires : goal.stage-requires
+stage-requires c = ((c.requires.0.sound.staging, rw c.in-Some-Some-Some.is-2 at c.requires.1.1.1), few-staged _ _ _ (sym c.can_stage.ensures ∙ c.if-not-can_stage.false))
 
 pub returns : goal.returns
-returns c = λ n m f w.
-    let g = c.requires.0.sound in
-    write_0 g c.refusal-n.ensures _ w c.if-n-ne0.false c.if-not-valid.false-raw c.can_stage.ensures c.if-not-can_stage.false-raw
-    c.exists-stood.ensures (c.stage-t.ensures c.args.tree.now g) c.accepted.ensures
+unfolding record_write can_stage
+returns c = λ n m f w u v.
+    let x = rw c.in-Some-Some-Some.is-0 at w in
+    let y = rw c.in-Some-Some-Some.is-1 at u in
+    let z = rw c.in-Some-Some-Some.is-2 at v in
+    let d = c.stage.ensures c.requires.0.sound in
+    rw (← x.1.same, ← y.1.same, ← z.1.same)
+    (admitted _ _ c.admit.ensures c.in_default.is (holds 6 _ (all-three (rw (← x.1.same) at x.0) (rw (← y.1.same) at y.0) (rw (← z.1.same) at z.0)) (holds 10 _ (sym c.can_stage.ensures ∙ c.if-not-can_stage.false)
+    (accepted d.sound c.accept.ensures (x.1.sound, (y.1.sound, z.1.sound)) (marked_write _ _ _ d c.exists-stood.ensures)))))

@@ -1,2 +1,3 @@
 pub mod Contract
+pub mod Handing
 pub mod Opening

@@ -1,64 +1,65 @@
 -- `same_key`: two keys in lower case, compared from behind.
-use mathlib.Core.Path.{◌≡◌, refl, sym, ap, ◌∙◌}
-use mathlib.Core.List.{◌∷◌}
+use Rattle.std.specs.Char.{eq_ignore_ascii_case}
+use Rattle.std.specs.List.{list_all, zip}
+use mathlib.Core.Path.{◌≡◌, refl, sym, ap, ap₂, ◌∙◌}
+use mathlib.Core.List.{[], ◌∷◌, map, reverse, reverse_aux, reverse-reverse}
 use mathlib.Core.Bool.{Bool, true, false}
-use Prim.Native.Nat.{ℕ, suc, ◌-◌, ◌≤◌, ◌<◌}
+use Prim.Native.Nat.{ℕ}
 use native.Mathlib.Omega.{arith}
-use lib.ListN.{length, get_or, drop, drop_of_length-le}
-use lib.Seq.{drop-cons}
+use lib.ListN.{length, length-reverse}
+use lib.Dec.{eqb, eqb_refl}
 use Rattle.basics.specs.Base.{Bytes, same_bytes}
 use Rattle.basics.specs.Name.{lower_byte, lower}
-use Rattle.basic_laws.specs.Tests.{same-eq, same_refl}
-use Rattle.paths.proofs.Lower.{length-lower, lower-at}
+use Rattle.basic_laws.specs.Tests.{same-eq, same_refl, and_both, and_made, eqb-eq, of_T}
+use Rattle.paths.proofs.Lower.{lowered, length-lower}
 
-apart : (a b : Bytes) → (a ≡ b → ⊥) → false ≡ same_bytes a b
-apart a b h = go (same_bytes a b) refl
+abbrev pub alike : ℕ × ℕ → Bool
+alike p = eq_ignore_ascii_case p.0 p.1
+
+-- A test that decides whether two names are the same.
+decided : (t : Bool) (a b : Bytes) → (t ≡ true → a ≡ b) → (a ≡ b → t ≡ true) → t ≡ same_bytes a b
+decided true a b f g = rw (f refl) (sym (same_refl b))
+decided false a b f g = go (same_bytes a b) refl
   where
     go : (t : Bool) → same_bytes a b ≡ t → false ≡ t
     go false e = refl
-    go true e = absurd (h (same-eq a b e))
+    go true e = g (same-eq a b e)
 
--- The bytes from i on are alike.
-pub record Alike (a b : Bytes) (n i : ℕ) : Type 0 where
-  pub left : n ≡ length a
-  pub right : n ≡ length b
-  pub within : i ≤ n
-  pub same : drop i (lower a) ≡ drop i (lower b)
+module _ (a b : Bytes) where
+  pub other_length : (length a ≡ length b → ⊥) → eqb (length a) (length b) ≡ same_bytes (lower a) (lower b)
+  other_length h = decided (eqb (length a) (length b)) (lower a) (lower b)
+      (λ t. absurd (h (eqb-eq (length a) (length b) t)))
+      (λ e. absurd (h (sym (length-lower a) ∙ ap length e ∙ length-lower b)))
 
-module _ (a b : Bytes) {n m : ℕ} (p : n ≡ length a) (q : m ≡ length b) where
-  pub other_length : (n ≡ m → ⊥) → false ≡ same_bytes (lower a) (lower b)
-  other_length h = apart (lower a) (lower b) (λ e. h (p ∙ sym (length-lower a) ∙ ap length e ∙ length-lower b ∙ sym q))
+-- Place by place.
+same_lower : (a b : Bytes) → length a ≡ length b → list_all alike (zip a b) ≡ true → lower a ≡ lower b
+unfolding lower
+same_lower [] [] e h = refl
+same_lower [] (y ∷ b) e h = absurd (omega arith)
+same_lower (x ∷ a) [] e h = absurd (omega arith)
+same_lower (x ∷ a) (y ∷ b) e h =
+    let t = and_both (alike (x, y)) (list_all alike (zip a b)) h in
+    ap₂ ◌∷◌ (sym (lowered x) ∙ eqb-eq _ _ t.0 ∙ lowered y) (same_lower a b (omega arith) t.1)
 
-  pub none_left : n ≡ m → Alike a b n n
-  none_left e = record {
-    left = p;
-    right = e ∙ q;
-    within = omega arith;
-    same = drop_of_length-le (lower a) {i = n} (omega (arith, p, length-lower a)) ∙ sym (drop_of_length-le (lower b) {i = n} (omega (arith, e, q, length-lower b)));
-  }
+all-alike : (a b : Bytes) → lower a ≡ lower b → list_all alike (zip a b) ≡ true
+unfolding lower
+all-alike [] b e = refl
+all-alike (x ∷ a) [] e = refl
+all-alike (x ∷ a) (y ∷ b) e =
+    let p : lower_byte x ≡ lower_byte y = cc in
+    let q : map lower_byte a ≡ map lower_byte b = cc in
+    and_made (alike (x, y)) (list_all alike (zip a b)) (rw (lowered x, lowered y, p) (of_T (eqb (lower_byte y) (lower_byte y)) (eqb_refl (lower_byte y)))) (all-alike a b q)
 
-module _ {a b : Bytes} {n i : ℕ} (w : Alike a b n i) where
-  module _ {x y : ℕ} (h : 0 < i) (p : x ≡ lower_byte (get_or a (i - 1) 0)) (q : y ≡ lower_byte (get_or b (i - 1) 0)) where
-    pub other_byte : (x ≡ y → ⊥) → false ≡ same_bytes (lower a) (lower b)
-    other_byte d = apart (lower a) (lower b) (λ e. d (p ∙ lower-at a (i - 1) ∙ ap (λ (s : Bytes). get_or s (i - 1) 0) e ∙ sym (lower-at b (i - 1)) ∙ sym q))
+-- The same from behind.
+lower_aux : (a r : Bytes) → map lower_byte (reverse_aux a r) ≡ reverse_aux (map lower_byte a) (map lower_byte r)
+lower_aux [] r = refl
+lower_aux (x ∷ a) r = lower_aux a (x ∷ r)
 
-    pub same_byte : x ≡ y → Alike a b n (i - 1)
-    same_byte e = record {
-      left = w.left;
-      right = w.right;
-      within = omega (arith, w.within);
-      same =
-          drop-cons (lower a) (i - 1) 0 (omega (arith, w.within, w.left, length-lower a))
-          ∙ ap (λ (z : ℕ). z ∷ drop (suc (i - 1)) (lower a)) (sym (lower-at a (i - 1)) ∙ sym p ∙ e ∙ q ∙ lower-at b (i - 1))
-          ∙ ap (λ (l : Bytes). get_or (lower b) (i - 1) 0 ∷ l) (ap (λ (k : ℕ). drop k (lower a)) back ∙ w.same ∙ ap (λ (k : ℕ). drop k (lower b)) (sym back))
-          ∙ sym (drop-cons (lower b) (i - 1) 0 (omega (arith, w.within, w.right, length-lower b)));
-    }
-      where
-        back : suc (i - 1) ≡ i
-        back = omega arith
+lower-reverse : (a : Bytes) → lower (reverse a) ≡ reverse (lower a)
+unfolding lower
+lower-reverse a = lower_aux a []
 
-  pub all_same : i ≤ 0 → true ≡ same_bytes (lower a) (lower b)
-  all_same h =
-      let z : i ≡ 0 = omega arith in
-      let e : lower a ≡ lower b = sym (ap (λ (k : ℕ). drop k (lower a)) z) ∙ w.same ∙ ap (λ (k : ℕ). drop k (lower b)) z in
-      sym (rw e (same_refl (lower b)))
+pub from-behind : (a b : Bytes) → length a ≡ length b → list_all alike (zip (reverse a) (reverse b)) ≡ same_bytes (lower a) (lower b)
+from-behind a b e = decided (list_all alike (zip (reverse a) (reverse b))) (lower a) (lower b)
+    (λ h. sym (reverse-reverse (lower a)) ∙ ap reverse (sym (lower-reverse a) ∙ same_lower (reverse a) (reverse b) (length-reverse a ∙ e ∙ sym (length-reverse b)) h ∙ lower-reverse b) ∙ reverse-reverse (lower b))
+    (λ h. all-alike (reverse a) (reverse b) (lower-reverse a ∙ ap reverse h ∙ sym (lower-reverse b)))

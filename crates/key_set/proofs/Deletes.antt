@@ -3,13 +3,10 @@ use Rattle.std.specs.Prelude.{if◌then◌else◌}
 use mathlib.Core.Path.{◌≡◌, refl, sym, ap, subst, ◌∙◌}
 use mathlib.Core.List.{List, [], ◌∷◌, map}
 use mathlib.Core.Option.{Option, none, some}
-use mathlib.Core.Bool.{Bool, true, false, not, false≢true}
+use mathlib.Core.Bool.{Bool, true, false, false≢true}
 use Prim.Native.Nat.{ℕ, ◌+◌, ◌≤◌, ◌<◌}
 use native.Mathlib.Omega.{arith}
 use lib.ListN.{length, drop, get_or, length-map, drop_of_length-le}
-use types.Run.{OneOf}
-use denote.Enum.Declared.{tag_of}
-use borrow.Author.Tests.{not-true, not-false}
 use Rattle.basics.specs.Base.{Bytes, is_some}
 use Rattle.basics.specs.Map.{look}
 use Rattle.model.specs.Operation.{Op, write, delete, delete_all, create_collection, delete_collection, copy_collection}
@@ -22,15 +19,14 @@ use Rattle.laws.specs.OperationLaws.{ValidOp}
 use Rattle.spans.specs.Spans.{name_of, Sound}
 use Rattle.spans.specs.declared.NameRef.{NameRef}
 use Rattle.store.specs.Tables.{map_of}
-use Rattle.store.specs.Stores.{LentStore, store_of}
+use Rattle.store.specs.Stores.{store_of}
+use Rattle.store.specs.declared.Store.{Store}
 use Rattle.steps.specs.Steps.{FileName, Fits}
 use Rattle.steps.proofs.FileNames.{file-name}
-use Rattle.steps.proofs.Arms.{not-here}
 use Rattle.local_collection.specs.Keys.{Normalized}
 use Rattle.transaction.specs.Operations.{op_of, SoundOp}
 use Rattle.transaction.specs.declared.Operation.{Operation}
 use Rattle.transaction.specs.declared.Operation.TheVariants as code
-use Rattle.transaction.specs.contracts.Operation.{the_type}
 use Rattle.recovery.proofs.Entries.{op-at, read-rest}
 use Rattle.laws.specs.KeySetLaws.{deletable}
 use Rattle.key_set.specs.Deleting.{Deletes}
@@ -62,13 +58,13 @@ none_then (create_collection c) os s e = refl
 none_then (delete_collection c) os s e = refl
 none_then (copy_collection a b x) os s e = refl
 
-module _ {src : Bytes} {s : LentStore} where
+module _ {src : Bytes} {s : Store} where
   module _ {c k : NameRef} where
     -- What `ensure_normalized_on_disk` asks.
     pub may_rename : Fits src s → Sound src c × Sound src k → ValidOp (delete (name_of src c) (name_of src k)) → Fits src s × (Sound src c × FileName src k)
     may_rename f n v = (f, (n.0, file-name n.1 (valid-named (name_of src k) v.1)))
 
-    pub renamed : {t : LentStore} {b : Bool} → Normalized src c k s t → b ≡ is_some (look (name_of src c, name_of src k) (map_of src t.tree)) → Deletes src (delete (name_of src c) (name_of src k) ∷ []) s t b
+    pub renamed : {t : Store} {b : Bool} → Normalized src c k s t → b ≡ is_some (look (name_of src c, name_of src k) (map_of src t.tree)) → Deletes src (delete (name_of src c) (name_of src k) ∷ []) s t b
     unfolding deletable
     renamed {t} {b} n e = record {
       fits = n.fits;
@@ -84,16 +80,16 @@ module _ {src : Bytes} {s : LentStore} where
       pub asks-rename : Fits src s × (Sound src c × FileName src k)
       asks-rename = may_rename p.0 (subst (SoundOp src) e p.1.0) (subst (λ (o : Operation). ValidOp (op_of src o)) e p.1.1)
 
-      pub is-renamed : {t : LentStore} {b : Bool} → Normalized src c k s t → b ≡ is_some (look (name_of src c, name_of src k) (map_of src t.tree)) → Deletes src (op_of src op ∷ []) s t b
+      pub is-renamed : {t : Store} {b : Bool} → Normalized src c k s t → b ≡ is_some (look (name_of src c, name_of src k) (map_of src t.tree)) → Deletes src (op_of src op ∷ []) s t b
       is-renamed {t} {b} n q = subst (λ (o : Operation). Deletes src (op_of src o ∷ []) s t b) (sym e) (renamed n q)
 
   module _ (op : Operation) (p : Fits src s × (SoundOp src op × ValidOp (op_of src op))) where
-    pub no-delete : OneOf (0 ∷ 2 ∷ 3 ∷ 4 ∷ 5 ∷ 6 ∷ []) (tag_of the_type op) → Deletes src (op_of src op ∷ []) s s false
+    pub no-delete : ((c k : NameRef) → op ≡ code.Delete c k → ⊥) → Deletes src (op_of src op ∷ []) s s false
     no-delete h = record { fits = p.0; done = λ e. absurd (false≢true e); missing = λ e. other op h }
       where
-        other : (o : Operation) → OneOf (0 ∷ 2 ∷ 3 ∷ 4 ∷ 5 ∷ 6 ∷ []) (tag_of the_type o) → deletable (op_of src o ∷ []) (store_of src s) ≡ none
+        other : (o : Operation) → ((c k : NameRef) → o ≡ code.Delete c k → ⊥) → deletable (op_of src o ∷ []) (store_of src s) ≡ none
         other (code.Write c k f) h = unfold deletable in refl
-        other (code.Delete c k) h = not-here (0 ∷ 2 ∷ 3 ∷ 4 ∷ 5 ∷ 6 ∷ []) 1 refl h
+        other (code.Delete c k) h = absurd (h c k refl)
         other (code.DeleteAll c) h = unfold deletable in refl
         other (code.CreateCollection c) h = unfold deletable in refl
         other (code.DeleteCollection c) h = unfold deletable in refl
@@ -101,17 +97,17 @@ module _ {src : Bytes} {s : LentStore} where
         other (code.MarkedWrite c k f x) h = unfold deletable in refl
 
 -- `delete_each`: the operations from i on are left.
-pub record Deleting (src : Bytes) (ops : List Operation) (from : ℕ) (start now : LentStore) (i : ℕ) : Type 0 where
+pub record Deleting (src : Bytes) (ops : List Operation) (start now : Store) (i : ℕ) : Type 0 where
   pub held : All (SoundOp src) ops
   pub valid : All ValidOp (map (op_of src) ops)
   pub fits : Fits src now
-  pub same : deletable (drop from (map (op_of src) ops)) (store_of src start) ≡ deletable (drop i (map (op_of src) ops)) (store_of src now)
+  pub same : deletable (map (op_of src) ops) (store_of src start) ≡ deletable (drop i (map (op_of src) ops)) (store_of src now)
 
-pub deleting : {src : Bytes} {ops : List Operation} {from : ℕ} {s : LentStore} → All (SoundOp src) ops → All ValidOp (map (op_of src) ops) → Fits src s → Deleting src ops from s s from
+pub deleting : {src : Bytes} {ops : List Operation} {s : Store} → All (SoundOp src) ops → All ValidOp (map (op_of src) ops) → Fits src s → Deleting src ops s s 0
 deleting r v f = record { held = r; valid = v; fits = f; same = refl }
 
-module _ {src : Bytes} {ops : List Operation} {from : ℕ} {start now : LentStore} {i : ℕ} (g : Deleting src ops from start now i) where
-  pub all-deleted : length ops ≤ i → Deletes src (drop from (map (op_of src) ops)) start now true
+module _ {src : Bytes} {ops : List Operation} {start now : Store} {i : ℕ} (g : Deleting src ops start now i) where
+  pub all-deleted : length ops ≤ i → Deletes src (map (op_of src) ops) start now true
   unfolding deletable
   all-deleted h = record {
     fits = g.fits;
@@ -126,23 +122,21 @@ module _ {src : Bytes} {ops : List Operation} {from : ℕ} {start now : LentStor
     pub may_delete : Fits src now × (SoundOp src op × ValidOp (op_of src op))
     may_delete = (g.fits, (op-at src ops i d h g.held, (subst (All ValidOp) (read-rest src ops i d h) (all_drop ValidOp i (map (op_of src) ops) g.valid)).0))
 
-    left : {q : Option model.Store} → deletable (op_of src op ∷ drop (i + 1) (map (op_of src) ops)) (store_of src now) ≡ q → deletable (drop from (map (op_of src) ops)) (store_of src start) ≡ q
+    left : {q : Option model.Store} → deletable (op_of src op ∷ drop (i + 1) (map (op_of src) ops)) (store_of src now) ≡ q → deletable (map (op_of src) ops) (store_of src start) ≡ q
     left e = g.same ∙ ap (λ (l : List Op). deletable l (store_of src now)) (read-rest src ops i d h) ∙ e
 
-    module _ {next : LentStore} {b : Bool} (x : Deletes src (op_of src op ∷ []) now next b) where
-      pub one-missing : not b ≡ true → Deletes src (drop from (map (op_of src) ops)) start next b
-      one-missing e =
-          let f = not-true b e in
-          record {
-            fits = x.fits;
-            done = λ t. absurd (false≢true (sym f ∙ t));
-            missing = λ z. left (none_then (op_of src op) (drop (i + 1) (map (op_of src) ops)) (store_of src now) (x.missing z));
-          }
+    module _ {next : Store} {b : Bool} (x : Deletes src (op_of src op ∷ []) now next b) where
+      pub one-missing : b ≡ false → Deletes src (map (op_of src) ops) start next false
+      one-missing e = record {
+        fits = x.fits;
+        done = λ t. absurd (false≢true t);
+        missing = λ z. left (none_then (op_of src op) (drop (i + 1) (map (op_of src) ops)) (store_of src now) (x.missing e));
+      }
 
-      pub one-deleted : not b ≡ false → Deleting src ops from start next (i + 1)
+      pub one-deleted : b ≡ true → Deleting src ops start next (i + 1)
       one-deleted e = record {
         held = g.held;
         valid = g.valid;
         fits = x.fits;
-        same = left (one_then (op_of src op) (drop (i + 1) (map (op_of src) ops)) (store_of src now) (store_of src next) (x.done (not-false b e)));
+        same = left (one_then (op_of src op) (drop (i + 1) (map (op_of src) ops)) (store_of src now) (store_of src next) (x.done e));
       }

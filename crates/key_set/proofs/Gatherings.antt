@@ -1,4 +1,5 @@
 -- `gather`: the fields before `next` have been met.
+use Rattle.std.specs.Prelude.{Option, None, Some, IfSome, option_map}
 use mathlib.Core.Path.{◌≡◌, refl, sym, ap, subst, ◌∙◌}
 use mathlib.Core.List.{List}
 use mathlib.Core.Option.{none}
@@ -15,7 +16,7 @@ use Rattle.field.specs.declared.Item.{Item}
 use Rattle.lend.specs.declared.Named.{Named}
 use Rattle.model.specs.Record.{key_set}
 use Rattle.laws.specs.KeySetLaws.{set_last, set-length}
-use Rattle.key_set.specs.Gathering.{set_in, lowered_in, Few, AreFields, Roomy, Lendable, Gathers, more}
+use Rattle.key_set.specs.Gathering.{set_in, lowered_in, Few, AreFields, Roomy, Lendable, Entries, Gathers, more}
 use Rattle.key_set.specs.declared.Gathered.{Gathered}
 use Rattle.key_set.proofs.Walks.{Passed, values_of, none_passed, are_fields, lowered-values, all-passed, never-broken, few-passed, passed-one, passed-values}
 use Rattle.key_set.proofs.Gathers.{nothing_yet}
@@ -33,7 +34,7 @@ pub record Gathering (keys names₀ : Bytes) (c : Named) (at : ℕ) (first names
   pub same : (collection : Name) → Roomy names₀ c collection → Roomy names c collection × Gathers collection at first (set_of passed) out g
 
 pub gathering : {keys names out : Bytes} {c : Named} {at : ℕ} → Few keys → Lendable names c → at + 4672 ≤ length out → length out ≤ 0xFFFF →
-    Gathering keys names c at out names out 0 (record { count = 0; end = at; valid = c.valid })
+    Gathering keys names c at out names out 0 (record { count = 0; end = option_map (λ r. at) c.name })
 unfolding key_set first_namings none_passed
 gathering {keys} f l r s = record { passed = none_passed keys; few = f; lendable = l; room = r; short = s; size = refl; same = λ collection w. (w, nothing_yet w) }
 
@@ -54,12 +55,16 @@ module _ {keys names₀ : Bytes} {c : Named} {at : ℕ} {first names out : Bytes
     few-keys : length w.passed.fields ≤ 31
     few-keys = few-passed w.passed w.few i
 
-    pub may_add : Lendable names c × (AreFields (take next keys) × ((g.count ≤ 31) × (g.end ≤ 0xFFFF)))
+    pub may_add : Lendable names c × (AreFields (take next keys) × ((g.count ≤ 31) × IfSome g.end (λ e. e ≤ 0xFFFF)))
     may_add =
         let s = w.same w.lendable.collection w.lendable.roomy in (
           record { collection = w.lendable.collection; roomy = s.0 },
-          (are_fields w.passed, (omega (arith, s.1.count, set-few, few-keys), omega (arith, s.1.ends, set-few, few-keys, w.room, w.short))),
+          (are_fields w.passed, (omega (arith, s.1.count, set-few, few-keys), low g.end s.1.entries)),
         )
+      where
+        low : (o : Option ℕ) → Entries w.lendable.collection at first (set_of w.passed) out o → IfSome o (λ e. e ≤ 0xFFFF)
+        low None v = tt
+        low (Some e) v = omega (arith, v.small, set-few, few-keys, w.room, w.short)
 
     -- What `add_key` ensures of the next field.
     pub added : {names' out' : Bytes} {r : Gathered} → length names' ≡ length names →

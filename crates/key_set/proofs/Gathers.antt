@@ -1,11 +1,11 @@
 -- The set of the keys met, one key more a turn.
-use Rattle.std.specs.Prelude.{if◌then◌else◌}
+use Rattle.std.specs.Prelude.{if◌then◌else◌, Option, None, Some, option_map}
 use mathlib.Core.Path.{◌≡◌, refl, sym, ap, subst, ◌∙◌}
 use mathlib.Core.Bool.{Bool, true, false, ◌&&◌, false≢true}
 use mathlib.Core.List.{List, [], ◌∷◌, ◌++◌, append-nil, append_assoc}
 use Prim.Native.Nat.{ℕ, ◌+◌, ◌≤◌}
 use native.Mathlib.Omega.{arith}
-use lib.ListN.{length, length-append}
+use lib.ListN.{length, take, length-append}
 use Rattle.basics.specs.Order.{Name}
 use Rattle.basics.specs.Base.{Bytes, is_in, all_of, flat_map}
 use Rattle.basics.specs.Name.{valid_name}
@@ -13,9 +13,11 @@ use Rattle.model.specs.Operation.{delete, encode_payload}
 use Rattle.model.specs.Log.{entry}
 use Rattle.field.specs.Writing.{written}
 use Rattle.field.proofs.Written.{written-nil, written_then}
+use Rattle.spans.specs.Spans.{Given}
+use Rattle.spans.specs.declared.NameRef.{NameRef}
 use Rattle.lend.specs.declared.Named.{Named}
 use Rattle.laws.specs.KeySetLaws.{delete_entries}
-use Rattle.key_set.specs.Gathering.{Roomy, PutsEntry, Gathers, more}
+use Rattle.key_set.specs.Gathering.{Roomy, Entry, PutsEntry, EntriesTo, Entries, Gathers, more}
 use Rattle.key_set.specs.declared.Gathered.{Gathered}
 
 entries-last : (c : Name) (ks : List Name) (k : Name) → delete_entries c (ks ++ k ∷ []) ≡ delete_entries c ks ++ entry (encode_payload (delete c k))
@@ -37,21 +39,13 @@ all-last (a ∷ ks) k = ap (λ (t : Bool). valid_name a && t) (all-last ks k) �
     joined true y z = refl
     joined false y z = refl
 
-pub nothing_yet : {names out : Bytes} {c : Named} {collection : Name} {at : ℕ} → Roomy names c collection → Gathers collection at out [] out (record { count = 0; end = at; valid = c.valid })
+pub nothing_yet : {names out : Bytes} {c : Named} {collection : Name} {at : ℕ} → Roomy names c collection → Gathers collection at out [] out (record { count = 0; end = option_map (λ r. at) c.name })
 unfolding delete_entries
-nothing_yet {out = out} {c} {collection} {at} w = record {
-  size = refl;
-  count = refl;
-  starts = omega arith;
-  ends = omega arith;
-  valid = w.below.valid ∙ plain (valid_name collection);
-  end = λ h. omega arith;
-  bytes = λ h. sym (written-nil at out);
-}
+nothing_yet {names} {out} {c} {collection} {at} w = record { size = refl; count = refl; entries = go c.name w.below }
   where
-    plain : (t : Bool) → t ≡ (t && true)
-    plain true = refl
-    plain false = refl
+    go : (o : Option NameRef) → Given (take c.end names) o collection → Entries collection at out [] out (option_map (λ r. at) o)
+    go None v = rw v
+    go (Some r) v = record { valid = rw v.0; small = omega arith; ends = omega arith; bytes = sym (written-nil at out) }
 
 module _ {c : Name} {start : ℕ} {first : Bytes} {set : List Name} {out : Bytes} {g : Gathered} (w : Gathers c start first set out g) (k : Name) (met : List Name) where
   pub again : true ≡ is_in k met → Gathers c start first (more k met set) out g
@@ -63,40 +57,48 @@ module _ {c : Name} {start : ℕ} {first : Bytes} {set : List Name} {out : Bytes
   longer : length (set ++ k ∷ []) ≡ length set + 1
   longer = length-append set (k ∷ [])
 
-  pub with_invalid : {out' : Bytes} {n : ℕ} → false ≡ is_in k met → PutsEntry c k g.end out out' n → n ≡ 0 → Gathers c start first (more k met set) out' (record { count = g.count + 1; end = g.end; valid = false })
-  with_invalid h p z = new h record {
-    size = p.size ∙ w.size;
+  all-valid : (valid_name c && all_of valid_name (set ++ k ∷ [])) ≡ (valid_name c && (all_of valid_name set && valid_name k))
+  all-valid = ap (λ (t : Bool). valid_name c && t) (all-last set k)
+
+  pub still-none : false ≡ is_in k met → g.end ≡ None → Gathers c start first (more k met set) out (record { count = g.count + 1; end = None })
+  still-none h e = new h record {
+    size = w.size;
     count = omega (arith, longer, w.count);
-    starts = w.starts;
-    ends = omega (arith, longer, w.ends);
-    valid = sym (ap (λ (t : Bool). valid_name c && t) (all-last set k) ∙ either (valid_name c) (all_of valid_name set) (valid_name k) (p.refused z));
-    end = λ e. absurd (false≢true e);
-    bytes = λ e. absurd (false≢true e);
+    entries = all-valid ∙ either (valid_name c) (all_of valid_name set) (valid_name k) (subst (Entries c start first set out) e w.entries);
   }
     where
-      either : (x y z : Bool) → (x && z) ≡ false → (x && (y && z)) ≡ false
+      either : (x y z : Bool) → (x && y) ≡ false → (x && (y && z)) ≡ false
       either false y z e = refl
       either true false z e = refl
-      either true true z e = e
+      either true true z e = absurd (false≢true (sym e))
 
-  pub with_valid : {out' : Bytes} {n : ℕ} → false ≡ is_in k met → start + 4672 ≤ length first → length set ≤ 31 → PutsEntry c k g.end out out' n → (n ≡ 0 → ⊥) →
-      Gathers c start first (more k met set) out' (record { count = g.count + 1; end = g.end + n; valid = g.valid })
-  with_valid {out'} {n} h room few p z = new h record {
-    size = p.size ∙ w.size;
-    count = omega (arith, longer, w.count);
-    starts = omega (arith, w.starts);
-    ends = omega (arith, longer, w.ends, p.small);
-    valid = w.valid ∙ sym (ap (λ (t : Bool). valid_name c && t) (all-last set k) ∙ rw (p.valid z).1 (plain (all_of valid_name set)));
-    end = λ e. ended e;
-    bytes = λ e. written_then start g.end (delete_entries c set) one first (w.bytes e) (p.puts z).same (w.end e) (omega (arith, (p.puts z).size, p.small, w.ends)) ∙ ap (λ (b : Bytes). written start b first) (sym (entries-last c set k));
-  }
+  pub one_more : {at : ℕ} {out' : Bytes} (r : Option ℕ) → false ≡ is_in k met → g.end ≡ Some at → start + 4672 ≤ length first → length set ≤ 31 → PutsEntry c k at out out' r →
+      Gathers c start first (more k met set) out' (record { count = g.count + 1; end = r })
+  one_more {at} {out'} r h e room few p = new h record { size = p.size ∙ w.size; count = omega (arith, longer, w.count); entries = go r p.entry }
     where
+      so_far : EntriesTo c start first set out at
+      so_far = subst (Entries c start first set out) e w.entries
+
       one : Bytes
       one = entry (encode_payload (delete c k))
 
-      plain : (t : Bool) → (valid_name c && (t && true)) ≡ (valid_name c && t)
-      plain true = refl
-      plain false = refl
+      neither : (x y z : Bool) → (x && z) ≡ false → (x && (y && z)) ≡ false
+      neither false y z e = refl
+      neither true false z e = refl
+      neither true true z e = e
 
-      ended : g.valid ≡ true → g.end + n ≡ start + length (delete_entries c (set ++ k ∷ []))
-      ended e = omega (arith, w.end e, (p.puts z).size, ap length (entries-last c set k), length-append (delete_entries c set) one)
+      both : (x y z : Bool) → (x && y) ≡ true → (x && z) ≡ true → (x && (y && z)) ≡ true
+      both false y z e f = e
+      both true false z e f = e
+      both true true z e f = f
+
+      go : (r : Option ℕ) → Entry c k at out out' r → Entries c start first (set ++ k ∷ []) out' r
+      go None v = all-valid ∙ neither (valid_name c) (all_of valid_name set) (valid_name k) v
+      go (Some end) v = record {
+        valid = all-valid ∙ both (valid_name c) (all_of valid_name set) (valid_name k) so_far.valid v.valid;
+        small = omega (arith, longer, so_far.small, v.small, v.ends);
+        ends = omega (arith, so_far.ends, v.ends, ap length (entries-last c set k), length-append (delete_entries c set) one);
+        bytes =
+            written_then start at (delete_entries c set) one first so_far.bytes v.bytes so_far.ends (omega (arith, v.small, so_far.small))
+            ∙ ap (λ (b : Bytes). written start b first) (sym (entries-last c set k));
+      }

@@ -1,5 +1,6 @@
 -- The keys, field by field.
-use Rattle.std.specs.Prelude.{if◌then◌else◌}
+use Rattle.std.specs.Prelude.{if◌then◌else◌, None, Some}
+use Rattle.std.specs.Prelude as std
 use mathlib.Core.Path.{◌≡◌, refl, sym, ap, ◌∙◌}
 use mathlib.Core.List.{List, [], ◌∷◌, ◌++◌, map, append-nil, append_assoc}
 use mathlib.Core.Option.{Option, none, some}
@@ -88,8 +89,8 @@ unfolding key_fields decode_fields
 no_keys b h = rw h
 
 -- `count_keys`: n were counted, the rest stands from `at` on.
-abbrev counted : ℕ → Option (List Name) → ℕ
-counted n o = case_option o 0 (λ ks. n + length ks)
+abbrev counted : ℕ → Option (List Name) → std.Option ℕ
+counted n o = case_option o None (λ ks. Some (n + length ks))
 
 pub record Counting (keys : Bytes) (at n : ℕ) : Type 0 where
   pub within : at ≤ length keys
@@ -100,16 +101,16 @@ pub counting : (keys : Bytes) → Counting keys 0 0
 unfolding key_count
 counting keys = record { within = omega arith; fewer = omega arith; same = go (key_fields keys) }
   where
-    go : (o : Option (List Name)) → case_option o 0 length ≡ counted 0 o
+    go : (o : Option (List Name)) → case_option o None (λ ks. Some (length ks)) ≡ counted 0 o
     go none = refl
-    go (some ks) = omega arith
+    go (some ks) = ap (λ (k : ℕ). Some k) (let e : length ks ≡ 0 + length ks = omega arith in e)
 
 module _ {keys : Bytes} {at n : ℕ} (w : Counting keys at n) where
-  pub not-keys : fields_from 0 (drop at keys) ≡ none → 0 ≡ key_count keys
+  pub not-keys : fields_from 0 (drop at keys) ≡ none → None ≡ key_count keys
   not-keys h = sym (w.same ∙ ap (counted n) (no_keys (drop at keys) h))
 
   module _ {x : Item} (i : Stands keys at x) where
-    pub not_key : (x.tag ≡ 3 → ⊥) → 0 ≡ key_count keys
+    pub not_key : (x.tag ≡ 3 → ⊥) → None ≡ key_count keys
     not_key h = sym (w.same ∙ ap (counted n) (no_key i h))
 
     pub counted-one : x.tag ≡ 3 → Counting keys x.end (n + 1)
@@ -121,11 +122,11 @@ module _ {keys : Bytes} {at n : ℕ} (w : Counting keys at n) where
       where
         go : (o : Option (List Name)) → counted n (case_option o none (λ ks. some (value i ∷ ks))) ≡ counted (n + 1) o
         go none = refl
-        go (some ks) = omega arith
+        go (some ks) = ap (λ (k : ℕ). Some k) (let e : n + suc (length ks) ≡ n + 1 + length ks = omega arith in e)
 
-  pub counted-all : length keys ≤ at → n ≡ key_count keys
+  pub counted-all : length keys ≤ at → Some n ≡ key_count keys
   unfolding key_fields decode_fields fields_from
-  counted-all h = sym (w.same ∙ ap (λ (b : Bytes). counted n (key_fields b)) (drop_of_length-le keys {i = at} h) ∙ omega arith)
+  counted-all h = sym (w.same ∙ ap (λ (b : Bytes). counted n (key_fields b)) (drop_of_length-le keys {i = at} h) ∙ ap (λ (k : ℕ). Some k) (let e : n + 0 ≡ n = omega arith in e))
 
 -- `is_repeated`: the fields from `at` on decide.
 pub record Seeking (before key : Bytes) (at : ℕ) : Type 0 where

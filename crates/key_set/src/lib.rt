@@ -2,7 +2,7 @@
 // of the image, and what is deleted is read off these.
 #![tactic(auto)]
 
-ghost use Rattle.std.specs.Prelude.{◌≡◌, List, [], ◌∷◌, map, true, ℕ, ◌+◌, ◌-◌, ◌≤◌, ◌<◌, length, drop};
+ghost use Rattle.std.specs.Prelude.{◌≡◌, List, [], ◌∷◌, map, ℕ, None, Some, IfSome, ◌+◌, ◌-◌, ◌≤◌, length};
 ghost use Rattle.basics.specs.Order.{Name};
 ghost use Rattle.basics.specs.Base.{Bytes, same_bytes, is_in};
 ghost use Rattle.basics.specs.Name.{lower};
@@ -10,18 +10,21 @@ ghost use Rattle.model.specs.Store as model;
 ghost use Rattle.model.specs.Operation.{Op};
 ghost use Rattle.answers.specs.Answers.{outcome};
 ghost use Rattle.laws.specs.OperationLaws.{ValidOp};
-ghost use Rattle.store.specs.Stores.{store_in, store_of, SoundLog};
+ghost use Rattle.store.specs.Stores.{store_of, SoundLog};
 ghost use Rattle.steps.specs.Steps.{Fits};
 ghost use Rattle.transaction.specs.Operations.{op_of, SoundOp};
 ghost use Rattle.basic_laws.specs.Tests.{All};
-ghost use Rattle.handover.specs.Contract.{lent, before, after, room, Returns};
+ghost use Rattle.handover.specs.Contract.{lent, room};
+ghost use Rattle.handover.specs.Handing.{Hands};
 ghost use Rattle.model.specs.Record.{record_delete_keys};
 ghost use Rattle.answers.specs.Answers.{delete_keys};
 ghost use Rattle.key_set.specs.Deleting.{Deletes, Fills, Ready};
 ghost use Rattle.key_set.specs.Gathering.{key_count, set_in, lowered_in, Few, AreFields, Roomy, Lendable, PutsEntry, Gathers, more};
 
+use field::Fields;
 use lend::Named;
-use store::{LogRef, Nodes, Store};
+use refusals::Refusal;
+use store::{LogRef, Store};
 use transaction::Operation;
 use wal::Tail;
 
@@ -31,56 +34,39 @@ const KEY_TAG: u8 = 3;
 // Room for an image, for its log once more, and for the entries of 32 deletes, each of at most 8 + 4 + 67 + 67 bytes.
 const SOURCE_ROOM: usize = basics::IMAGE_ROOM + basics::LOG_LIMIT + 4_672;
 
-// The keys of a set that were met: how many, where the entries of their deletes end, and whether all names are valid.
-#[derive(Clone, Copy)]
+// The keys of a set that were met: how many, and where the entries of their deletes end, if all names are valid.
+#[derive(Clone, Copy, Debug, PartialEq, Eq)]
 pub struct Gathered {
     pub count: usize,
-    pub end: usize,
-    pub valid: bool,
-}
-
-// Whether every key stands, and the store with their case renames made.
-#[derive(Clone, Copy)]
-pub struct Deleted {
-    pub all: bool,
-    pub store: Store,
+    pub end: Option<usize>,
 }
 
 // Whether two keys are the same in lower case. Names that are much alike differ at their ends, so this goes from behind.
 fn same_key(a: &[u8], b: &[u8]) -> bool
     ensures { result ≡ same_bytes (lower a.now) (lower b.now) }
 {
-    let n = a.len();
-    if n != b.len() {
-        return false;
-    }
-    let mut i: usize = n;
-    while 0 < i {
-        if a[i - 1].to_ascii_lowercase() != b[i - 1].to_ascii_lowercase() {
-            return false;
-        }
-        i -= 1;
-    }
-    true
+    a.len() == b.len()
+        && a.iter()
+            .rev()
+            .zip(b.iter().rev())
+            .all(|(x, y)| x.eq_ignore_ascii_case(y))
 }
 
-// How many keys are given, repeats counted; 0 where the bytes are no key fields.
-fn count_keys(keys: &[u8]) -> usize
+// How many keys are given, repeats counted, if the bytes are key fields.
+fn count_keys(keys: &[u8]) -> Option<usize>
     ensures { result ≡ key_count keys.now }
 {
-    let mut at: usize = 0;
     let mut n: usize = 0;
-    while at < keys.len() {
-        let Ok(x) = field::read_field(keys, at) else {
-            return 0;
+    for x in Fields::of(keys) {
+        let Ok(x) = x else {
+            return None;
         };
         if x.tag != KEY_TAG {
-            return 0;
+            return None;
         }
-        at = x.end;
         n += 1;
     }
-    n
+    Some(n)
 }
 
 // Whether a key is among the fields before it.
@@ -88,36 +74,26 @@ fn is_repeated(before: &[u8], key: &[u8]) -> bool
     requires { AreFields before.now }
     ensures { result ≡ is_in (lower key.now) (lowered_in before.now) }
 {
-    let mut at: usize = 0;
-    while at < before.len() {
-        let Ok(x) = field::read_field(before, at) else {
+    for x in Fields::of(before) {
+        let Ok(x) = x else {
             return false;
         };
-        let from = x.start;
-        let end = x.end;
-        if same_key(key, &before[from..end]) {
+        if same_key(key, &before[x.start..x.end]) {
             return true;
         }
-        at = end;
     }
     false
 }
 
-// The entry of a key's delete written at `at`, and how long it is; 0 where a name is not valid. The key is lent behind the collection.
-fn put_entry(names: &mut [u8], c: Named, key: &[u8], out: &mut [u8], at: usize) -> usize
-    requires { Lendable names.old c }
+// The entry of a key's delete written at `at`, and the place behind it, if both names are valid. The key is lent behind the collection.
+fn put_entry(names: &mut [u8], c: Named, key: &[u8], out: &mut [u8], at: usize) -> Option<usize>
+    requires { Lendable names.old c × (at ≤ 0xFFFF) }
     ensures { (collection : Name) → Roomy names.old c collection → Roomy names.new c collection × PutsEntry collection (lower key.now) at out.old out.new result }
 {
-    if !c.valid {
-        return 0;
-    }
+    let a = c.name?;
     let k = lend::lend_key(names, c.end, key);
-    if !k.valid {
-        return 0;
-    }
-    let a = c.name;
-    let b = k.name;
-    wal::append_operation(names, Operation::Delete(a, b), out, at)
+    let b = k.name?;
+    Some(at + wal::append_operation(names, Operation::Delete(a, b), out, at)?)
 }
 
 // A key with those before it: an entry more, unless it is repeated.
@@ -129,24 +105,19 @@ fn add_key(
     out: &mut [u8],
     g: Gathered,
 ) -> Gathered
-    requires { Lendable names.old c × (AreFields before.now × ((g.count ≤ 31) × (g.end ≤ 0xFFFF))) }
+    requires { Lendable names.old c × (AreFields before.now × ((g.count ≤ 31) × IfSome g.end (λ e. e ≤ 0xFFFF))) }
     ensures { (collection : Name) (start : ℕ) (first : Bytes) (set : List Name) → Roomy names.old c collection → start + 4672 ≤ length first → length set ≤ 31 → Gathers collection start first set out.old g → Roomy names.new c collection × Gathers collection start first (more (lower key.now) (lowered_in before.now) set) out.new result }
 {
     if is_repeated(before, key) {
         return g;
     }
-    let n = put_entry(names, c, key, out, g.end);
-    if n == 0 {
-        return Gathered {
-            count: g.count + 1,
-            end: g.end,
-            valid: false,
-        };
-    }
+    let count = g.count + 1;
+    let Some(at) = g.end else {
+        return Gathered { count, end: None };
+    };
     Gathered {
-        count: g.count + 1,
-        end: g.end + n,
-        valid: g.valid,
+        count,
+        end: put_entry(names, c, key, out, at),
     }
 }
 
@@ -157,70 +128,47 @@ fn gather(keys: &[u8], names: &mut [u8], c: Named, out: &mut [u8], at: usize) ->
 {
     let mut g = Gathered {
         count: 0,
-        end: at,
-        valid: c.valid,
+        end: c.name.map(|_| at),
     };
     let mut next: usize = 0;
-    while next < keys.len() {
-        let Ok(x) = field::read_field(keys, next) else {
+    for x in Fields::of(keys) {
+        let Ok(x) = x else {
             return g;
         };
-        let from = x.start;
-        let end = x.end;
-        g = add_key(names, c, &keys[..next], &keys[from..end], out, g);
-        next = end;
+        g = add_key(names, c, &keys[..next], &keys[x.start..x.end], out, g);
+        next = x.end;
     }
     g
 }
 
 // The case rename of one delete's key, and whether the key stands then.
-fn delete_one(src: &[u8], tree: &mut Nodes, staging: &mut Nodes, s: Store, op: Operation) -> Deleted
-    requires { Fits src.now (store_in tree.old staging.old s) × (SoundOp src.now op × ValidOp (op_of src.now op)) }
-    ensures { Deletes src.now (op_of src.now op ∷ []) (store_in tree.old staging.old s) (store_in tree.new staging.new result.store) result.all }
+fn delete_one(src: &[u8], store: &mut Store, op: Operation) -> bool
+    requires { Fits src.now store.old × (SoundOp src.now op × ValidOp (op_of src.now op)) }
+    ensures { Deletes src.now (op_of src.now op ∷ []) store.old store.new result }
 {
     let Operation::Delete(c, k) = op else {
-        return Deleted {
-            all: false,
-            store: s,
-        };
+        return false;
     };
-    let t = local_collection::ensure_normalized_on_disk(src, tree, staging, s, c, k);
-    let stands = store::exists(src, tree, t.tree, c, k);
-    Deleted {
-        all: stands,
-        store: t,
-    }
+    local_collection::ensure_normalized_on_disk(src, store, c, k);
+    store.tree.exists(src, c, k)
 }
 
-// The same for the operations from `from` on, up to the first whose key is missing.
-fn delete_each(
-    src: &[u8],
-    tree: &mut Nodes,
-    staging: &mut Nodes,
-    s: Store,
-    ops: &[Operation],
-    from: usize,
-) -> Deleted
-    requires { Fits src.now (store_in tree.old staging.old s) × (All (SoundOp src.now) ops.now × All ValidOp (map (op_of src.now) ops.now)) }
-    ensures { Deletes src.now (drop from (map (op_of src.now) ops.now)) (store_in tree.old staging.old s) (store_in tree.new staging.new result.store) result.all }
+// The same for operations in their order, up to the first whose key is missing.
+fn delete_each(src: &[u8], store: &mut Store, ops: &[Operation]) -> bool
+    requires { Fits src.now store.old × (All (SoundOp src.now) ops.now × All ValidOp (map (op_of src.now) ops.now)) }
+    ensures { Deletes src.now (map (op_of src.now) ops.now) store.old store.new result }
 {
-    let mut work = s;
-    for i in from..ops.len() {
-        let d = delete_one(src, tree, staging, work, ops[i]);
-        if !d.all {
-            return d;
+    for op in ops {
+        if !delete_one(src, store, *op) {
+            return false;
         }
-        work = d.store;
     }
-    Deleted {
-        all: true,
-        store: work,
-    }
+    true
 }
 
 // The image, its log once more behind it, and the entries of the keys' deletes behind that.
 fn fill(src: &mut [u8], image: &[u8], l: LogRef, collection: &[u8], keys: &[u8]) -> Gathered
-    requires { (Few keys.now × SoundLog image.now l) × ((length image.now + l.len + 4672 ≤ length src.old) × (length src.old ≤ 0xFFFF)) }
+    requires { (Few keys.now × SoundLog image.now (Some l)) × ((length image.now + l.len + 4672 ≤ length src.old) × (length src.old ≤ 0xFFFF)) }
     ensures { Fills image.now l collection.now keys.now src.old src.new result }
 {
     let start = usize::from(l.start);
@@ -235,55 +183,46 @@ fn fill(src: &mut [u8], image: &[u8], l: LogRef, collection: &[u8], keys: &[u8])
 }
 
 // A store with its log between two places of the bytes.
-fn with_log(s: Store, start: usize, end: usize) -> Store
+fn with_log(store: Store, start: usize, end: usize) -> Store
     requires { (start ≤ end) × (end ≤ 0xFFFF) }
-    ensures { result ≡ record { tree = s.tree; staging = s.staging; log = record { start = start; len = end - start; stands = true; status = 0 }; open_mark = s.open_mark } }
+    ensures { result ≡ record { tree = store.tree; staging = store.staging; log = Some (record { start = start; len = end - start; rewritten = None }); open_mark = store.open_mark } }
 {
-    let l = LogRef {
+    let log = Some(LogRef {
         start: start as u16,
         len: (end - start) as u16,
-        stands: true,
-        status: 0,
-    };
-    let mut r = s;
-    r.log = l;
-    r
+        rewritten: None,
+    });
+    Store { log, ..store }
 }
 
 // The entry once its image is read and a transaction of n operations is found: 5, 6, 8.
 fn delete_in(
     src: &mut [u8],
     image: &[u8],
-    tree: &mut Nodes,
-    staging: &mut Nodes,
-    s: Store,
+    store: Store,
+    log: LogRef,
     n: usize,
     collection: &[u8],
     keys: &[u8],
     out: &mut [u8],
-    written: &mut usize,
-) -> u32
-    requires { Ready image.now keys.now (store_in tree.old staging.old s) n src.old (length out.old) }
-    ensures { Returns (outcome (record_delete_keys (lent collection) (lent keys) (store_of (lent image) (store_in (before tree) (before staging) s)))) result out written }
+) -> Result<usize, Refusal>
+    requires { Ready image.now keys.now store log n src.old (length out.old) }
+    ensures { Hands (outcome (record_delete_keys (lent collection) (lent keys) (store_of (lent image) store))) result out }
 {
-    let l = s.log;
-    let g = fill(src, image, l, collection, keys);
+    let g = fill(src, image, log, collection, keys);
     if basics::OPERATION_LIMIT < n + g.count {
-        return 5;
+        return Err(Refusal::TooManyOperations);
     }
-    if !g.valid {
-        return 6;
-    }
+    let Some(end) = g.end else {
+        return Err(Refusal::InvalidName);
+    };
     let at = image.len();
-    let t = with_log(s, at, g.end);
-    let w = wal::read_wal(src, at, g.end);
-    let d = delete_each(src, tree, staging, t, &w.ops, n);
-    if !d.all {
-        return 8;
+    let mut moved = with_log(store, at, end);
+    let read = wal::read_wal(src, at, end);
+    if !delete_each(src, &mut moved, &read.ops[n..]) {
+        return Err(Refusal::KeyNotFound);
     }
-    let u = d.store;
-    handover::hand_image(src, tree, staging, u, Tail::Nothing, 0, out, written);
-    0
+    Ok(handover::hand_image(src, &moved, Tail::Nothing, 0, out))
 }
 
 // `cda_storage_delete_keys`: 1, 2, 4; 6 where the keys are no such fields, none, or over 32; then 5, 6, 8.
@@ -292,45 +231,18 @@ pub fn delete_keys(
     collection: &[u8],
     keys: &[u8],
     out: &mut [u8],
-    written: &mut usize,
-) -> u32
-    ensures { Returns (delete_keys (lent collection) (lent keys) (lent image) (room out)) result out written }
+) -> Result<usize, Refusal>
+    ensures { Hands (delete_keys (lent collection) (lent keys) (lent image) (room out)) result out }
 {
-    let mut tree = [[0u32; 3]; store::ROOM];
-    let mut staging = [[0u32; 3]; store::ROOM];
-    let o = handover::open_image(
-        image,
-        &mut tree,
-        &mut staging,
-        basics::IMAGE_ROOM <= out.len(),
-    );
-    if o.number != 0 {
-        return o.number;
-    }
-    let s = o.store;
-    let t = local_storage::open_transaction(image, s);
-    if !t.found {
-        return 4;
-    }
-    let k = count_keys(keys);
-    if k == 0 {
-        return 6;
-    }
-    if basics::OPERATION_LIMIT < k {
-        return 6;
-    }
-    let n = t.read.ops.len();
+    let opened = handover::open_image(image, basics::IMAGE_ROOM <= out.len())?;
+    let found = local_storage::open_transaction(image, &opened.store);
+    let (Some(log), Some(read)) = (opened.store.log, found) else {
+        return Err(Refusal::NoTransaction);
+    };
+    let Some(1..=basics::OPERATION_LIMIT) = count_keys(keys) else {
+        return Err(Refusal::InvalidName);
+    };
+    let n = read.ops.len();
     let mut src = [0u8; SOURCE_ROOM];
-    delete_in(
-        &mut src,
-        image,
-        &mut tree,
-        &mut staging,
-        s,
-        n,
-        collection,
-        keys,
-        out,
-        written,
-    )
+    delete_in(&mut src, image, opened.store, log, n, collection, keys, out)
 }

@@ -1,6 +1,6 @@
 -- The bytes that an entry lends to the store's methods: the image stands in front, the given names behind it.
 use mathlib.Core.Path.{◌≡◌, refl, sym, ap, subst, ◌∙◌}
-use mathlib.Core.Bool.{Bool, true}
+use Rattle.std.specs.Prelude.{Option, None, Some}
 use mathlib.Core.List.{◌++◌}
 use Prim.Native.Nat.{ℕ, ◌+◌, ◌≤◌}
 use native.Mathlib.Omega.{arith}
@@ -9,20 +9,20 @@ use lib.Seq.{take_at, take-take, take-length}
 use Rattle.basics.specs.Limits.{image_room, name_limit}
 use Rattle.basics.specs.Order.{Name}
 use Rattle.basics.specs.Base.{Bytes}
-use Rattle.basics.specs.Name.{valid_name}
 use Rattle.model.specs.Store as model
 use Rattle.basic_laws.specs.ValidNames.{Valid}
 use Rattle.laws.specs.StoreLaws.{Good}
 use Rattle.field.specs.Writing.{written}
 use Rattle.field.proofs.Written.{written-front, length-written}
-use Rattle.spans.specs.Spans.{Names}
+use Rattle.spans.specs.Spans.{Given}
 use Rattle.spans.specs.declared.NameRef.{NameRef}
 use Rattle.spans.proofs.Prefix.{prefix_sound, prefix_name}
-use Rattle.store.specs.Stores.{LentStore, store_of, SoundStore}
+use Rattle.store.specs.Stores.{store_of, SoundStore}
+use Rattle.store.specs.declared.Store.{Store}
 use Rattle.store.proofs.Prefix.{same_store, prefix_store}
 use Rattle.steps.specs.Steps.{Within}
 use Rattle.steps.proofs.Room.{of-good}
-use Rattle.local_storage.specs.Recording.{Ready, Given}
+use Rattle.local_storage.specs.Recording.{Ready}
 use Rattle.lend.specs.Lending.{Lends}
 use Rattle.lend.specs.declared.Named.{Named}
 use Rattle.handover.specs.Opening.{Held}
@@ -70,7 +70,7 @@ module _ {image : Bytes} where
         behind = let b = l.behind in let s = w.starts in omega arith;
       }
 
-  module _ {src : Bytes} (b : Begins image src) {s : LentStore} (h : Held image s) where
+  module _ {src : Bytes} (b : Begins image src) {s : Store} (h : Held image s) where
     joined : image ++ drop (length image) src ≡ src
     joined = ap (λ (p : Bytes). p ++ drop (length image) src) (sym b.front) ∙ take-append-drop (length image) src
 
@@ -92,25 +92,21 @@ pub lend_room : {image src : Bytes} {end : ℕ} → Lent image src end → end �
 lend_room l h = (let z = l.room in omega arith, l.begins.short)
 
 -- A tested name that stands before `end`, if it is valid.
-pub record Below (src : Bytes) (end : ℕ) (v : Bool) (r : NameRef) (n : Name) : Type 0 where
-  pub valid : v ≡ valid_name n
-  pub names : v ≡ true → Names (take end src) r n
+pub record Below (src : Bytes) (end : ℕ) (r : Option NameRef) (n : Name) : Type 0 where
+  pub given : Given (take end src) r n
 
 -- One that was lent; the same when another was lent behind it; it stands in all of the bytes.
-pub below : {src next : Bytes} {at : ℕ} {n : Name} {r : Named} → Lends at n src next r → Below next r.end r.valid r.name n
-below l = record { valid = l.valid; names = l.names }
+pub below : {src next : Bytes} {at : ℕ} {n : Name} {r : Named} → Lends at n src next r → Below next r.end r.name n
+below l = record { given = l.names }
 
-pub still : {src next : Bytes} {end at : ℕ} {v : Bool} {r : NameRef} {n m : Name} {q : Named} → Below src end v r n → end ≤ at → Lends at m src next q → Below next end v r n
-still {src} {next} {end} {at} {r = r} {n} w h l = record {
-  valid = w.valid;
-  names = λ t. subst (λ (p : Bytes). Names p r n) (sym (take-take end at src h) ∙ ap (take end) (sym l.front) ∙ take-take end at next h) (w.names t);
+pub still : {src next : Bytes} {end at : ℕ} {r : Option NameRef} {n m : Name} {q : Named} → Below src end r n → end ≤ at → Lends at m src next q → Below next end r n
+still {src} {next} {end} {at} {r} {n} w h l = record {
+  given = subst (λ (p : Bytes). Given p r n) (sym (take-take end at src h) ∙ ap (take end) (sym l.front) ∙ take-take end at next h) w.given;
 }
 
-pub stands : {src : Bytes} {end : ℕ} {v : Bool} {r : NameRef} {n : Name} → Below src end v r n → Given src v r n
-stands {src} {end} {r = r} {n} w = record {
-  valid = w.valid;
-  names = λ t. subst (λ (p : Bytes). Names p r n) (take-append-drop end src) (record {
-    sound = prefix_sound (drop end src) (w.names t).sound;
-    same = prefix_name (drop end src) (w.names t).sound ∙ (w.names t).same;
-  });
-}
+whole-given : (front back : Bytes) (r : Option NameRef) (n : Name) → Given front r n → Given (front ++ back) r n
+whole-given front back None n g = g
+whole-given front back (Some r) n g = (g.0, record { sound = prefix_sound back g.1.sound; same = prefix_name back g.1.sound ∙ g.1.same })
+
+pub stands : {src : Bytes} {end : ℕ} {r : Option NameRef} {n : Name} → Below src end r n → Given src r n
+stands {src} {end} {r} {n} w = subst (λ (p : Bytes). Given p r n) (take-append-drop end src) (whole-given (take end src) (drop end src) r n w.given)

@@ -6,12 +6,12 @@ use Rattle.basics.specs.Name.{lower}
 use Rattle.model.specs.Store as model
 use Rattle.model.specs.Record.{Outcome, begin_transaction, discard, record_write, record_delete, record_delete_all, record_create, record_delete_collection, record_copy}
 use Rattle.answers.specs.Answers.{Answer, begin, write, delete, delete_all, create_collection, delete_collection, copy_collection, rollback}
-use Rattle.store.specs.Words.{Words}
+use Rattle.spans.specs.Spans.{Given}
 use Rattle.store.specs.Tables.{map_of}
-use Rattle.store.specs.Stores.{LentStore, store_in, store_of}
+use Rattle.store.specs.Stores.{store_of}
 use Rattle.store.specs.declared.Store.{Store}
 use Rattle.steps.specs.Steps.{Within}
-use Rattle.local_storage.specs.Recording.{Ready, Answers, Given}
+use Rattle.local_storage.specs.Recording.{Ready, Answers}
 use Rattle.local_storage.specs.declared.Recorded.{Recorded}
 use Rattle.lend.specs.declared.Named.{Named}
 use Rattle.recording.specs.declared.Asked.{Asked}
@@ -62,14 +62,13 @@ leaves_tree CopyCollection = true
 leaves_tree Rollback = true
 
 -- What `answer` asks: a store that can be read, and the names, each tested; where it is valid, it stands in the bytes, a key in lower case.
-pub record Asks (src : Bytes) (s : LentStore) (a b d : Named) (c k f : Name) : Type 0 where
+pub record Asks (src : Bytes) (s : Store) (a b d : Named) (c k f : Name) : Type 0 where
   pub ready : Ready src s
   pub within : Within (map_of src s.tree)
-  pub collection : Given src a.valid a.name c
-  pub key : Given src b.valid b.name (lower k)
-  pub other : Given src d.valid d.name f
+  pub collection : Given src a.name c
+  pub key : Given src b.name (lower k)
+  pub other : Given src d.name f
 
--- What it answers, with the tables as they were lent and as they are handed back.
-abbrev pub Performs : Asked → Bytes → Store → Words → Words → Name → Name → Name → Words → Words → Recorded → Type 0
-Performs op src s tree staging c k f tree' staging' r =
-    Answers src (asked op c k f (store_of src (store_in tree staging s))) tree staging (record { store = s }) tree' staging' r
+-- What it answers.
+abbrev pub Performs : Asked → Bytes → Store → Name → Name → Name → Recorded → Type 0
+Performs op src s c k f r = Answers src (asked op c k f (store_of src s)) (record { store = s }) r

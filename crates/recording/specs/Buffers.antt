@@ -1,9 +1,8 @@
 -- The bytes into which the names of a recording entry point: the image stands in front, the given names behind it.
-use Rattle.std.specs.Prelude.{◌≡◌, ℕ, ◌+◌, ◌≤◌, length, leb}
+use Rattle.std.specs.Prelude.{ℕ, ◌+◌, ◌≤◌, length, leb}
 use Rattle.basics.specs.Base.{Bytes}
-use Rattle.store.specs.Words.{Words}
-use Rattle.handover.specs.Opening.{Opens}
-use Rattle.handover.specs.declared.Opened.{Opened}
+use Rattle.decode.specs.declared.Decoded.{Decoded}
+use Rattle.handover.specs.Opening.{Opened}
 
 -- A buffer with room for the image and three names, so short that spans can point everywhere in it.
 pub record Roomy (image src : Bytes) : Type 0 where
@@ -11,7 +10,6 @@ pub record Roomy (image src : Bytes) : Type 0 where
   pub short : length src ≤ 0xFFFF
 
 -- An image that is read, with an output of `least` bytes at the least, and such a buffer for it.
-pub record Buffered (image : Bytes) (least out : ℕ) (tree staging : Words) (o : Opened) (src : Bytes) : Type 0 where
-  pub opens : Opens image (leb least out) tree staging o
-  pub done : o.number ≡ 0
+pub record Buffered (image : Bytes) (least out : ℕ) (o : Decoded) (src : Bytes) : Type 0 where
+  pub opens : Opened image (leb least out) o
   pub roomy : Roomy image src

@@ -4,18 +4,19 @@
 
 ghost use Rattle.std.specs.Prelude.{◌≡◌, [], length, if◌then◌else◌};
 ghost use Rattle.basics.specs.Limits.{image_room};
-ghost use Rattle.store.specs.Stores.{store_in};
-ghost use Rattle.handover.specs.Contract.{lent, before, after, room, Returns};
+ghost use Rattle.handover.specs.Contract.{lent, room};
+ghost use Rattle.handover.specs.Handing.{Hands};
 ghost use Rattle.recording.specs.Asking.{entry_of, leaves_tree, Asks, Performs};
 ghost use Rattle.recording.specs.Buffers.{Buffered};
 
-use handover::Opened;
+use decode::Decoded;
 use lend::Named;
 use local_storage::{LocalStorage, Recorded};
-use store::{Nodes, Store};
+use refusals::Refusal;
+use store::Store;
 
 // What is asked for: an operation to record, or begin or rollback.
-#[derive(Clone, Copy)]
+#[derive(Clone, Copy, Debug, PartialEq, Eq)]
 pub enum Asked {
     Begin,
     Write(u32),
@@ -56,9 +57,7 @@ fn kept(op: Asked, end: usize) -> usize
 fn answer(
     op: Asked,
     src: &[u8],
-    tree: &mut Nodes,
-    staging: &mut Nodes,
-    s: Store,
+    store: Store,
     a: Named,
     b: Named,
     d: Named,
@@ -66,28 +65,18 @@ fn answer(
     key: &[u8],
     other: &[u8],
 ) -> Recorded
-    requires { Asks src.now (store_in tree.old staging.old s) a b d collection.now key.now other.now }
-    ensures { Performs op (lent src) s (before tree) (before staging) (lent collection) (lent key) (lent other) (after tree) (after staging) result }
+    requires { Asks src.now store a b d collection.now key.now other.now }
+    ensures { Performs op (lent src) store (lent collection) (lent key) (lent other) result }
 {
-    let storage = LocalStorage { store: s };
-    let keyed = decode::both(a.valid, b.valid);
+    let storage = LocalStorage { store };
     match op {
         Asked::Begin => storage.begin_transaction(src),
-        Asked::Write(x) => {
-            let valid = decode::both(keyed, d.valid);
-            storage.write(src, tree, staging, valid, a.name, b.name, d.name, x)
-        }
-        Asked::Delete => storage.delete(src, tree, staging, keyed, a.name, b.name),
-        Asked::DeleteAll => storage.delete_all(src, a.valid, a.name),
-        Asked::CreateCollection => {
-            storage.create_collection(src, tree, staging, a.valid, a.name)
-        }
-        Asked::DeleteCollection => {
-            storage.delete_collection(src, tree, staging, a.valid, a.name)
-        }
-        Asked::CopyCollection => {
-            storage.copy_collection(src, tree, staging, a.valid, a.name, d.valid, d.name)
-        }
+        Asked::Write(x) => storage.write(src, a.name, b.name, d.name, x),
+        Asked::Delete => storage.delete(src, a.name, b.name),
+        Asked::DeleteAll => storage.delete_all(src, a.name),
+        Asked::CreateCollection => storage.create_collection(src, a.name),
+        Asked::DeleteCollection => storage.delete_collection(src, a.name),
+        Asked::CopyCollection => storage.copy_collection(src, a.name, d.name),
         Asked::Rollback => storage.rollback(src),
     }
 }
@@ -97,25 +86,22 @@ fn ask_in(
     src: &mut [u8],
     op: Asked,
     image: &[u8],
-    tree: &mut Nodes,
-    staging: &mut Nodes,
-    o: Opened,
+    opened: Decoded,
     collection: &[u8],
     key: &[u8],
     other: &[u8],
     out: &mut [u8],
-    written: &mut usize,
-) -> u32
-    requires { Buffered image.now image_room (length out.old) tree.old staging.old o src.old }
-    ensures { Returns (entry_of op (lent collection) (lent key) (lent other) (lent image) (room out)) result out written }
+) -> Result<usize, Refusal>
+    requires { Buffered image.now image_room (length out.old) opened src.old }
+    ensures { Hands (entry_of op (lent collection) (lent key) (lent other) (lent image) (room out)) result out }
 {
     field::put_bytes(src, 0, image);
     let a = lend::lend_name(src, image.len(), collection);
     let b = lend::lend_key(src, a.end, key);
     let d = lend::lend_name(src, b.end, other);
-    let s = o.store;
-    let r = answer(op, src, tree, staging, s, a, b, d, collection, key, other);
-    handover::hand_on(src, tree, staging, r, kept(op, o.tree_end), out, written)
+    let front = kept(op, opened.tree_end);
+    let r = answer(op, src, opened.store, a, b, d, collection, key, other);
+    handover::hand_on(src, r, front, out)
 }
 
 // An entry with given names; one that the operation has not is an empty part.
@@ -126,91 +112,25 @@ pub fn ask(
     key: &[u8],
     other: &[u8],
     out: &mut [u8],
-    written: &mut usize,
-) -> u32
-    ensures { Returns (entry_of op (lent collection) (lent key) (lent other) (lent image) (room out)) result out written }
+) -> Result<usize, Refusal>
+    ensures { Hands (entry_of op (lent collection) (lent key) (lent other) (lent image) (room out)) result out }
 {
-    let mut tree = [[0u32; 3]; store::ROOM];
-    let mut staging = [[0u32; 3]; store::ROOM];
-    let o = handover::open_image(
-        image,
-        &mut tree,
-        &mut staging,
-        basics::IMAGE_ROOM <= out.len(),
-    );
-    if o.number != 0 {
-        return o.number;
-    }
+    let opened = handover::open_image(image, basics::IMAGE_ROOM <= out.len())?;
     if image.len() <= SMALL_IMAGE {
         let mut src = [0u8; SMALL_ROOM];
-        return ask_in(
-            &mut src,
-            op,
-            image,
-            &mut tree,
-            &mut staging,
-            o,
-            collection,
-            key,
-            other,
-            out,
-            written,
-        );
+        return ask_in(&mut src, op, image, opened, collection, key, other, out);
     }
     let mut src = [0u8; SOURCE_ROOM];
-    ask_in(
-        &mut src,
-        op,
-        image,
-        &mut tree,
-        &mut staging,
-        o,
-        collection,
-        key,
-        other,
-        out,
-        written,
-    )
+    ask_in(&mut src, op, image, opened, collection, key, other, out)
 }
 
 // An entry with no names: the image itself is lent.
-pub fn ask_unnamed(op: Asked, image: &[u8], out: &mut [u8], written: &mut usize) -> u32
-    ensures { Returns (entry_of op [] [] [] (lent image) (room out)) result out written }
+pub fn ask_unnamed(op: Asked, image: &[u8], out: &mut [u8]) -> Result<usize, Refusal>
+    ensures { Hands (entry_of op [] [] [] (lent image) (room out)) result out }
 {
-    let mut tree = [[0u32; 3]; store::ROOM];
-    let mut staging = [[0u32; 3]; store::ROOM];
-    let o = handover::open_image(
-        image,
-        &mut tree,
-        &mut staging,
-        basics::IMAGE_ROOM <= out.len(),
-    );
-    if o.number != 0 {
-        return o.number;
-    }
+    let opened = handover::open_image(image, basics::IMAGE_ROOM <= out.len())?;
     let none = lend::not_valid(0);
-    let nothing = &image[..0];
-    let s = o.store;
-    let r = answer(
-        op,
-        image,
-        &mut tree,
-        &mut staging,
-        s,
-        none,
-        none,
-        none,
-        nothing,
-        nothing,
-        nothing,
-    );
-    handover::hand_on(
-        image,
-        &tree,
-        &staging,
-        r,
-        kept(op, o.tree_end),
-        out,
-        written,
-    )
+    let front = kept(op, opened.tree_end);
+    let r = answer(op, image, opened.store, none, none, none, b"", b"", b"");
+    handover::hand_on(image, r, front, out)
 }

@@ -1,13 +1,8 @@
 -- An entry that runs a plan, by what `run` left.
-use Rattle.std.specs.Prelude.{if◌then◌else◌}
-use mathlib.Core.Path.{◌≡◌, refl, sym, ap, subst, ◌∙◌}
-use mathlib.Core.Bool.{Bool, true, false, false≢true, ◌&&◌}
-use mathlib.Core.Option.{some}
-use Prim.Native.Nat.{ℕ, ◌≤◌}
-use native.Mathlib.Omega.{arith}
-use lib.ListN.{length}
-use lib.Dec.{leb, eqb}
-use borrow.Author.Tests.{leb-true, ne_eqb}
+use Rattle.std.specs.Prelude.{◌≡◌, refl, Bool, false, ◌&&◌, ℕ, ◌≤◌, length, leb, Option, None, Some}
+use Rattle.std.proofs.Common.{sym, ap, subst, ◌∙◌, arith, leb-true, ne_eqb}
+use Rattle.std.proofs.Math.Option.{some}
+use Rattle.std.proofs.lemmas.Bool.{false≢true}
 use Rattle.basics.specs.Limits.{image_room, step_room}
 use Rattle.basics.specs.Base.{Bytes}
 use Rattle.model.specs.Store as model
@@ -17,15 +12,17 @@ use Rattle.answers.specs.Answers.{commit_step, hold_step, recover_step, revert_s
 use Rattle.answer_laws.specs.Bounds.{Bounded, commit-bounded, hold-bounded, recover-bounded, revert-bounded, keep-bounded}
 use Rattle.answer_laws.specs.Bounds.{commit-step-bounded, hold-step-bounded, recover-step-bounded, revert-step-bounded, keep-step-bounded}
 use Rattle.basic_laws.specs.Tests.{and_both}
-use Rattle.store.specs.Words.{Words}
+use Rattle.refusals.specs.Numbers.{number_of, number_if}
+use Rattle.refusals.specs.declared.Refusal.{Refusal}
 use Rattle.store.specs.Kept.{none_kept}
-use Rattle.store.specs.Stores.{store_in, store_of}
+use Rattle.store.specs.Stores.{store_of}
 use Rattle.wal.specs.declared.Tail.TheVariants.{Nothing}
+use Rattle.steps.proofs.Running.{some-number}
+use Rattle.decode.specs.declared.Decoded.{Decoded}
 use Rattle.handover.specs.Contract.{hands_back, Gives, StepGives, CauseGives, Writes}
-use Rattle.handover.specs.Opening.{Opens, ImageStands, stepped, StepStands}
-use Rattle.handover.specs.declared.Opened.{Opened}
+use Rattle.handover.specs.Opening.{Opened, Shut, ImageStands, stepped, StepStands}
 use Rattle.handover.proofs.Outputs.{left_alone, step-left-alone, gives, stepped-at}
-use Rattle.running.specs.Planning.{plan_store, plan_cause, plan_at, plan_entry, plan_broke, plan_step_entry, Runs}
+use Rattle.running.specs.Planning.{plan_store, plan_cause, plan_at, plan_entry, plan_broke, plan_step_entry, RefusedWith, Leaves, cause_after}
 use Rattle.running.specs.declared.Planned.{Planned}
 use Rattle.running.specs.declared.Planned.TheVariants.{Commit, Hold, Recover, Revert, Keep}
 use Rattle.running.specs.declared.Ran.{Ran}
@@ -78,83 +75,93 @@ broke-cause Recover image out s d = rw d
 broke-cause Revert image out s d = rw d
 broke-cause Keep image out s d = refl
 
--- A refusal leaves `cause`.
+-- A call that is refused leaves the outputs and `cause`.
+not-done : {n : ℕ} → hands_back n ≡ false → n ≡ 0 → ⊥
+not-done h z = false≢true (sym h ∙ ap hands_back z)
+
 cause-left : (p : Planned) (image : Bytes) (out : ℕ) {n cause : ℕ} → n ≡ (plan_entry p image out).number → (n ≡ 0 → ⊥) → CauseGives (plan_broke p image out) n cause cause
 cause-left p image out e h =
     let q = e ∙ sym (broke-number p image out) in
     record { number = q; told = rw (ne_eqb (plan_broke p image out).number 0 (λ z. h (q ∙ z))) }
 
+turned_down : (p : Planned) (image : Bytes) (len : ℕ) {n : ℕ} → hands_back n ≡ false → plan_entry p image len ≡ refusal n → {out : Bytes} {written cause : ℕ}
+    → Gives (plan_entry p image len) n out out written written × CauseGives (plan_broke p image len) n cause cause
+turned_down p image len h g = (left_alone h g, cause-left p image len (sym (ap (λ (a : Answer). a.number) g)) (not-done h))
+
 -- The whole plan.
-module _ (p : Planned) (image : Bytes) (len : ℕ) {tree staging : Words} {o : Opened} (w : Opens image (leb image_room len) tree staging o) where
-  pub not_opened : (o.number ≡ 0 → ⊥) → {out : Bytes} {written cause : ℕ}
-      → Gives (plan_entry p image len) o.number out out written written × CauseGives (plan_broke p image len) o.number cause cause
-  not_opened h =
-      let g = plan-is p image len ∙ w.refused h (plan_store p) in
-      (left_alone (w.alone h) g, cause-left p image len (sym (ap (λ (a : Answer). a.number) g)) h)
+module _ (p : Planned) (image : Bytes) (len : ℕ) where
+  pub not_opened : {e : Refusal} → Shut image (leb image_room len) e → {out : Bytes} {written cause : ℕ}
+      → Gives (plan_entry p image len) (number_of e) out out written written × CauseGives (plan_broke p image len) (number_of e) cause cause
+  not_opened w = turned_down p image len w.alone (plan-is p image len ∙ w.refused (plan_store p))
 
-  module _ (z : o.number ≡ 0) {tree' staging' : Words} {r : Ran} (c : Runs p image (store_in tree staging o.store) false 0 tree' staging' r) where
-    pub nothing-back : r.back ≡ false → {out : Bytes} {written cause : ℕ}
-        → Gives (plan_entry p image len) r.number out out written written × CauseGives (plan_broke p image len) r.number cause cause
-    nothing-back f =
-        let g : plan_entry p image len ≡ refusal r.number = plan-is p image len ∙ w.given z (plan_store p) ∙ c.whole refl ∙ rw f in
-        (left_alone (c.alone f) g, cause-left p image len (sym (ap (λ (a : Answer). a.number) g)) (λ y. false≢true (sym (c.alone f) ∙ ap hands_back y)))
+  module _ {d : Decoded} (w : Opened image (leb image_room len) d) where
+    pub nothing-back : {e : Refusal} → RefusedWith p image d.store None e → {out : Bytes} {written cause : ℕ}
+        → Gives (plan_entry p image len) (number_of e) out out written written × CauseGives (plan_broke p image len) (number_of e) cause cause
+    nothing-back c = turned_down p image len c.alone (plan-is p image len ∙ w.given (plan_store p) ∙ c.whole refl)
 
-    module _ (f : r.back ≡ true) where
-      given : plan_entry p image len ≡ answer r.number (store_of image (store_in tree' staging' r.store))
-      given = plan-is p image len ∙ w.given z (plan_store p) ∙ c.whole refl ∙ rw f
+    module _ {r : Ran} (c : Leaves p image d.store None r) where
+      given : plan_entry p image len ≡ answer (number_if r.refusal) (store_of image r.run.store)
+      given = plan-is p image len ∙ w.given (plan_store p) ∙ c.whole refl
 
-      pub image-stands : ImageStands image (store_in tree' staging' r.store) Nothing 0 len
+      pub image-stands : ImageStands image r.run.store Nothing 0 len
       image-stands = record {
-        sound = c.sound f;
+        sound = c.sound.fits.sound;
         tail_sound = tt;
         kept = none_kept;
         room =
             let i = subst (λ (x : Answer). length x.image ≤ image_room) given (plan-bounded p image len).image in
-            omega (arith, leb-true image_room len (w.roomy z));
+            omega (arith, leb-true image_room len w.roomy);
       }
 
-      told : {cause cause' : ℕ} → cause' ≡ (if eqb r.number 0 then r.cause else cause) → CauseGives (plan_broke p image len) r.number cause cause'
-      told e =
-          let q : r.number ≡ (plan_broke p image len).number = sym (ap (λ (a : Answer). a.number) given) ∙ sym (broke-number p image len) in
-          record { number = q; told = e ∙ rw (q, c.cause f, broke-cause p image len _ (w.held z).accepted) }
+      number-is : number_if r.refusal ≡ (plan_entry p image len).number
+      number-is = sym (ap (λ (a : Answer). a.number) given)
 
-      pub handed : {out out' : Bytes} {written written' cause cause' : ℕ} → Writes (encode (store_of image (store_in tree' staging' r.store))) out out' written'
-          → cause' ≡ (if eqb r.number 0 then r.cause else cause)
-          → Gives (plan_entry p image len) r.number out out' written written' × CauseGives (plan_broke p image len) r.number cause cause'
-      handed w e = (gives (c.told refl f) (sym (ap (λ (a : Answer). a.number) given)) (sym (ap (λ (a : Answer). a.image) given)) w, told e)
+      back : {n : ℕ} → n ≡ number_if r.refusal → {out out' : Bytes} {written written' : ℕ} → Writes (encode (store_of image r.run.store)) out out' written'
+          → Gives (plan_entry p image len) n out out' written written'
+      back e v = gives (ap hands_back e ∙ c.told refl) (e ∙ number-is) (sym (ap (λ (a : Answer). a.image) given)) v
+
+      -- The image and its number; the cause, where no step failed.
+      pub handed : {out out' : Bytes} {written' : ℕ} → Writes (encode (store_of image r.run.store)) out out' written' → (written cause : ℕ)
+          → Gives (plan_entry p image len) (number_if r.refusal) out out' written written' × CauseGives (plan_broke p image len) (number_if r.refusal) cause (cause_after r.refusal r.cause cause)
+      handed v written cause = (back refl v, go r.refusal number-is)
+        where
+          go : (o : Option Refusal) → number_if o ≡ (plan_entry p image len).number → CauseGives (plan_broke p image len) (number_if o) cause (cause_after o r.cause cause)
+          go (Some e) n = cause-left p image len n (some-number e)
+          go None n =
+              let q : 0 ≡ (plan_broke p image len).number = n ∙ sym (broke-number p image len) in
+              record { number = q; told = rw (sym q, c.cause, broke-cause p image len _ w.held.accepted) }
 
 -- Its first n steps.
-module _ (p : Planned) (n : ℕ) (image : Bytes) (out stepOut : ℕ) {room : Bool} (b : room ≡ (leb image_room out && leb step_room stepOut))
-    {tree staging : Words} {o : Opened} (w : Opens image room tree staging o) where
-  entry-is : plan_step_entry p n image out stepOut ≡ on_image image room (plan_at p n)
-  entry-is = plan-step-is p n image out stepOut ∙ rw b
+module _ (p : Planned) (n : ℕ) (image : Bytes) (out stepOut : ℕ) where
+  abbrev room : Bool
+  room = leb image_room out && leb step_room stepOut
 
-  pub steps-not-opened : (o.number ≡ 0 → ⊥) → {lent : Bytes} {written : ℕ} {step : Bytes} {step_written : ℕ}
-      → StepGives (plan_step_entry p n image out stepOut) o.number lent lent written written step step step_written step_written
-  steps-not-opened h = step-left-alone (w.alone h) (entry-is ∙ w.refused h (plan_at p n))
+  pub steps-not-opened : {e : Refusal} → Shut image room e → {lent : Bytes} {written : ℕ} {step : Bytes} {step_written : ℕ}
+      → StepGives (plan_step_entry p n image out stepOut) (number_of e) lent lent written written step step step_written step_written
+  steps-not-opened w = step-left-alone w.alone (plan-step-is p n image out stepOut ∙ w.refused (plan_at p n))
 
-  module _ (z : o.number ≡ 0) {tree' staging' : Words} {r : Ran} (c : Runs p image (store_in tree staging o.store) true n tree' staging' r) where
-    pub no-steps-back : r.back ≡ false → {lent : Bytes} {written : ℕ} {step : Bytes} {step_written : ℕ}
-        → StepGives (plan_step_entry p n image out stepOut) r.number lent lent written written step step step_written step_written
-    no-steps-back f = step-left-alone (c.alone f) (entry-is ∙ w.given z (plan_at p n) ∙ c.cut refl ∙ rw f)
+  module _ {d : Decoded} (w : Opened image room d) where
+    pub no-steps-back : {e : Refusal} → RefusedWith p image d.store (Some n) e → {lent : Bytes} {written : ℕ} {step : Bytes} {step_written : ℕ}
+        → StepGives (plan_step_entry p n image out stepOut) (number_of e) lent lent written written step step step_written step_written
+    no-steps-back c = step-left-alone c.alone (plan-step-is p n image out stepOut ∙ w.given (plan_at p n) ∙ c.cut n refl)
 
-    module _ (f : r.back ≡ true) where
+    module _ {r : Ran} (c : Leaves p image d.store (Some n) r) where
       abbrev left : Answer
-      left = stepped image (store_in tree' staging' r.store) r.left r.last n
+      left = stepped image r.run n
 
       steps-given : plan_step_entry p n image out stepOut ≡ left
-      steps-given = entry-is ∙ w.given z (plan_at p n) ∙ c.cut refl ∙ rw f
+      steps-given = plan-step-is p n image out stepOut ∙ w.given (plan_at p n) ∙ c.cut n refl
 
       bounded : Bounded left
       bounded = subst Bounded steps-given (plan-step-bounded p n image out stepOut)
 
-      pub step-stands : StepStands image (store_in tree' staging' r.store) r.left r.last n out stepOut
+      pub step-stands : StepStands image r.run n out stepOut
       step-stands =
-          let t = and_both (leb image_room out) (leb step_room stepOut) (sym b ∙ w.roomy z) in
-          let at = stepped-at image (store_in tree' staging' r.store) r.left r.last n in
+          let t = and_both (leb image_room out) (leb step_room stepOut) w.roomy in
+          let at = stepped-at image r.run n in
           record {
-            sound = c.sound f;
-            last_sound = c.last f;
+            sound = c.sound.fits.sound;
+            last_sound = c.sound.last;
             room = λ y. let x = ap (λ (a : Answer). length a.image) (at y) in omega (arith, bounded.image, leb-true image_room out t.0);
             step_room = λ y. let x = ap (λ (a : Answer). length a.step) (at y) in omega (arith, bounded.step, leb-true step_room stepOut t.1);
           }

@@ -1,20 +1,23 @@
 // One road for every entry that runs a plan: the image is read, the plan is run, wholly or by its first n steps, and what it leaves is handed back.
 #![tactic(auto)]
 
-ghost use Rattle.std.specs.Prelude.{◌≡◌};
-ghost use Rattle.store.specs.Stores.{store_in};
-ghost use Rattle.handover.specs.Contract.{lent, before, after, room, Returns, StepReturns, CauseReturns};
+ghost use Rattle.std.specs.Prelude.{◌≡◌, ◌&&◌, length, leb};
+ghost use Rattle.basics.specs.Limits.{image_room, step_room};
+ghost use Rattle.handover.specs.Contract.{lent, room};
+ghost use Rattle.handover.specs.Handing.{StepHands};
 ghost use Rattle.handover.specs.Opening.{Held};
-ghost use Rattle.running.specs.Planning.{plan_entry, plan_broke, plan_step_entry, commit_of, ran_of, Runs};
+ghost use Rattle.running.specs.Planning.{plan_entry, plan_broke, plan_step_entry, commit_of, ran_of, Runs, Ends};
 
+use commit::End;
 use local_storage::LocalStorage;
 use recovery::Recovered;
-use steps::Step;
-use store::{Nodes, Store};
-use wal::Tail;
+use refusals::Refusal;
+use steps::Run;
+use store::Store;
+use wal::{Cause, Tail};
 
 // The plan that is meant.
-#[derive(Clone, Copy)]
+#[derive(Clone, Copy, Debug, PartialEq, Eq)]
 pub enum Planned {
     Commit,
     Hold,
@@ -23,125 +26,80 @@ pub enum Planned {
     Keep,
 }
 
-// What a plan leaves: a number; how the log broke that it discards, 0 for none; whether a store is handed back; that store; what is left of the budget;
-// the step that was done last.
-#[derive(Clone, Copy)]
+// What a plan leaves: the run of its steps; the refusal of the step that failed, if one did; how the log broke that it discards, if it did.
+#[derive(Drop)]
 pub struct Ran {
-    pub number: u32,
-    pub cause: u32,
-    pub back: bool,
-    pub store: Store,
-    pub left: u64,
-    pub last: Step,
+    pub run: Run,
+    pub refusal: Option<Refusal>,
+    pub cause: Option<Cause>,
 }
 
-// What a commit leaves, of one that `holds` or not.
-fn run_commit(
-    image: &[u8],
-    tree: &mut Nodes,
-    staging: &mut Nodes,
-    s: Store,
-    holds: bool,
-    limited: bool,
-    n: u64,
-) -> Ran
-    requires { Held image.now (store_in tree.old staging.old s) }
-    ensures { Runs (commit_of holds) (lent image) (store_in (before tree) (before staging) s) limited n (after tree) (after staging) result }
+// What a whole plan hands back: how many bytes the image has; the refusal of the step that failed; how the log broke that the plan discarded.
+#[derive(Clone, Copy, Debug, PartialEq, Eq)]
+pub struct HandedBack {
+    pub written: usize,
+    pub refusal: Option<Refusal>,
+    pub cause: Option<Cause>,
+}
+
+// What a commit leaves.
+fn run_commit(image: &[u8], store: Store, end: End, budget: Option<u64>) -> Result<Ran, Refusal>
+    requires { Held image.now store }
+    ensures { Runs (commit_of end) (lent image) store budget result }
 {
-    let storage = LocalStorage { store: s };
-    let r = storage.commit(image, tree, staging, holds, limited, n);
-    let kept = r.storage;
-    let t = kept.store;
-    let last = r.last;
-    Ran {
-        number: r.number,
-        cause: 0,
-        back: r.found,
-        store: t,
-        left: r.left,
-        last: last,
-    }
+    let committed = LocalStorage { store }.commit(image, end, budget);
+    committed.found?;
+    Ok(Ran {
+        refusal: committed.run.refusal,
+        run: committed.run,
+        cause: None,
+    })
 }
 
-// What recovery, revert or keep leaves.
+// What recovery, revert or keep leaves: no step of these fails.
 fn left_by(r: Recovered) -> Ran
     ensures { result ≡ ran_of r }
 {
-    let done = r.run;
-    let t = done.store;
-    let last = done.last;
     Ran {
-        number: r.number,
+        run: r.run,
+        refusal: None,
         cause: r.cause,
-        back: r.number == 0,
-        store: t,
-        left: done.left,
-        last: last,
     }
 }
 
-// All steps of the plan, or where `limited` the first n.
-fn run(
-    p: Planned,
-    image: &[u8],
-    tree: &mut Nodes,
-    staging: &mut Nodes,
-    s: Store,
-    limited: bool,
-    n: u64,
-) -> Ran
-    requires { Held image.now (store_in tree.old staging.old s) }
-    ensures { Runs p (lent image) (store_in (before tree) (before staging) s) limited n (after tree) (after staging) result }
+// All steps of the plan, or as many as the budget has.
+fn run(p: Planned, image: &[u8], store: Store, budget: Option<u64>) -> Result<Ran, Refusal>
+    requires { Held image.now store }
+    ensures { Runs p (lent image) store budget result }
 {
     match p {
-        Planned::Commit => run_commit(image, tree, staging, s, false, limited, n),
-        Planned::Hold => run_commit(image, tree, staging, s, true, limited, n),
-        Planned::Recover => {
-            let r = recovery::recover(image, tree, staging, s, limited, n);
-            left_by(r)
-        }
-        Planned::Revert => {
-            let r = recovery::revert(image, tree, staging, s, limited, n);
-            left_by(r)
-        }
-        Planned::Keep => {
-            let r = recovery::keep(image, tree, staging, s, limited, n);
-            left_by(r)
-        }
+        Planned::Commit => run_commit(image, store, End::Remove, budget),
+        Planned::Hold => run_commit(image, store, End::Hold, budget),
+        Planned::Recover => recovery::recover(image, store, budget).map(left_by),
+        Planned::Revert => recovery::revert(image, store, budget).map(left_by),
+        Planned::Keep => recovery::keep(image, store, budget).map(left_by),
     }
 }
 
-// The whole plan; where its number is 0, `cause` says how the log broke that it discarded.
-pub fn run_whole(
-    p: Planned,
-    image: &[u8],
-    out: &mut [u8],
-    written: &mut usize,
-    cause: &mut u32,
-) -> u32
-    ensures { Returns (plan_entry p (lent image) (room out)) result out written × CauseReturns (plan_broke p (lent image) (room out)) result cause }
+// The whole plan. Where a step failed, the rolled-back image is handed back with its refusal.
+pub fn run_whole(p: Planned, image: &[u8], out: &mut [u8]) -> Result<HandedBack, Refusal>
+    ensures { Ends (plan_entry p (lent image) (room out)) (plan_broke p (lent image) (room out)) result out }
 {
-    let mut tree = [[0u32; 3]; store::ROOM];
-    let mut staging = [[0u32; 3]; store::ROOM];
-    let o = handover::open_image(
-        image,
-        &mut tree,
-        &mut staging,
-        basics::IMAGE_ROOM <= out.len(),
-    );
-    if o.number != 0 {
-        return o.number;
-    }
-    let s = o.store;
-    let r = run(p, image, &mut tree, &mut staging, s, false, 0);
-    let back = r.back;
-    if back {
-        let t = r.store;
-        handover::hand_image(image, &tree, &staging, t, Tail::Nothing, 0, out, written);
-        handover::hand_cause(r.number, r.cause, cause);
-        return r.number;
-    }
-    r.number
+    let opened = handover::open_image(image, basics::IMAGE_ROOM <= out.len())?;
+    let ran = run(p, image, opened.store, None)?;
+    let written = handover::hand_image(image, &ran.run.store, Tail::Nothing, 0, out);
+    Ok(HandedBack {
+        written,
+        refusal: ran.refusal,
+        cause: ran.cause,
+    })
+}
+
+// Whether both outputs have the room that a step entry asks for.
+fn has_room(out: &[u8], step: &[u8]) -> bool
+    ensures { result ≡ (leb image_room (length out.now) && leb step_room (length step.now)) }
+{
+    basics::IMAGE_ROOM <= out.len() && basics::STEP_ROOM <= step.len()
 }
 
 // The first n steps, and the field of step n.
@@ -150,41 +108,11 @@ pub fn run_steps(
     image: &[u8],
     n: u64,
     out: &mut [u8],
-    written: &mut usize,
     step: &mut [u8],
-    step_written: &mut usize,
-) -> u32
-    ensures { StepReturns (plan_step_entry p n (lent image) (room out) (room step)) result out written step step_written }
+) -> Result<(usize, usize), Refusal>
+    ensures { StepHands (plan_step_entry p n (lent image) (room out) (room step)) result out step }
 {
-    let room = decode::both(
-        basics::IMAGE_ROOM <= out.len(),
-        basics::STEP_ROOM <= step.len(),
-    );
-    let mut tree = [[0u32; 3]; store::ROOM];
-    let mut staging = [[0u32; 3]; store::ROOM];
-    let o = handover::open_image(image, &mut tree, &mut staging, room);
-    if o.number != 0 {
-        return o.number;
-    }
-    let s = o.store;
-    let r = run(p, image, &mut tree, &mut staging, s, true, n);
-    let back = r.back;
-    if back {
-        let t = r.store;
-        let last = r.last;
-        return handover::hand_step(
-            image,
-            &tree,
-            &staging,
-            t,
-            r.left,
-            last,
-            n,
-            out,
-            written,
-            step,
-            step_written,
-        );
-    }
-    r.number
+    let opened = handover::open_image(image, has_room(out, step))?;
+    let ran = run(p, image, opened.store, Some(n))?;
+    handover::hand_step(image, &ran.run, n, out, step)
 }

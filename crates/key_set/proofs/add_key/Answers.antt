@@ -1,23 +1,21 @@
 -- `add_key` meets its contract: nothing for a repeated key, else an entry more.
-use native.Mathlib.Omega.{arith}
 use mathlib.Core.Path.{sym, ◌∙◌}
 use Rattle.basics.specs.Name.{lower}
 use Rattle.key_set.specs.Gathering.{lowered_in}
-use Rattle.key_set.proofs.Gathers.{again, with_invalid, with_valid}
+use Rattle.key_set.proofs.Gathers.{again, still-none, one_more}
 use Rattle.key_set.proofs.add_key.Goals as goal
 
 pub returns-then-is_repeated : goal.returns-then-is_repeated
 returns-then-is_repeated c =
     λ collection start first set w room few g. (w, again g (lower c.args.key.now) (lowered_in c.args.before.now) (sym c.if-is_repeated.true ∙ c.is_repeated.ensures))
 
-pub returns-then-n-eq0 : goal.returns-then-n-eq0
-returns-then-n-eq0 c =
-    λ collection start first set w room few g. let p = c.put_entry-n.ensures collection w in (p.0, with_invalid g (lower c.args.key.now) (lowered_in c.args.before.now) (sym c.if-is_repeated.false ∙ c.is_repeated.ensures) p.1 c.if-n-eq0.true)
+pub returns-in_default : goal.returns-in_default
+returns-in_default c =
+    λ collection start first set w room few g. (w, still-none g (lower c.args.key.now) (lowered_in c.args.before.now) (sym c.if-is_repeated.false ∙ c.is_repeated.ensures) c.in_default.is)
 
-pub overflow_add-result-3 : goal.overflow_add-result-3
-overflow_add-result-3 c =
-    let l = c.requires.0 in let p = c.put_entry-n.ensures l.collection l.roomy in omega (arith, p.1.small, c.requires.1.1.1)
+pub put_entry-requires : goal.put_entry-requires
+put_entry-requires c = (c.requires.0, rw c.in-Some.is at c.requires.1.1.1)
 
 pub returns : goal.returns
 returns c =
-    λ collection start first set w room few g. let p = c.put_entry-n.ensures collection w in (p.0, with_valid g (lower c.args.key.now) (lowered_in c.args.before.now) (sym c.if-is_repeated.false ∙ c.is_repeated.ensures) room few p.1 c.if-n-eq0.false)
+    λ collection start first set w room few g. let p = c.put_entry.ensures collection w in (p.0, one_more g (lower c.args.key.now) (lowered_in c.args.before.now) _ (sym c.if-is_repeated.false ∙ c.is_repeated.ensures) c.in-Some.is room few p.1)

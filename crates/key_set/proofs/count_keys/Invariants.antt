@@ -1,11 +1,7 @@
--- `count_keys` meets its contract: n keys stand before `at`.
-use lib.ListN.{length}
-use Prim.Native.Nat.{◌-◌}
+-- `count_keys` meets its contract: n keys stand before the iterator's place.
+use mathlib.Core.Path.{◌≡◌}
 use Rattle.key_set.proofs.Walks.{Counting}
 use Rattle.key_set.proofs.count_keys.Given as goal
 
-abbrev pub invariant-loop-at : goal.invariant-loop-at
-invariant-loop-at l = Counting l.keys l.at l.n
-
-abbrev pub decreases-loop-at : goal.decreases-loop-at
-decreases-loop-at l = length l.keys - l.at
+abbrev pub invariant-loop-x : goal.invariant-loop-x
+invariant-loop-x l = (goal.iterator-loop-x).is_finite l.x-iterator × (l.x-iterator.bytes.now ≡ l.keys) × Counting l.keys l.x-iterator.at l.n

@@ -1,7 +1,6 @@
--- `delete_each` meets its contract: the operations from i on are left.
-use Rattle.store.specs.Stores.{store_in}
+-- `delete_each` meets its contract: the operations from the index on are left.
 use Rattle.key_set.proofs.Deletes.{Deleting}
 use Rattle.key_set.proofs.delete_each.Given as goal
 
-abbrev pub invariant-loop-i : goal.invariant-loop-i
-invariant-loop-i l = Deleting l.src l.ops l.from (store_in l.initial.tree l.initial.staging l.initial.work) (store_in l.tree l.staging l.work) l.i
+abbrev pub invariant-loop-op : goal.invariant-loop-op
+invariant-loop-op l = Deleting l.src l.ops l.initial.store l.store l.op-index

@@ -2,10 +2,8 @@
 use native.Mathlib.Omega.{arith}
 use mathlib.Core.Path.{refl, sym, ap}
 use Rattle.answers.specs.Answers.{Answer, outcome}
-use Rattle.store.specs.Stores.{store_in}
-use Rattle.store.specs.declared.Store.{Store}
 use Rattle.handover.proofs.Outputs.{left_alone, gives}
-use Rattle.key_set.proofs.Whole.{may_fill, countable, over, not_valid, log-room, may_delete, missing-key, all-deleted, image-stands}
+use Rattle.key_set.proofs.Whole.{may_fill, countable, over, not_valid, within-read, may_delete, missing-key, all-deleted, image-stands}
 use Rattle.key_set.proofs.delete_in.Goals as goal
 
 pub fill-g-requires : goal.fill-g-requires
@@ -15,38 +13,33 @@ pub overflow_add-n : goal.overflow_add-n
 overflow_add-n c = omega (arith, countable c.requires c.fill-g.ensures)
 
 pub returns-then-n-g-gt-OPERATION_LIMIT : goal.returns-then-n-g-gt-OPERATION_LIMIT
-returns-then-n-g-gt-OPERATION_LIMIT c =
+returns-then-n-g-gt-OPERATION_LIMIT c written =
     left_alone refl (ap outcome (over c.requires c.fill-g.ensures c.if-n-g-gt-OPERATION_LIMIT.true))
 
-pub returns-then-not-g : goal.returns-then-not-g
-returns-then-not-g c =
-    left_alone refl (ap outcome (not_valid c.requires c.fill-g.ensures c.if-n-g-gt-OPERATION_LIMIT.false c.if-not-g.true))
+pub returns-in_default : goal.returns-in_default
+returns-in_default c written =
+    left_alone refl (ap outcome (not_valid c.requires c.fill-g.ensures c.if-n-g-gt-OPERATION_LIMIT.false c.in_default.is))
 
-pub with_log-t-requires : goal.with_log-t-requires
-with_log-t-requires c =
-    log-room c.requires c.fill-g.ensures c.if-n-g-gt-OPERATION_LIMIT.false c.if-not-g.false
+pub slice_bounds-delete_each-count : goal.slice_bounds-delete_each-count
+slice_bounds-delete_each-count c =
+    within-read c.requires c.fill-g.ensures c.if-n-g-gt-OPERATION_LIMIT.false c.in-Some.is c.read_wal-read.ensures c.deref.ensures.0
 
-pub delete_each-d-requires : goal.delete_each-d-requires
-delete_each-d-requires c =
-    rw c.deref.ensures.0 (may_delete c.requires c.fill-g.ensures c.if-n-g-gt-OPERATION_LIMIT.false c.if-not-g.false c.read_wal-w.ensures (ap (λ (t : Store). store_in c.args.tree.now c.args.staging.now t) c.with_log-t.ensures))
+pub slice_bounds-delete_each-start : goal.slice_bounds-delete_each-start
+slice_bounds-delete_each-start c = slice_bounds-delete_each-count c
 
-pub shape_of-src-then-not-d : goal.shape_of-src-then-not-d
-shape_of-src-then-not-d c =
-    c.fill-g.ensures.size
+pub delete_each-requires : goal.delete_each-requires
+delete_each-requires c =
+    may_delete c.requires c.fill-g.ensures c.if-n-g-gt-OPERATION_LIMIT.false c.in-Some.is c.read_wal-read.ensures c.deref.ensures.0 c.with_log-moved.ensures
 
-pub returns-then-not-d : goal.returns-then-not-d
-returns-then-not-d c =
-    left_alone refl (ap outcome (missing-key c.requires c.fill-g.ensures c.if-n-g-gt-OPERATION_LIMIT.false c.if-not-g.false c.read_wal-w.ensures (ap (λ (t : Store). store_in c.args.tree.now c.args.staging.now t) c.with_log-t.ensures) (rw c.deref.ensures.0 at c.delete_each-d.ensures) c.if-not-d.true))
+pub returns-then-not-delete_each : goal.returns-then-not-delete_each
+returns-then-not-delete_each c written =
+    left_alone refl (ap outcome (missing-key c.requires c.fill-g.ensures c.if-n-g-gt-OPERATION_LIMIT.false c.in-Some.is c.read_wal-read.ensures c.deref.ensures.0 c.with_log-moved.ensures c.delete_each.ensures c.if-not-delete_each.true))
 
 pub hand_image-requires : goal.hand_image-requires
 hand_image-requires c =
-    image-stands c.requires c.fill-g.ensures c.if-n-g-gt-OPERATION_LIMIT.false c.if-not-g.false c.read_wal-w.ensures (ap (λ (t : Store). store_in c.args.tree.now c.args.staging.now t) c.with_log-t.ensures) (rw c.deref.ensures.0 at c.delete_each-d.ensures) c.if-not-d.false
-
-pub shape_of-src : goal.shape_of-src
-shape_of-src c =
-    c.fill-g.ensures.size
+    image-stands c.requires c.fill-g.ensures c.if-n-g-gt-OPERATION_LIMIT.false c.in-Some.is c.read_wal-read.ensures c.deref.ensures.0 c.with_log-moved.ensures c.delete_each.ensures c.if-not-delete_each.false
 
 pub returns : goal.returns
-returns c =
-    let e = ap outcome (all-deleted c.requires c.fill-g.ensures c.if-n-g-gt-OPERATION_LIMIT.false c.if-not-g.false c.read_wal-w.ensures (ap (λ (t : Store). store_in c.args.tree.now c.args.staging.now t) c.with_log-t.ensures) (rw c.deref.ensures.0 at c.delete_each-d.ensures) c.if-not-d.false) in
+returns c written =
+    let e = ap outcome (all-deleted c.requires c.fill-g.ensures c.if-n-g-gt-OPERATION_LIMIT.false c.in-Some.is c.read_wal-read.ensures c.deref.ensures.0 c.with_log-moved.ensures c.delete_each.ensures c.if-not-delete_each.false) in
     gives refl (sym (ap (λ (a : Answer). a.number) e)) (sym (ap (λ (a : Answer). a.image) e)) c.hand_image.ensures

@@ -1,11 +1,7 @@
--- `is_repeated` meets its contract: the fields from `at` on decide.
-use Prim.Native.Nat.{◌-◌}
-use lib.ListN.{length}
+-- `is_repeated` meets its contract: the fields from the iterator's place on decide.
+use mathlib.Core.Path.{◌≡◌}
 use Rattle.key_set.proofs.Walks.{Seeking}
 use Rattle.key_set.proofs.is_repeated.Given as goal
 
-abbrev pub invariant-loop-at : goal.invariant-loop-at
-invariant-loop-at l = Seeking l.before l.key l.at
-
-abbrev pub decreases-loop-at : goal.decreases-loop-at
-decreases-loop-at l = length l.before - l.at
+abbrev pub invariant-loop-x : goal.invariant-loop-x
+invariant-loop-x l = (goal.iterator-loop-x).is_finite l.x-iterator × (l.x-iterator.bytes.now ≡ l.before) × Seeking l.before l.key l.x-iterator.at

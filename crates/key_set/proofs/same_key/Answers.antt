@@ -1,20 +1,17 @@
-use native.Mathlib.Omega.{arith}
-use mathlib.Core.Path.{refl, ◌∙◌}
-use Rattle.paths.proofs.Lower.{lowered}
-use Rattle.key_set.proofs.Alike.{other_length, none_left, other_byte, same_byte, all_same}
+-- `same_key` meets its contract: the pairs from behind are alike.
+use mathlib.Core.Path.{◌∙◌}
+use Rattle.std.proofs.Common.{rules, tests}
+use Rattle.std.proofs.lemmas.Iterator.{YieldsList-from_zip}
+use Rattle.std.proofs.lemmas.Iterator.Adapters.{YieldsList-from_rev_slice}
+use Rattle.std.proofs.lemmas.Iterator.Search.{all_from_yields_List}
+use Rattle.key_set.proofs.Alike.{alike, other_length, from-behind}
 use Rattle.key_set.proofs.same_key.Goals as goal
 
-pub returns-then-n-b : goal.returns-then-n-b
-returns-then-n-b c = other_length c.args.a.now c.args.b.now refl refl c.if-n-b.true
+pub returns-then-a-b : goal.returns-then-a-b
+returns-then-a-b c =
+    all_from_yields_List alike c.all.new.self _ _ c.all.ensures.ran
+    (YieldsList-from_zip (YieldsList-from_rev_slice c.args.a.now cc) (YieldsList-from_rev_slice c.args.b.now cc)) (λ x b q k. search (rules, tests))
+    ∙ from-behind c.args.a.now c.args.b.now c.if-a-b.true
 
-pub loop-i-init : goal.loop-i-init
-loop-i-init c = none_left c.args.a.now c.args.b.now refl refl c.if-n-b.false
-
-pub returns-then-to_ascii_lowercase : goal.returns-then-to_ascii_lowercase
-returns-then-to_ascii_lowercase c = other_byte c.loop-i.invariant (omega arith) (c.to_ascii_lowercase.ensures.value ∙ lowered _) (c.to_ascii_lowercase-in-loop-i.ensures.value ∙ lowered _) c.if-to_ascii_lowercase.true
-
-pub loop-i-preserved : goal.loop-i-preserved
-loop-i-preserved c = same_byte c.loop-i.invariant (omega arith) (c.to_ascii_lowercase.ensures.value ∙ lowered _) (c.to_ascii_lowercase-in-loop-i.ensures.value ∙ lowered _) c.if-to_ascii_lowercase.false
-
-pub returns : goal.returns
-returns c = all_same c.loop-i.invariant (omega arith)
+pub returns-else-a-b : goal.returns-else-a-b
+returns-else-a-b c = other_length c.args.a.now c.args.b.now c.if-a-b.false

@@ -17,20 +17,20 @@ lend_name-d-requires c =
 pub answer-r-requires : goal.answer-r-requires
 answer-r-requires c =
     let l = lent-names c.args.key.now c.requires.roomy c.put_bytes.ensures c.lend_name-a.ensures c.lend_key-b.ensures c.lend_name-d.ensures in
-    asks l (c.requires.opens.held c.requires.done)
+    asks l c.requires.opens.held
 
 pub hand_on-requires : goal.hand_on-requires
 hand_on-requires c =
     let l = lent-names c.args.key.now c.requires.roomy c.put_bytes.ensures c.lend_name-a.ensures c.lend_key-b.ensures c.lend_name-d.ensures in
     hands_on c.args.op c.args.collection.now c.args.key.now c.args.other.now c.args.image.now (length c.args.out.now)
-    c.requires.opens c.requires.done l.begins c.answer-r.ensures c.kept.ensures
+    c.requires.opens l.begins c.answer-r.ensures c.kept-front.ensures
 
 pub shape_of-src : goal.shape_of-src
 shape_of-src c =
     c.lend_name-d.ensures.size ∙ c.lend_key-b.ensures.size ∙ c.lend_name-a.ensures.size ∙ ap length c.put_bytes.ensures ∙ length-written 0 _ _
 
 pub returns : goal.returns
-returns c =
+returns c written =
     let l = lent-names c.args.key.now c.requires.roomy c.put_bytes.ensures c.lend_name-a.ensures c.lend_key-b.ensures c.lend_name-d.ensures in
     handed c.args.op c.args.collection.now c.args.key.now c.args.other.now c.args.image.now (length c.args.out.now)
-    c.requires.opens c.requires.done l.begins c.answer-r.ensures c.hand_on.ensures
+    c.requires.opens l.begins c.answer-r.ensures (c.hand_on.ensures written)

@@ -1,27 +1,24 @@
 -- `running::run_steps`: the same, of the first n steps.
-use lib.ListN.{length}
+use Rattle.std.specs.Prelude.{length}
+use Rattle.std.proofs.lemmas.Result.{err_from_is_err_and}
 use Rattle.running.proofs.Handed.{steps-not-opened, no-steps-back, step-stands, steps-handed}
 use Rattle.running.proofs.run_steps.Goals as goal
 
-pub returns-then-o-ne0 : goal.returns-then-o-ne0
-returns-then-o-ne0 c =
-    steps-not-opened c.args.p c.args.n c.args.image.now (length c.args.out.now) (length c.args.step.now)
-    c.both-room.ensures c.open_image-o.ensures c.if-o-ne0.true
+pub returns-in_err-opened : goal.returns-in_err-opened
+returns-in_err-opened c =
+    let p = err_from_is_err_and c.from_residual.result c.from_residual.ensures.1 in
+    rw (p.1, p.2) (λ written step_written. steps-not-opened c.args.p c.args.n c.args.image.now (length c.args.out.now) (length c.args.step.now) (rw c.has_room.ensures at c.in_err-opened.ensures))
 
-pub run-r-requires : goal.run-r-requires
-run-r-requires c = c.open_image-o.ensures.held c.if-o-ne0.false
+pub returns-in_err-ran : goal.returns-in_err-ran
+returns-in_err-ran c =
+    let p = err_from_is_err_and c.from_residual-in_err-ran.result c.from_residual-in_err-ran.ensures.1 in
+    rw (p.1, p.2)
+    (λ written step_written. no-steps-back c.args.p c.args.n c.args.image.now (length c.args.out.now) (length c.args.step.now) (rw c.has_room.ensures at c.in_ok-opened.ensures) c.in_err-ran.ensures)
 
 pub hand_step-requires : goal.hand_step-requires
 hand_step-requires c =
-    step-stands c.args.p c.args.n c.args.image.now (length c.args.out.now) (length c.args.step.now)
-    c.both-room.ensures c.open_image-o.ensures c.if-o-ne0.false c.run-r.ensures c.if-back.true
-
-pub returns-then-back : goal.returns-then-back
-returns-then-back c =
-    steps-handed c.args.p c.args.n c.args.image.now (length c.args.out.now) (length c.args.step.now)
-    c.both-room.ensures c.open_image-o.ensures c.if-o-ne0.false c.run-r.ensures c.if-back.true c.hand_step.ensures
+    step-stands c.args.p c.args.n c.args.image.now (length c.args.out.now) (length c.args.step.now) (rw c.has_room.ensures at c.in_ok-opened.ensures) c.in_ok-ran.ensures
 
 pub returns : goal.returns
-returns c =
-    no-steps-back c.args.p c.args.n c.args.image.now (length c.args.out.now) (length c.args.step.now)
-    c.both-room.ensures c.open_image-o.ensures c.if-o-ne0.false c.run-r.ensures c.if-back.false
+returns c written step_written =
+    steps-handed c.args.p c.args.n c.args.image.now (length c.args.out.now) (length c.args.step.now) (rw c.has_room.ensures at c.in_ok-opened.ensures) c.in_ok-ran.ensures (c.hand_step.ensures written step_written)

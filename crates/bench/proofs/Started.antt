@@ -1,9 +1,8 @@
 -- A store that was decoded is one that steps can be done on.
-use mathlib.Core.Path.{◌≡◌, ap}
+use mathlib.Core.Path.{ap}
 use Prim.Native.Nat.{◌≤◌}
 use native.Mathlib.Omega.{arith}
 use mathlib.Core.List.{◌∷◌}
-use mathlib.Core.Bool.{true}
 use lib.ListN.{length, length-append}
 use Rattle.basics.specs.Name.{backup_extension, backup_name}
 use Rattle.spans.specs.Spans.{name_of, Backup}
@@ -14,33 +13,33 @@ use Rattle.basics.specs.Limits.{image_room}
 use Rattle.basics.specs.Base.{Bytes}
 use Rattle.model.specs.Store.{dirs, file_count}
 use Rattle.model.specs.Image.{encode}
-use Rattle.store.specs.Words.{Words}
-use Rattle.store.specs.Tables.{table_of, map_of}
-use Rattle.store.specs.Stores.{store_in, store_of}
+use Rattle.store.specs.Tables.{map_of}
+use Rattle.store.specs.Stores.{store_of}
 use Rattle.basic_laws.specs.Tests.{leb_le}
 use Rattle.laws.specs.ImageLaws.{parts, decode-only}
 use Rattle.basic_laws.specs.ValidNames.{valid_naming}
 use Rattle.laws.specs.LengthLaws.{encode-length}
 use Rattle.answer_laws.specs.EntryLaws.{lent-good}
-use Rattle.decode.specs.Decoding.{Decodes}
+use Rattle.decode.specs.Decoding.{Accepts}
 use Rattle.decode.specs.declared.Decoded.{Decoded}
 use Rattle.steps.specs.Steps.{Fits, FileName}
 
-pub started : (src : Bytes) (tree staging : Words) (d : Decoded) → Decodes src tree staging d → d.ok ≡ true → Fits src (store_in tree staging d.store)
-started src tree staging d h e =
-    let s = store_of src (store_in tree staging d.store) in
-    let p = parts s (decode-only src s (h.accepted e)).1 in
-    record {
-      sound = h.sound;
-      within = record {
-        dirs = leb_le (length (dirs (map_of src (table_of tree d.store.tree)))) 16 p.dirs_fit;
-        files = leb_le (file_count (map_of src (table_of tree d.store.tree))) 128 p.files_fit;
-      };
-    }
+module _ (src : Bytes) (d : Decoded) (h : Accepts src d) where
+  pub started : Fits src d.store
+  started =
+      let s = store_of src d.store in
+      let p = parts s (decode-only src s h.same).1 in
+      record {
+        sound = h.sound;
+        within = record {
+          dirs = leb_le (length (dirs (map_of src d.store.tree))) 16 p.dirs_fit;
+          files = leb_le (file_count (map_of src d.store.tree)) 128 p.files_fit;
+        };
+      }
 
--- Its image has at most so many bytes.
-pub image-room : (src : Bytes) (tree staging : Words) (d : Decoded) → Decodes src tree staging d → d.ok ≡ true → length (encode (store_of src (store_in tree staging d.store))) ≤ image_room
-image-room src tree staging d h e = let s = store_of src (store_in tree staging d.store) in encode-length valid_naming s (lent-good src s (h.accepted e))
+  -- Its image has at most so many bytes.
+  pub image-room : length (encode (store_of src d.store)) ≤ image_room
+  image-room = let s = store_of src d.store in encode-length valid_naming s (lent-good src s h.same)
 
 -- A backup name can be given to a rename.
 pub backup-name : (src : Bytes) (r : NameRef) (b : Option NameRef) → Backup src r b → IfSome b (FileName src)

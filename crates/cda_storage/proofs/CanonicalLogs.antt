@@ -15,6 +15,9 @@ use Rattle.answers.specs.Answers.{Answer, overwritten, whole_number, canonical_b
 use Rattle.basic_laws.specs.Tests.{All}
 use Rattle.basic_laws.specs.FieldLaws.{Byte}
 use Rattle.laws.specs.CanonicalLaws.{write_same}
+use Rattle.refusals.specs.Numbers.{number_of}
+use Rattle.refusals.specs.declared.Refusal.{Refusal}
+use Rattle.steps.proofs.Running.{some-number}
 use Rattle.answer_laws.specs.CanonicalLog.{eight, rewritten-length}
 use Rattle.field.specs.Writing as field
 use Rattle.field.proofs.Written.{written_then, written-front}
@@ -36,54 +39,54 @@ log-put status l out h r p q =
 
 -- The ways out.
 module _ (l out : Bytes) where
-  pub over-limit : log_limit < length l → {written : ℕ} → Gives (canonical_log l (length out)) 1 out out written written
+  pub over-limit : log_limit < length l → (written : ℕ) → Gives (canonical_log l (length out)) 1 out out written written
   unfolding canonical_log
-  over-limit h = left_alone refl (rw (lt-leb (length l) log_limit h))
+  over-limit h written = left_alone refl (rw (lt-leb (length l) log_limit h))
 
   module _ (h : length l ≤ log_limit) where
-    pub out-short : length out < length l → {written : ℕ} → Gives (canonical_log l (length out)) 2 out out written written
+    pub out-short : length out < length l → (written : ℕ) → Gives (canonical_log l (length out)) 2 out out written written
     unfolding canonical_log
-    out-short r = left_alone refl (rw (le-leb (length l) log_limit h, lt-leb (length l) (length out) r))
+    out-short r written = left_alone refl (rw (le-leb (length l) log_limit h, lt-leb (length l) (length out) r))
 
     module _ (r : length l ≤ length out) where
-      pub header-missing : valid_header l ≡ false → {written : ℕ} → Gives (canonical_log l (length out)) 21 out out written written
+      pub header-missing : valid_header l ≡ false → (written : ℕ) → Gives (canonical_log l (length out)) 21 out out written written
       unfolding canonical_log
-      header-missing v = left_alone refl (rw (le-leb (length l) log_limit h, le-leb (length l) (length out) r, v))
+      header-missing v written = left_alone refl (rw (le-leb (length l) log_limit h, le-leb (length l) (length out) r, v))
 
       module _ (v : true ≡ valid_header l) where
         pub put-asks : (8 ≤ length l) × (length l ≤ length out)
         put-asks = (eight l (sym v), r)
 
-        module _ {w : WalRead} (s : ReadsLog l 0 (length l) w) {number : ℕ} (n : number ≡ whole_number (ending_of w.ending)) where
+        module _ {w : WalRead} (s : ReadsLog l 0 (length l) w) where
           is : canonical_log l (length out) ≡ canonical_by (get_or l 1 0) (entries l).ops (entries l).end
           unfolding canonical_log
           is = rw (le-leb (length l) log_limit h, le-leb (length l) (length out) r, sym v)
 
-          by-ending : number ≡ whole_number (entries l).end
-          by-ending = n ∙ ap whole_number (read_whole l h s)
+          by-ending : {n : ℕ} → n ≡ whole_number (ending_of w.ending) → n ≡ whole_number (entries l).end
+          by-ending n = n ∙ ap whole_number (read_whole l h s)
 
-          pub not-whole : (number ≡ 0 → ⊥) → {written : ℕ} → Gives (canonical_log l (length out)) number out out written written
-          not-whole z {written} = subst (λ (a : Answer). Gives a number out out written written) (sym is) (go (entries l).end by-ending)
+          pub not-whole : (e : Refusal) → number_of e ≡ whole_number (ending_of w.ending) → (written : ℕ) → Gives (canonical_log l (length out)) (number_of e) out out written written
+          not-whole e n written = subst (λ (a : Answer). Gives a (number_of e) out out written written) (sym is) (go (entries l).end (by-ending n))
             where
-              go : (e : Ending) → number ≡ whole_number e → Gives (canonical_by (get_or l 1 0) (entries l).ops e) number out out written written
-              go whole q = absurd (z q)
+              go : (d : Ending) → number_of e ≡ whole_number d → Gives (canonical_by (get_or l 1 0) (entries l).ops d) (number_of e) out out written written
+              go whole q = absurd (some-number e q)
               go (truncated c) q = left_alone (rw q) (rw q)
               go undecodable q = left_alone (rw q) (rw q)
               go too_many q = left_alone (rw q) (rw q)
 
-          ended-whole : number ≡ 0 → (entries l).end ≡ whole
-          ended-whole z = go (entries l).end by-ending
+          ended-whole : 0 ≡ whole_number (ending_of w.ending) → (entries l).end ≡ whole
+          ended-whole n = go (entries l).end (by-ending n)
             where
-              go : (e : Ending) → number ≡ whole_number e → e ≡ whole
+              go : (d : Ending) → 0 ≡ whole_number d → d ≡ whole
               go whole q = refl
-              go (truncated c) q = absurd (omega (arith, z, q))
-              go undecodable q = absurd (omega (arith, z, q))
-              go too_many q = absurd (omega (arith, z, q))
+              go (truncated c) q = absurd (omega (arith, q))
+              go undecodable q = absurd (omega (arith, q))
+              go too_many q = absurd (omega (arith, q))
 
-          pub put_whole : All Byte l → number ≡ 0 → {out' : Bytes} {written : ℕ} → out' ≡ overwritten (with_status (get_or l 1 0) l) out
+          pub put_whole : All Byte l → 0 ≡ whole_number (ending_of w.ending) → {out' : Bytes} → out' ≡ overwritten (with_status (get_or l 1 0) l) out → (written : ℕ)
               → Gives (canonical_log l (length out)) 0 out out' written (length l)
-          put_whole b z p =
-              let e = ended-whole z in
+          put_whole b n p written =
+              let e = ended-whole n in
               let a : canonical_log l (length out) ≡ record { number = 0; image = write_log (get_or l 1 0) (entries l).ops; step = [] } = is ∙ rw e in
               gives refl (sym (ap (λ (x : Answer). x.number) a)) (sym (ap (λ (x : Answer). x.image) a ∙ write_same (get_or l 1 0) l b e))
               (record { same = p; size = sym (rewritten-length (get_or l 1 0) l (eight l (sym v))) })

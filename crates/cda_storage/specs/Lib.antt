@@ -1,3 +1,4 @@
+pub mod Handing
 pub mod Calls
 pub mod CutRule
 pub mod Kinds

@@ -1,59 +1,41 @@
 // The key list of a collection: its name is put behind the image, as the names of an operation are.
-ghost use Rattle.std.specs.Prelude.{length};
+ghost use Rattle.std.specs.Prelude.{ℕ, length};
 ghost use Rattle.basics.specs.Limits.{keys_room};
 ghost use Rattle.answers.specs.Answers.{list_keys};
-ghost use Rattle.handover.specs.Contract.{lent, room, Returns};
+ghost use Rattle.handover.specs.Contract.{lent, room};
 ghost use Rattle.recording.specs.Buffers.{Buffered};
+ghost use Rattle.handover.specs.Handing.{Hands};
 
-use handover::Opened;
-use store::Nodes;
+use decode::Decoded;
+use refusals::Refusal;
 
 fn list_in(
     src: &mut [u8],
     image: &[u8],
-    tree: &Nodes,
-    staging: &Nodes,
-    o: Opened,
+    opened: Decoded,
     collection: &[u8],
     out: &mut [u8],
-    written: &mut usize,
-) -> u32
-    requires { Buffered image.now keys_room (length out.old) tree.now staging.now o src.old }
-    ensures { Returns (list_keys (lent collection) (lent image) (room out)) result out written }
+) -> Result<usize, Refusal>
+    requires { Buffered image.now keys_room (length out.old) opened src.old }
+    ensures { Hands (list_keys (lent collection) (lent image) (room out)) result out }
 {
     field::put_bytes(src, 0, image);
-    let c = lend::lend_name(src, image.len(), collection);
-    let valid = c.valid;
-    if valid {
-        let s = o.store;
-        *written = local_collection::list_keys(src, tree, staging, s, c.name, out);
-        return 0;
-    }
-    6
+    let named = lend::lend_name(src, image.len(), collection);
+    let Some(name) = named.name else {
+        return Err(Refusal::InvalidName);
+    };
+    Ok(local_collection::list_keys(src, &opened.store, name, out))
 }
 
-pub fn list(image: &[u8], collection: &[u8], out: &mut [u8], written: &mut usize) -> u32
-    ensures { Returns (list_keys (lent collection) (lent image) (room out)) result out written }
+// The keys, and how many bytes they have.
+pub fn list(image: &[u8], collection: &[u8], out: &mut [u8]) -> Result<usize, Refusal>
+    ensures { Hands (list_keys (lent collection) (lent image) (room out)) result out }
 {
-    let mut tree = [[0u32; 3]; store::ROOM];
-    let mut staging = [[0u32; 3]; store::ROOM];
-    let o = handover::open_image(
-        image,
-        &mut tree,
-        &mut staging,
-        basics::KEYS_ROOM <= out.len(),
-    );
-    if o.number != 0 {
-        return o.number;
-    }
+    let opened = handover::open_image(image, basics::KEYS_ROOM <= out.len())?;
     if image.len() <= recording::SMALL_IMAGE {
         let mut src = [0u8; recording::SMALL_ROOM];
-        return list_in(
-            &mut src, image, &tree, &staging, o, collection, out, written,
-        );
+        return list_in(&mut src, image, opened, collection, out);
     }
     let mut src = [0u8; recording::SOURCE_ROOM];
-    list_in(
-        &mut src, image, &tree, &staging, o, collection, out, written,
-    )
+    list_in(&mut src, image, opened, collection, out)
 }

@@ -1,7 +1,8 @@
 // An answer as a line: its number, its step field, its pending word, its cause, and the fields of its output as words. A directory is `db/`, a file
 // `db/a=7`, a staging file `~s.tmp=9`, the log `log:` and its bytes, the open mark `open`, a key itself. An
 // inventory is its text, a log alone `log:` and its bytes.
-use questions::{Answer, Call, Part, Parts};
+use field::Fields;
+use questions::{Answer, Call, Part};
 use std::{fmt, io};
 
 // Bytes in hexadecimal.
@@ -54,11 +55,11 @@ fn put_part(rt: &impl Print, part: Part<'_>, dir: &[u8]) -> io::Result<()> {
 fn put_parts(rt: &impl Print, s: &[u8]) -> io::Result<()> {
     let first = questions::find(s, 0x10);
     let mut dir = first.unwrap_or(b"");
-    for (i, part) in Parts::of(s).enumerate() {
+    for (i, x) in Fields::of(s).enumerate() {
         if i != 0 {
             print!(rt; " ")?;
         }
-        let Ok(part) = part else {
+        let Some(part) = Part::of(s, x) else {
             return print!(rt; "?");
         };
         if part.tag == 0x10 {
@@ -81,8 +82,8 @@ fn put_names(rt: &impl Print, v: &[u8]) -> io::Result<()> {
 }
 
 fn put_step(rt: &impl Print, s: &[u8]) -> io::Result<()> {
-    let mut parts = Parts::of(s);
-    let Some(Ok(part)) = parts.next() else {
+    let first = Fields::of(s).next();
+    let Some(part) = first.and_then(|x| Part::of(s, x)) else {
         return print!(rt; "  [-]");
     };
     let tag = part.tag;

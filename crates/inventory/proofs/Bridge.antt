@@ -6,7 +6,6 @@ use Prim.Native.Nat.{ℕ, ◌≤◌, ◌<◌}
 use native.Mathlib.Omega.{arith}
 use lib.ListN.{length}
 use lib.Seq.{append_snoc}
-use borrow.Author.Tests.{le-leb, lt-leb}
 use Rattle.basics.specs.Order.{Name}
 use Rattle.basics.specs.Map.{Map}
 use Rattle.basics.specs.Base.{Bytes, flat_map}
@@ -17,8 +16,8 @@ use Rattle.basic_laws.specs.MapLaws.{Sorted}
 use Rattle.basic_laws.specs.ValidNames.{valid-named}
 use Rattle.laws.specs.ImageLaws.{node-parts, file-parts}
 use Rattle.answer_laws.specs.Collections.{ahead, following, by-following}
-use Rattle.field.proofs.Written.{written-full}
-use Rattle.text.specs.Writing.{written_count, Writes}
+use Rattle.text.specs.Writing.{Writes}
+use Rattle.text.proofs.Writes.{not_written, all_written}
 use Rattle.inventory.specs.Putting.{Puts}
 use Rattle.std.specs.Prelude.{None, Some}
 use Rattle.inventory.specs.declared.Kind.TheVariants.{Directory, File}
@@ -82,14 +81,8 @@ walked-text t v s = ap (λ (l : List Collection). object (map collection_member 
 
 -- The text, written whole or not at all. The first walk, into an output without room, told its length.
 module _ {text walk lent lent' : Bytes} {size : ℕ} (e : text ≡ walk) (w : Puts walk 0 lent lent' size) (out : Bytes) where
-  pub too_long : length out < size → Writes text out out 0
-  unfolding written_count
-  too_long h =
-      let l : length out < length walk = omega (arith, w.next) in
-      rw e record { count = rw (lt-leb (length walk) (length out) l); same = sym (written-full 0 walk out (omega (arith, w.next))) }
+  pub too_long : length out < size → Writes text out out None
+  too_long h = rw e (not_written (omega (arith, w.next)))
 
-  pub all-put : {after : Bytes} {n : ℕ} → size ≤ length out → Puts walk 0 out after n → Writes text out after n
-  unfolding written_count
-  all-put h p =
-      let l : length walk ≤ length out = omega (arith, w.next) in
-      rw e record { count = rw (le-leb (length walk) (length out) l) (omega (arith, p.next)); same = p.same (omega (arith, w.next)) }
+  pub all-put : {after : Bytes} {n : ℕ} → size ≤ length out → Puts walk 0 out after n → Writes text out after (Some n)
+  all-put h p = rw e (all_written (omega (arith, w.next)) (omega (arith, p.next)) (p.same (omega (arith, w.next))))

@@ -1,17 +1,19 @@
 -- A name between its quotes, and the parts of a node.
 use Rattle.std.specs.Prelude.{if◌then◌else◌}
-use mathlib.Core.Path.{◌≡◌, refl, sym, ap, subst, ◌∙◌}
+use mathlib.Core.Path.{◌≡◌, refl, sym, ap, ◌∙◌}
 use mathlib.Core.Bool.{Bool, true, false}
-use mathlib.Core.List.{[], ◌∷◌, ◌++◌, append_assoc}
-use Prim.Native.Nat.{ℕ, suc, ◌+◌, ◌*◌, ◌≤◌, ◌<◌}
+use mathlib.Core.List.{[], ◌∷◌, ◌++◌}
+use Prim.Native.Nat.{ℕ, ◌+◌, ◌*◌, ◌≤◌, ◌<◌}
 use native.Mathlib.Omega.{arith}
 use native.Mathlib.Numerals.{add-one}
-use lib.ListN.{length, drop, get_or, drop_of_length-le}
-use lib.Seq.{drop-cons}
+use lib.ListN.{length, take, get_or}
+use lib.Seq.{take-suc, take_all}
 use lib.Dec.{eqb}
 use Rattle.basics.specs.Order.{Name}
 use Rattle.basics.specs.Base.{Bytes}
 use Rattle.field.specs.Writing.{written}
+use Rattle.field.proofs.Written.{written-nil}
+use Rattle.std.proofs.lemmas.Grind.{flat_map-append}
 use Rattle.answers.specs.Answers.{decimal}
 use Rattle.answers.specs.Inventory.{escaped, quoted}
 use Rattle.basic_laws.specs.Tests.{eqb-eq}
@@ -22,7 +24,7 @@ use Rattle.std.specs.declared.option.Option.{Option}
 use Rattle.inventory.specs.declared.Kind.{Kind}
 use Rattle.inventory.specs.declared.Kind.TheVariants.{Directory, File}
 use Rattle.inventory.specs.Walk.{divider, ending, dir_text, file_text}
-use Rattle.inventory.proofs.Parts.{put, no_room, joined, as_text, Left, all_left, part-put, last-put}
+use Rattle.inventory.proofs.Parts.{put, no_room, joined, as_text}
 
 -- One byte.
 pub escaped_quote : (b : ℕ) → b ≡ 0x22 → 0x5C ∷ 0x22 ∷ [] ≡ escaped (b ∷ [])
@@ -37,45 +39,36 @@ escaped-plain b h = go (eqb b 0x22) refl
     go true e = absurd (h (eqb-eq b 0x22 e))
     go false e = refl
 
-escaped-next : (b : ℕ) (n : Name) → escaped (b ∷ n) ≡ escaped (b ∷ []) ++ escaped n
+escaped-append : (a b : Name) → escaped (a ++ b) ≡ escaped a ++ escaped b
 unfolding escaped
-escaped-next b n = go (eqb b 0x22)
-  where
-    go : (t : Bool) → (if t then 0x5C ∷ 0x22 ∷ [] else b ∷ []) ++ escaped n ≡ (if t then 0x5C ∷ 0x22 ∷ [] else b ∷ []) ++ [] ++ escaped n
-    go true = refl
-    go false = refl
+escaped-append a b = flat_map-append (λ (x : ℕ). if eqb x 0x22 then 0x5C ∷ 0x22 ∷ [] else x ∷ []) a b
 
--- The loop over a name: its bytes from i on, and the closing quote, are left.
-abbrev pub closing : Name → Bytes
-closing n = escaped n ++ 0x22 ∷ []
-
-closing-next : (b : ℕ) (n : Name) → closing (b ∷ n) ≡ escaped (b ∷ []) ++ closing n
-closing-next b n = ap (λ (r : Bytes). r ++ 0x22 ∷ []) (escaped-next b n) ∙ append_assoc (escaped (b ∷ [])) (escaped n) (0x22 ∷ [])
-
-pub record Quoting (n : Name) (at : ℕ) (out : Bytes) (i p : ℕ) (now : Bytes) : Type 0 where
+-- The loop over some bytes: the first i are put.
+pub record Quoting (n : Bytes) (at : ℕ) (out : Bytes) (i p : ℕ) (now : Bytes) : Type 0 where
   pub within : i ≤ length n
   pub bound : p ≤ at + 2 * i
-  pub left : Left (closing n) at out (closing (drop i n)) p now
+  pub done : Puts (escaped (take i n)) at out now p
 
-pub quoting : {n : Name} {at : ℕ} {out : Bytes} → Quoting n at out 0 at out
-quoting = record { within = omega arith; bound = omega arith; left = all_left }
+pub quoting : {n : Bytes} {at : ℕ} {out : Bytes} → Quoting n at out 0 at out
+unfolding escaped
+quoting {n} {at} {out} = record { within = omega arith; bound = omega arith; done = put {text = []} (sym (written-nil at out)) (omega arith) }
 
-module _ {n : Name} {at i p : ℕ} {out now : Bytes} (w : Quoting n at out i p now) where
-  pub byte_quoted : {b q : ℕ} {mid : Bytes} → i < length n → b ≡ get_or n i 0 → Puts (escaped (b ∷ [])) p now mid q × (q ≤ p + 2) → Quoting n at out (i + 1) q mid
-  byte_quoted {b} {q} {mid} h e x =
-      let shape : closing (drop i n) ≡ escaped (b ∷ []) ++ closing (drop (i + 1) n)
-      = ap closing (drop-cons n i 0 h ∙ ap (λ (y : ℕ). y ∷ drop (suc i) n) (sym e) ∙ ap (λ (j : ℕ). b ∷ drop j n) (sym (add-one i))) ∙ closing-next b (drop (i + 1) n) in
-      record {
-        within = omega arith;
-        bound = omega (arith, w.bound, x.1);
-        left = part-put {a = escaped (b ∷ [])} (subst (λ (r : Bytes). Left (closing n) at out r p now) shape w.left) x.0;
-      }
+module _ {n : Bytes} {at i p : ℕ} {out now : Bytes} (w : Quoting n at out i p now) where
+  pub byte_quoted : {q : ℕ} {mid : Bytes} → i < length n → Puts (escaped (get_or n i 0 ∷ [])) p now mid q × (q ≤ p + 2) → Quoting n at out (i + 1) q mid
+  byte_quoted {q} {mid} h x =
+      let shape : escaped (take i n) ++ escaped (get_or n i 0 ∷ []) ≡ escaped (take (i + 1) n) = rw (add-one i, take-suc n i 0 h) (sym (escaped-append (take i n) (get_or n i 0 ∷ []))) in
+      record { within = omega arith; bound = omega (arith, w.bound, x.1); done = as_text shape (joined w.done x.0) }
 
-  pub all-quoted : {first end : ℕ} {before after : Bytes} → i ≡ length n → Puts (0x22 ∷ []) first before out at × (at ≤ first + 2) → Puts (0x22 ∷ []) p now after end × (end ≤ p + 2) → Puts (quoted n) first before after end
-  unfolding quoted
-  all-quoted h x y =
-      let shape : closing (drop i n) ≡ 0x22 ∷ [] = unfold escaped in ap closing (drop_of_length-le n {i = i} (omega arith)) in
-      joined {a = 0x22 ∷ []} x.0 (last-put (subst (λ (r : Bytes). Left (closing n) at out r p now) shape w.left) y.0)
+  pub all-quoted : length n ≤ i → Puts (escaped n) at out now p × (p ≤ at + 2 * length n)
+  all-quoted h = (as_text (ap escaped (take_all i n h)) w.done, omega (arith, w.bound, w.within))
+
+-- A name's two slices between the quotes.
+pub quoted-put : (a b n : Bytes) {at p q r end : ℕ} {out first second third after : Bytes} → a ++ b ≡ n → Puts (0x22 ∷ []) at out first p → Puts (escaped a) p first second q → Puts (escaped b) q second third r
+    → Puts (0x22 ∷ []) r third after end → Puts (quoted n) at out after end
+unfolding quoted
+quoted-put a b n e x y z w =
+    let shape : escaped a ++ escaped b ≡ escaped n = sym (escaped-append a b) ∙ ap escaped e in
+    joined {a = 0x22 ∷ []} x (joined (as_text shape (joined y z)) w)
 
 -- A number.
 module _ {n k : ℕ} (d : Digits n k) where

@@ -1,18 +1,18 @@
 // The inventory as JSON, written at the front of the lent output: 02, item 9.
 #![tactic(auto)]
 
-ghost use Rattle.std.specs.Prelude.{◌≡◌, true, [], ◌∷◌, ◌+◌, ◌≤◌, None, length};
+ghost use Rattle.std.specs.Prelude.{◌≡◌, true, [], ◌∷◌, ◌+◌, ◌*◌, ◌≤◌, None, length};
 ghost use Rattle.model.specs.Store.{valid_nodes};
 ghost use Rattle.answers.specs.Answers.{decimal};
 ghost use Rattle.answers.specs.Inventory.{escaped, quoted, inventory_text};
 ghost use Rattle.spans.specs.Spans.{name_of, Sound};
-ghost use Rattle.store.specs.Tables.{table_of, node_of, map_of, SoundNode, SoundTable};
+ghost use Rattle.store.specs.Tables.{node_of, map_of, SoundNode, SoundTable};
 ghost use Rattle.text.specs.Writing.{Writes};
 ghost use Rattle.inventory.specs.Putting.{Puts, furthest};
 ghost use Rattle.inventory.specs.Walk.{IsKind, divider, ending, dir_text, file_text, node_text, text_from};
 
 use spans::NameRef;
-use store::{Node, Nodes};
+use store::{Node, Table};
 
 // What a node is.
 #[derive(Clone, Copy, Debug, PartialEq, Eq)]
@@ -63,17 +63,28 @@ fn put_escaped(b: u8, out: &mut [u8], at: usize) -> usize
     put(&[b], out, at)
 }
 
+// Some bytes of a name.
+fn put_part(s: &[u8], out: &mut [u8], at: usize) -> usize
+    requires { at + 2 * length s.now ≤ furthest }
+    ensures { Puts (escaped s.now) at out.old out.new result × (result ≤ at + 2 * length s.now) }
+{
+    let mut p = at;
+    for b in s {
+        p = put_escaped(*b, out, p);
+    }
+    p
+}
+
 // A name between double quotes.
 fn put_quoted(src: &[u8], name: NameRef, out: &mut [u8], at: usize) -> usize
     requires { Sound src.now name × (at + 150 ≤ furthest) }
     ensures { Puts (quoted (name_of src.now name)) at out.old out.new result × (result ≤ at + 130) }
 {
-    let n = spans::length_of(name);
-    let mut p = put(b"\"", out, at);
-    for i in 0..n {
-        p = put_escaped(spans::byte_at(src, name, i), out, p);
-    }
-    put(b"\"", out, p)
+    let (part, baks) = spans::slices(src, name);
+    let p = put(b"\"", out, at);
+    let q = put_part(part, out, p);
+    let r = put_part(baks, out, q);
+    put(b"\"", out, r)
 }
 
 // A content number in decimal.
@@ -92,7 +103,7 @@ fn put_number(n: u32, out: &mut [u8], at: usize) -> usize
 fn kind_of(x: Node) -> Kind
     ensures { IsKind x result }
 {
-    if spans::length_of(x.file) == 0 {
+    if x.is_dir() {
         Kind::Directory
     } else {
         Kind::File
@@ -139,31 +150,28 @@ fn put_node(src: &[u8], x: Node, before: Option<Kind>, out: &mut [u8], at: usize
 }
 
 // The whole text, at the front of the output.
-fn put_text(src: &[u8], t: &Nodes, n: usize, out: &mut [u8]) -> usize
-    requires { SoundTable src.now (table_of t.now n) }
-    ensures { Puts (0x7B ∷ text_from None (map_of src.now (table_of t.now n))) 0 out.old out.new result }
+fn put_text(src: &[u8], t: &Table, out: &mut [u8]) -> usize
+    requires { SoundTable src.now t.now }
+    ensures { Puts (0x7B ∷ text_from None (map_of src.now t.now)) 0 out.old out.new result }
 {
     let mut p = put(b"{", out, 0);
     let mut before = None;
-    let mut i: usize = 0;
-    while i < n {
-        let x = store::node_at(t, i);
-        p = put_node(src, x, before, out, p);
-        before = Some(kind_of(x));
-        i += 1;
+    for x in t.nodes.as_slice() {
+        p = put_node(src, *x, before, out, p);
+        before = Some(kind_of(*x));
     }
     put(ending(before), out, p)
 }
 
 // The text, written whole, or not at all where it has no room. The answer is how many bytes were written.
-pub fn put_inventory(src: &[u8], t: &Nodes, n: usize, out: &mut [u8]) -> usize
-    requires { SoundTable src.now (table_of t.now n) × (valid_nodes [] (map_of src.now (table_of t.now n)) ≡ true) }
-    ensures { Writes (inventory_text (map_of src.now (table_of t.now n))) out.old out.new result }
+pub fn put_inventory(src: &[u8], t: &Table, out: &mut [u8]) -> Option<usize>
+    requires { SoundTable src.now t.now × (valid_nodes [] (map_of src.now t.now) ≡ true) }
+    ensures { Writes (inventory_text (map_of src.now t.now)) out.old out.new result }
 {
     let mut none = [0u8; 1];
-    let size = put_text(src, t, n, &mut none);
+    let size = put_text(src, t, &mut none);
     if out.len() < size {
-        return 0;
+        return None;
     }
-    put_text(src, t, n, out)
+    Some(put_text(src, t, out))
 }

@@ -10,8 +10,9 @@ const LISTING_ROOM: usize = 19_113;
 
 fn list(rt: &(impl Print + Eprint), image: &[u8]) {
     let mut out = [0u8; LISTING_ROOM];
-    let n = listing::listing(image, &mut out);
-    if rt.write_all(&out[..n]).is_err() {
+    if let Some(n) = listing::listing(image, &mut out)
+        && rt.write_all(&out[..n]).is_err()
+    {
         let _ = eprintln!(rt; "list_store: the listing could not be written");
     }
 }

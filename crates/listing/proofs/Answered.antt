@@ -1,12 +1,12 @@
 -- The program's text, in its three ways: the image is refused, its log is refused, or the store is recovered.
 use mathlib.Core.Path.{◌≡◌, sym, ap, subst, ◌∙◌}
-use mathlib.Core.Bool.{Bool, true, false}
 use mathlib.Core.List.{[], ◌∷◌, ◌++◌}
 use mathlib.Core.Option.{none, some}
 use Prim.Native.Nat.{ℕ, ◌≤◌, ◌<◌}
 use native.Mathlib.Omega.{arith}
 use lib.ListN.{length}
 use lib.Seq.{append_snoc}
+use Rattle.std.specs.Prelude.{Option, None}
 use Rattle.basics.specs.Limits.{image_room}
 use Rattle.basics.specs.Base.{Bytes, flat_map}
 use Rattle.model.specs.Log.{journal}
@@ -18,16 +18,17 @@ use Rattle.basic_laws.specs.ValidNames.{valid_naming}
 use Rattle.laws.specs.ImageLaws.{decode-only}
 use Rattle.laws.specs.LengthLaws.{encode-length}
 use Rattle.answer_laws.specs.EntryLaws.{lent-good, on-recover}
-use Rattle.store.specs.Words.{Words}
-use Rattle.store.specs.Tables.{Table, table_of, map_of, Holds}
-use Rattle.store.specs.Stores.{store_in, store_of}
+use Rattle.store.specs.declared.Table.{Table}
+use Rattle.store.specs.Tables.{live, map_of, SoundTable}
+use Rattle.store.specs.Stores.{store_of}
 use Rattle.steps.specs.Steps.{Fits}
 use Rattle.steps.proofs.Room.{of-good}
 use Rattle.recovery.specs.declared.Recovered.{Recovered}
-use Rattle.recovery.specs.Recoveries.{recovery, Recovers}
-use Rattle.recovery.specs.RecoveryLaws as laws
+use Rattle.recovery.specs.Recoveries.{recovery, Done}
+use Rattle.recovery.specs.RecoveryLaws.{done-is}
 use Rattle.decode.specs.declared.Decoded.{Decoded}
-use Rattle.decode.specs.Decoding.{Decodes}
+use Rattle.decode.specs.Decoding.{Accepts}
+use Rattle.decode.proofs.Filling.{unused}
 use Rattle.text.specs.Writing.{Writes}
 use Rattle.listing.specs.Lines.{number_end, answer_line, lines_of, text_of}
 use Rattle.listing.specs.Room.{done-number}
@@ -61,27 +62,31 @@ module _ (b : Bytes) where
     all_done f = rw (d, f) (numbered 0 (done-number b s d f) (flat_map listing_line (recovered s).tree))
 
 -- The same text, written.
-same_text : {a b out after : Bytes} {n : ℕ} → a ≡ b → Writes b out after n → Writes a out after n
+same_text : {a b out after : Bytes} {n : Option ℕ} → a ≡ b → Writes b out after n → Writes a out after n
 same_text e w = rw e w
 
-module _ {b : Bytes} {t g : Words} {d : Decoded} (w : Decodes b t g d) {out after : Bytes} {k : ℕ} where
-  pub broken : {n : Table} → d.ok ≡ false → Holds b n [] → Writes (text_of 1 (map_of b n)) out after k → Writes (listing b) out after k
-  broken e h v = same_text (image-refused b (w.refused e) ∙ ap (text_of 1) (sym h.same)) v
+-- The text of a refusal: no node stands behind its number.
+pub no-nodes : (b : Bytes) {n : Table} → live n ≡ [] → SoundTable b n
+no-nodes b e = (unused e).sound
 
-  module _ (e : d.ok ≡ true) {limited : Bool} {u v : Words} {r : Recovered} (c : Recovers (recovery (store_of b (store_in t g d.store))) b (store_in t g d.store) limited 0 u v r) where
-    pub turned_down : {n : Table} → (r.number ≡ 0 → ⊥) → Holds b n [] → Writes (text_of r.number (map_of b n)) out after k → Writes (listing b) out after k
-    turned_down z h v = same_text (log-refused b (w.accepted e) (laws.refused c z) ∙ ap (text_of r.number) (sym h.same)) v
+module _ (b : Bytes) {n : Table} (e : live n ≡ []) (r : ℕ) {out after : Bytes} {k : Option ℕ} (v : Writes (text_of r (map_of b n)) out after k) where
+  refused : listing b ≡ text_of r [] → Writes (listing b) out after k
+  refused h = same_text (h ∙ ap (text_of r) (sym (unused {src = b} e).same)) v
 
-    pub listed : limited ≡ false → r.number ≡ 0 → Writes (text_of 0 (map_of b (table_of u r.run.store.tree))) out after k → Writes (listing b) out after k
-    unfolding recovered
-    listed l z v = same_text (all_done b (w.accepted e) (laws.not-refused c z) ∙ ap (λ (s : model.Store). text_of 0 s.tree) (laws.done-is c z l)) v
+  pub broken : decode b ≡ none → r ≡ 1 → Writes (listing b) out after k
+  broken d z = refused (rw z (image-refused b d))
 
--- An image that is read can be recovered.
-module _ {b : Bytes} {t g : Words} {d : Decoded} (w : Decodes b t g d) (e : d.ok ≡ true) where
-  pub fitting : Fits b (store_in t g d.store)
-  fitting = record { sound = w.sound; within = of-good (lent-good b (store_of b (store_in t g d.store)) (w.accepted e)) }
+  pub turned_down : {d : Decoded} {m : ℕ} → Accepts b d → recover_fault (journal (store_of b d.store).log) (map_of b d.store.tree) ≡ some m → r ≡ m → Writes (listing b) out after k
+  turned_down w f z = refused (rw z (log-refused b w.same f))
+
+-- An image that is read can be recovered, and its text is that of what recovery leaves.
+module _ {b : Bytes} {d : Decoded} (w : Accepts b d) where
+  pub fitting : Fits b d.store
+  fitting = record { sound = w.sound; within = of-good (lent-good b (store_of b d.store) w.same) }
 
   pub short : length b ≤ 0xFFFF
-  short =
-      let a = w.accepted e in
-      omega (arith, ap length (decode-only b (store_of b (store_in t g d.store)) a).0, encode-length valid_naming (store_of b (store_in t g d.store)) (lent-good b (store_of b (store_in t g d.store)) a))
+  short = omega (arith, ap length (decode-only b (store_of b d.store) w.same).0, encode-length valid_naming (store_of b d.store) (lent-good b (store_of b d.store) w.same))
+
+  pub listed : {r : Recovered} {out after : Bytes} {k : Option ℕ} → Done (recovery (store_of b d.store)) b d.store None r → Writes (text_of 0 (map_of b r.run.store.tree)) out after k → Writes (listing b) out after k
+  unfolding recovered
+  listed c v = same_text (all_done b w.same c.allowed ∙ ap (λ (s : model.Store). text_of 0 s.tree) (done-is c)) v

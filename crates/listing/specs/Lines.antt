@@ -5,7 +5,8 @@ use Rattle.basics.specs.Base.{Bytes, flat_map}
 use Rattle.answers.specs.Answers.{decimal, listing_line}
 use Rattle.store.specs.declared.Node.{Node}
 use Rattle.store.specs.Places.{table_room}
-use Rattle.store.specs.Tables.{Table, node_of, map_of, SoundNode, SoundTable}
+use Rattle.store.specs.declared.Table.{Table}
+use Rattle.store.specs.Tables.{node_of, map_of, SoundNode, SoundTable}
 
 -- What a line ends in that has a number: a space, the number in decimal, a line feed.
 unfoldable pub number_end : ℕ → Bytes

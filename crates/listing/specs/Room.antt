@@ -1,7 +1,8 @@
 -- No text of the listing program is longer than 19,113 bytes: "answer 0", at most 16 directories' lines of at most 66 bytes and at most
 -- 128 files' lines of at most 141, line feeds included.
-use Rattle.std.specs.Prelude.{◌≡◌, refl, Bool, true, false, [], ◌∷◌, ◌++◌, ℕ, ◌+◌, ◌*◌, ◌≤◌, length, drop, leb, if◌then◌else◌}
-use Rattle.std.proofs.Common.{sym, ap, ◌∙◌, arith, length-append}
+use Rattle.std.specs.Prelude.{◌≡◌, refl, Bool, true, false, [], ◌∷◌, ◌++◌, ℕ, ◌+◌, ◌*◌, ◌≤◌, length, drop, if◌then◌else◌, Some, IfSome}
+use Rattle.std.specs.Prelude as std
+use Rattle.std.proofs.Common.{sym, arith, length-append}
 use Rattle.std.proofs.Math.Option.{Option, none, some}
 use Rattle.basics.specs.Limits.{image_room}
 use Rattle.basics.specs.Order.{Name}
@@ -12,7 +13,7 @@ use Rattle.model.specs.Store.{Store}
 use Rattle.model.specs.Image.{decode}
 use Rattle.model.specs.Plan.{recover_fault, recovered}
 use Rattle.answers.specs.Answers.{recover_store, recover, decimal, listing_line, listing}
-use Rattle.basic_laws.specs.Tests.{nil≢cons, leb_le, All}
+use Rattle.basic_laws.specs.Tests.{nil≢cons, All}
 use Rattle.basic_laws.specs.MapLaws.{look-all}
 use Rattle.basic_laws.specs.ValidNames.{Naming, restored_naming}
 use Rattle.laws.specs.TreeLaws.{NodeGood, size, is_file, is_dir}
@@ -20,8 +21,8 @@ use Rattle.laws.specs.StoreLaws.{Tree}
 use Rattle.laws.specs.WellFormed.{recover-keeps, recovered-keeps}
 use Rattle.answer_laws.specs.EntryLaws.{lent-good}
 use Rattle.answer_laws.specs.DecimalLaws.{decimal-length}
-use Rattle.field.proofs.Written.{length-written}
-use Rattle.text.specs.Writing.{written_count, Writes, in_room_lem}
+use Rattle.text.specs.Writing.{Writes, in_room_lem}
+use Rattle.text.proofs.Writes.{within}
 
 abbrev pub listing_room : ℕ
 listing_room = 19_113
@@ -79,17 +80,9 @@ listing-length b = go (decode b) refl
             omega (arith, text-length number (flat_map listing_line (recovered s).tree), tree-length restored_naming (recovered s).tree (recovered-keeps s (recover-keeps s (lent-good b s d))).tree)
 
 -- For callers: an output of so many bytes holds the text at its front, and its bytes behind it are as they were.
-pub listed-whole : (b : Bytes) {out after : Bytes} {n : ℕ} → Writes (listing b) out after n → listing_room ≤ length out → (n ≡ length (listing b)) × (after ≡ listing b ++ drop (length (listing b)) out)
+pub listed-whole : (b : Bytes) {out after : Bytes} {n : std.Option ℕ} → Writes (listing b) out after n → listing_room ≤ length out → (n ≡ Some (length (listing b))) × (after ≡ listing b ++ drop (length (listing b)) out)
 listed-whole b e h = in_room_lem e (omega (arith, listing-length b))
 
 -- Never are more bytes counted than the output has.
-pub listed-within : {text out after : Bytes} {n : ℕ} → Writes text out after n → n ≤ length after
-unfolding written_count
-listed-within {text} {out} {after} {n} e = go (leb (length text) (length out)) refl e.count
-  where
-    size : length after ≡ length out
-    size = ap length e.same ∙ length-written 0 text out
-
-    go : (t : Bool) → leb (length text) (length out) ≡ t → n ≡ (if t then length text else 0) → n ≤ length after
-    go true h z = omega (arith, leb_le (length text) (length out) h, size)
-    go false h z = omega arith
+pub listed-within : {text out after : Bytes} {n : std.Option ℕ} → Writes text out after n → IfSome n (λ k. k ≤ length after)
+listed-within = within

@@ -36,7 +36,7 @@ use cda_storage::{
     cda_storage_log_cause, cda_storage_recover, cda_storage_recover_step, cda_storage_revert,
     cda_storage_revert_step, cda_storage_rollback, cda_storage_write,
 };
-pub use layout::{NoField, Part, Parts, byte, find, value};
+pub use layout::{Part, byte, find, value};
 pub use list::{open_list, read_next};
 use rotation::cda_storage_rotate;
 

@@ -8,44 +8,30 @@ ghost use Rattle.rotation.specs.Asking.{has_file};
 ghost use Rattle.handover.specs.Contract.{lent, room, Returns};
 ghost use Rattle.recording.specs.Buffers.{Buffered};
 
-use handover::Opened;
-use store::Nodes;
+use decode::Decoded;
 
 // Whether the collection has a file, once the image is read: its name is put behind the image.
-fn has_file_in(
-    src: &mut [u8],
-    image: &[u8],
-    tree: &Nodes,
-    staging: &Nodes,
-    o: Opened,
-    name: &[u8],
-) -> bool
-    requires { Buffered image.now 0 0 tree.now staging.now o src.old }
+fn has_file_in(src: &mut [u8], image: &[u8], opened: Decoded, name: &[u8]) -> bool
+    requires { Buffered image.now 0 0 opened src.old }
     ensures { result ≡ has_file (lent name) (lent image) }
 {
     field::put_bytes(src, 0, image);
-    let c = lend::lend_name(src, image.len(), name);
-    let valid = c.valid;
-    if valid {
-        let s = o.store;
-        let empty = store::is_dir_empty(src, tree, s.tree, c.name);
-        return !empty;
+    let named = lend::lend_name(src, image.len(), name);
+    match named.name {
+        Some(c) => !opened.store.tree.is_dir_empty(src, c),
+        None => false,
     }
-    false
 }
 
 // Whether a collection of the image has a file; an image that is refused has none.
 fn has_file(image: &[u8], name: &[u8]) -> bool
     ensures { result ≡ has_file (lent name) (lent image) }
 {
-    let mut tree = [[0u32; 3]; store::ROOM];
-    let mut staging = [[0u32; 3]; store::ROOM];
-    let o = handover::open_image(image, &mut tree, &mut staging, true);
-    if o.number != 0 {
+    let Ok(opened) = handover::open_image(image, true) else {
         return false;
-    }
+    };
     let mut src = [0u8; recording::SOURCE_ROOM];
-    has_file_in(&mut src, image, &tree, &staging, o, name)
+    has_file_in(&mut src, image, opened, name)
 }
 
 // Copies current to backup and next to current, and deletes next, as one transaction. Refusals: 1, 2, 3, 17, 19, 20; 14 and 15 hand back the commit's image.

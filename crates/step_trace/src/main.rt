@@ -43,8 +43,9 @@ fn put(rt: &(impl Print + Eprint), trace: &Trace)
     requires { steps_of trace.now < 0xFFFF_FFFF }
 {
     let mut out = [0u8; LINE_ROOM];
-    let n = trace.put_line(&mut out);
-    if rt.write_all(&out[..n]).is_err() {
+    if let Some(n) = trace.put_line(&mut out)
+        && rt.write_all(&out[..n]).is_err()
+    {
         let _ = eprintln!(rt; "step_trace: the line could not be written");
     }
 }

@@ -4,10 +4,16 @@ use mathlib.Core.List.{[], ◌∷◌}
 use Prim.Native.Nat.{ℕ, zero, suc, ◌+◌, ◌-◌, ◌≤◌, ◌<◌}
 use native.Mathlib.Omega.{arith}
 use lib.ListN.{length, take, drop, get_or, length-drop}
-use lib.Seq.{drop-cons, drop-drop}
+use lib.Seq.{drop-cons, drop-drop, length-take-le}
 use borrow.Author.Tests.{le-leb, lt-leb}
+use Rattle.std.specs.Prelude.{Err}
 use Rattle.basics.specs.Base.{Bytes}
-use Rattle.basics.specs.Field.{from_little_endian}
+use Rattle.basics.specs.Field.{little_endian, from_little_endian, encode_field}
+use Rattle.basic_laws.specs.FieldLaws.{le_two}
+use Rattle.field.specs.Reading.{Reads, Stands}
+use Rattle.field.specs.declared.Item.{Item}
+use Rattle.field.specs.declared.Broken.{Broken}
+use Rattle.field.specs.declared.Broken.TheVariants.{NoHeader, NoValue}
 use Rattle.trace.specs.Line.{image_length}
 
 -- A field that is there whole is passed over; one that is cut short takes what is left.
@@ -67,23 +73,22 @@ module _ {s : Bytes} {at : ℕ} (w : Walked s at) where
           let a = cut_short (2 + from_little_endian (take 2 (drop (suc at) s))) (drop (suc at) s) c in
           (omega arith, sym (w.same ∙ (rw (behind ∙ ap suc a) (omega (arith, rest)))))
 
-      pub walked-headless : length s - at < 3 → (length s ≤ length s) × (length s ≡ image_length 0 s)
-      walked-headless f = cut (omega (arith, rest))
+      pub walked-broken : (b : Broken) → Reads s at (Err b) → (length s ≤ length s) × (length s ≡ image_length 0 s)
+      walked-broken NoHeader f = cut (omega (arith, rest, f.few))
+      walked-broken NoValue f =
+          let k : at + 1 ≡ suc at = omega arith in
+          cut (omega (arith, rest, f.head, rw k at f.past))
 
-      module _ (f : 3 ≤ length s - at) {n : ℕ} (v : n ≡ from_little_endian (get_or s (at + 1) 0 ∷ get_or s (at + 2) 0 ∷ [])) where
-        size : from_little_endian (take 2 (drop (suc at) s)) ≡ n
+      module _ {x : Item} (f : Stands s at x) where
+        size : from_little_endian (take 2 (drop (suc at) s)) ≡ x.end - x.start
+        unfolding encode_field little_endian
         size =
-            let a : at + 1 ≡ suc at = omega arith in
-            let b : at + 2 ≡ suc (suc at) = omega arith in
-            ap (λ (l : Bytes). from_little_endian (take 2 l)) (drop-cons s (suc at) 0 (omega arith))
-            ∙ ap (λ (l : Bytes). from_little_endian (get_or s (suc at) 0 ∷ take 1 l)) (drop-cons s (suc (suc at)) 0 (omega arith))
-            ∙ sym (v ∙ rw (a, b))
+            let l : length (take (x.end - x.start) (drop x.start s)) ≡ x.end - x.start = length-take-le (x.end - x.start) (drop x.start s) (omega (arith, length-drop x.start s, f.within)) in
+            ap (λ (l : Bytes). from_little_endian (take 2 (drop 1 l))) (sym front ∙ f.bytes) ∙ le_two (length (take (x.end - x.start) (drop x.start s))) (rw l f.short) ∙ l
 
-        pub walked-valueless : length s - at - 3 < n → (length s ≤ length s) × (length s ≡ image_length 0 s)
-        walked-valueless g = cut (rw size (omega (arith, rest)))
-
-        pub walked_on : n ≤ length s - at - 3 → Walked s (at + (3 + n))
-        walked_on g =
-            let a = passed (2 + n) (drop (suc at) s) (omega (arith, rest)) in
-            let d : drop (2 + n) (drop (suc at) s) ≡ drop (at + (3 + n)) s = drop-drop (2 + n) (suc at) s ∙ (let k : suc at + (2 + n) ≡ at + (3 + n) = omega arith in rw k) in
-            record { within = omega arith; same = w.same ∙ rw (behind, size, a, d) (omega arith) }
+        pub walked_on : Walked s x.end
+        walked_on =
+            let n = x.end - x.start in
+            let a = passed (2 + n) (drop (suc at) s) (omega (arith, rest, f.start, f.ordered, f.within)) in
+            let d : drop (2 + n) (drop (suc at) s) ≡ drop x.end s = drop-drop (2 + n) (suc at) s ∙ (let k : suc at + (2 + n) ≡ x.end = omega (arith, f.start, f.ordered) in rw k) in
+            record { within = f.within; same = w.same ∙ rw (behind, size, a, d) (omega (arith, f.start, f.ordered)) }

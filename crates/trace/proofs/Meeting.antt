@@ -6,9 +6,14 @@ use mathlib.Core.List.{[], ◌∷◌, ◌++◌, append_assoc}
 use Prim.Native.Nat.{ℕ, zero, suc, ◌+◌, ◌≤◌, ◌<◌}
 use native.Mathlib.Omega.{arith}
 use lib.ListN.{length, take, drop, get_or}
+use lib.Dec.{eqb}
 use lib.Seq.{length-take-le, take-suc, take_all, take-append_seam, drop-append_seam, get_or-take}
+use Rattle.std.proofs.lemmas.Bool.{eqb-false}
 use Rattle.basics.specs.Base.{Bytes, if_empty, same_bytes}
 use Rattle.basic_laws.specs.Tests.{same-eq, same_refl}
+use Rattle.refusals.specs.Numbers.{number_of}
+use Rattle.refusals.specs.declared.Refusal.{Refusal}
+use Rattle.steps.proofs.Running.{some-number}
 use Rattle.trace.specs.Line.{steps_line, differs_line, answer_line, line_from}
 use Rattle.trace.specs.Tracking.{step_behind, told, Due, Tracks, Fresh, Goes}
 use Rattle.trace.specs.declared.Trace.{Trace}
@@ -63,16 +68,16 @@ module _ (image : Bytes) (n : ℕ) {k : ℕ} (e : k ≡ (step_behind image n).nu
     };
   }
 
-  pub fresh-refused : (k ≡ 0 → ⊥) → (k ≡ 16 → ⊥) → Fresh image n (Refused k)
-  fresh-refused z p = record {
+  pub fresh-refused : (r : Refusal) → k ≡ number_of r → eqb (number_of r) 16 ≡ false → Fresh image n (Refused r)
+  fresh-refused r f p = record {
     steps = omega arith;
     tracks = λ b h. record { stands = tt; line = λ l. h l ∙ go (next image n) l };
   }
     where
-      go : Next image n (step_behind image n) → (l : Bytes) → line_from image n l ≡ answer_line k
-      go (refused j m y q o g) l = g n l ∙ ap answer_line (sym m ∙ sym e)
-      go (ended m y g) l = absurd (p (e ∙ m))
-      go (ahead m y g) l = absurd (z (e ∙ m))
+      go : Next image n (step_behind image n) → (l : Bytes) → line_from image n l ≡ answer_line (number_of r)
+      go (refused j m y q o g) l = g n l ∙ ap answer_line (sym m ∙ sym e ∙ f)
+      go (ended m y g) l = absurd (eqb-false (number_of r) 16 p (sym f ∙ e ∙ m))
+      go (ahead m y g) l = absurd (some-number r (sym f ∙ e ∙ m))
 
 -- A byte x comes.
 module _ (image : Bytes) (x : ℕ) where
@@ -81,8 +86,8 @@ module _ (image : Bytes) (x : ℕ) where
   on {b} w l = ap (line_from image 0) (append_assoc b (x ∷ []) l) ∙ w.line (x ∷ l)
 
   -- Where the line is told already, it stays.
-  pub still-refused : (k : ℕ) → Goes image (x ∷ []) (Refused k) (Refused k)
-  still-refused k = record { steps = omega arith; tracks = λ b w. record { stands = tt; line = on w } }
+  pub still-refused : (r : Refusal) → Goes image (x ∷ []) (Refused r) (Refused r)
+  still-refused r = record { steps = omega arith; tracks = λ b w. record { stands = tt; line = on w } }
 
   pub still-differs : (n : ℕ) → Goes image (x ∷ []) (Differs n) (Differs n)
   still-differs n = record { steps = omega arith; tracks = λ b w. record { stands = tt; line = on w } }

@@ -1,5 +1,5 @@
 -- The line, where no byte follows, and how it is written.
-use Rattle.std.specs.Prelude.{if◌then◌else◌}
+use Rattle.std.specs.Prelude.{Option, None, Some, if◌then◌else◌}
 use mathlib.Core.Path.{◌≡◌, refl, sym, ap, ◌∙◌}
 use mathlib.Core.Bool.{Bool, true, false}
 use mathlib.Core.List.{[], ◌∷◌, ◌++◌, append_assoc, append-nil}
@@ -7,15 +7,16 @@ use Prim.Native.Nat.{ℕ, suc, ◌+◌, ◌≤◌, ◌<◌}
 use native.Mathlib.Omega.{arith}
 use lib.ListN.{length, take, drop, length-append}
 use lib.Seq.{take_all, length-take-le}
-use lib.Dec.{leb}
-use borrow.Author.Tests.{le-leb, lt-leb, leb-true}
 use Rattle.basics.specs.Base.{Bytes, same_bytes}
 use Rattle.answers.specs.Answers.{decimal}
 use Rattle.basic_laws.specs.Tests.{same-eq}
 use Rattle.field.specs.Writing.{written}
-use Rattle.field.proofs.Written.{written-full, written_then, length-written}
+use Rattle.field.proofs.Written.{written_then, length-written}
 use Rattle.text.specs.Digits.{Digits}
-use Rattle.text.specs.Writing.{written_count, Writes}
+use Rattle.text.specs.Writing.{Writes}
+use Rattle.text.proofs.Writes.{not_written, all_written}
+use Rattle.refusals.specs.Numbers.{number_of}
+use Rattle.refusals.specs.declared.Refusal.{Refusal}
 use Rattle.trace.specs.Line.{said, steps_line, differs_line, answer_line, line_from}
 use Rattle.trace.specs.Tracking.{step_behind, told, Due, Tracks}
 use Rattle.trace.specs.declared.Trace.{Trace}
@@ -37,30 +38,22 @@ module _ (word : Bytes) (n : ℕ) {k : ℕ} (d : Digits n k) where
   said-is = refl
 
   -- No room.
-  pub unsaid : (out : Bytes) → length out < length word + 2 + k → Writes (said word n) out out 0
-  unfolding written_count
-  unsaid out h = record {
-    count = rw (lt-leb (length (said word n)) (length out) (omega (arith, said-length)));
-    same = sym (written-full 0 (said word n) out (omega (arith, said-length)));
-  }
+  pub unsaid : (out : Bytes) → length out < length word + 2 + k → Writes (said word n) out out None
+  unsaid out h = not_written (omega (arith, said-length))
 
   module _ (out : Bytes) (h : length word + 2 + k ≤ length out) where
     pub decimal-asks : {a b : Bytes} → a ≡ written 0 word out → b ≡ written (length word) (0x20 ∷ []) a → length word + 1 + length (decimal 10 n) ≤ length b
     decimal-asks {a} p q = omega (arith, digits_long, ap length p, length-written 0 word out, ap length q, length-written (length word) (0x20 ∷ []) a)
 
     pub said_all : {a b c e : Bytes} → a ≡ written 0 word out → b ≡ written (length word) (0x20 ∷ []) a → c ≡ written (length word + 1) (decimal 10 n) b
-        → e ≡ written (length word + 1 + k) (0x0A ∷ []) c → Writes (said word n) out e (length word + 2 + k)
-    unfolding written_count
+        → e ≡ written (length word + 1 + k) (0x0A ∷ []) c → Writes (said word n) out e (Some (length word + 2 + k))
     said_all p q r s =
         let x = length-append word (0x20 ∷ []) in
         let y = length-append (word ++ 0x20 ∷ []) (decimal 10 n) in
         let one = written_then 0 (length word) word (0x20 ∷ []) out p q (omega arith) (omega arith) in
         let two = written_then 0 (length word + 1) (word ++ 0x20 ∷ []) (decimal 10 n) out one r (omega (arith, x)) (omega (arith, digits_long)) in
         let all = written_then 0 (length word + 1 + k) ((word ++ 0x20 ∷ []) ++ decimal 10 n) (0x0A ∷ []) out two s (omega (arith, x, y, digits_long)) (omega arith) in
-        record {
-          count = sym (rw (le-leb (length (said word n)) (length out) (omega (arith, said-length))) said-length);
-          same = all ∙ whole;
-        }
+        all_written (omega (arith, said-length)) (sym said-length) (all ∙ whole)
       where
         whole : written 0 (((word ++ 0x20 ∷ []) ++ decimal 10 n) ++ 0x0A ∷ []) out ≡ written 0 (said word n) out
         whole = ap (λ (m : Bytes). written 0 (m ++ 0x0A ∷ []) out) (append_assoc word (0x20 ∷ []) (decimal 10 n)) ∙ ap (λ (m : Bytes). written 0 m out) (sym said-is)
@@ -73,19 +66,7 @@ shorter f q h = go (same_bytes f q) refl
     go true e = absurd (omega (arith, h, ap length (same-eq f q e)))
     go false e = refl
 
--- Never are more bytes counted than the output has.
-pub line-within : {line out after : Bytes} {n : ℕ} → Writes line out after n → n ≤ length after
-unfolding written_count
-line-within {line} {out} {after} {n} e = go (leb (length line) (length out)) refl e.count
-  where
-    size : length after ≡ length out
-    size = ap length e.same ∙ length-written 0 line out
-
-    go : (t : Bool) → leb (length line) (length out) ≡ t → n ≡ (if t then length line else 0) → n ≤ length after
-    go true h z = omega (arith, leb-true (length line) (length out) h, size)
-    go false h z = omega arith
-
-same_text : {a b out after : Bytes} {n : ℕ} → a ≡ b → Writes b out after n → Writes a out after n
+same_text : {a b out after : Bytes} {n : Option ℕ} → a ≡ b → Writes b out after n → Writes a out after n
 same_text e w = rw e w
 
 -- What a trace tells is the line, where no byte follows.
@@ -123,9 +104,9 @@ cut_off {image} {n} {m} {f} d h = go (next image n)
         ∙ rw (u, shorter (step_behind image n).step (take m f ++ []) (omega (arith, ap length d.same)))
 
 -- The line that is written, for each trace.
-module _ {out after : Bytes} {k : ℕ} where
-  pub tells_answer : (n : ℕ) → Writes (answer_line n) out after k → (image b : Bytes) → Tracks image b (Refused n) → Writes (line_from image 0 b) out after k
-  tells_answer n v image b w = same_text (ends w) v
+module _ {out after : Bytes} {k : Option ℕ} where
+  pub tells_answer : (r : Refusal) {n : ℕ} → n ≡ number_of r → Writes (answer_line n) out after k → (image b : Bytes) → Tracks image b (Refused r) → Writes (line_from image 0 b) out after k
+  tells_answer r e v image b w = same_text (ends w) (rw e at v)
 
   pub tells_steps : (n : ℕ) (f : ArrayVec ℕ) → Writes (steps_line n) out after k → (image b : Bytes) → Tracks image b (Along n f 0) → Writes (line_from image 0 b) out after k
   tells_steps n f v image b w = same_text (ends w ∙ all-met w.stands) v

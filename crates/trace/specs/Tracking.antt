@@ -3,6 +3,7 @@ use Rattle.std.specs.Prelude.{◌≡◌, ◌++◌, ℕ, suc, ◌+◌, ◌≤◌,
 use Rattle.basics.specs.Limits.{image_room, step_room}
 use Rattle.basics.specs.Base.{Bytes}
 use Rattle.answers.specs.Answers.{Answer, commit_step}
+use Rattle.refusals.specs.Numbers.{number_of}
 use Rattle.trace.specs.Line.{differs_line, answer_line, line_from}
 use Rattle.trace.specs.declared.Trace.{Trace}
 use Rattle.trace.specs.declared.Trace.TheVariants.{Refused, Along, Differs}
@@ -13,13 +14,13 @@ step_behind image n = commit_step (suc n) image image_room step_room
 
 -- How many steps were met; none where the commit is refused.
 abbrev pub steps_of : Trace → ℕ
-steps_of (Refused k) = 0
+steps_of (Refused r) = 0
 steps_of (Along n f m) = n
 steps_of (Differs n) = n
 
 -- The line, if these bytes follow.
 abbrev pub told : Bytes → Trace → Bytes → Bytes
-told image (Refused k) l = answer_line k
+told image (Refused r) l = answer_line (number_of r)
 told image (Along n f m) l = line_from image n (take m f.items ++ l)
 told image (Differs n) l = differs_line (suc n)
 
@@ -31,7 +32,7 @@ pub record Due (image : Bytes) (n : ℕ) (field : Bytes) (met : ℕ) : Type 0 wh
 
 -- What is known of a trace beside its line.
 abbrev pub Stands : Bytes → Trace → Type 0
-Stands image (Refused k) = Unit {0}
+Stands image (Refused r) = Unit {0}
 Stands image (Along n f m) = Due image n f.items m
 Stands image (Differs n) = Unit {0}
 

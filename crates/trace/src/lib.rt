@@ -2,27 +2,26 @@
 // may be of any length. Each step's field comes of a run of the plan up to it.
 #![tactic(auto)]
 
-ghost use Rattle.std.specs.Prelude.{◌≡◌, true, [], ◌∷◌, ◌+◌, ◌≤◌, ◌<◌, length};
+ghost use Rattle.std.specs.Prelude.{◌≡◌, true, [], ◌∷◌, ◌+◌, ◌≤◌, ◌<◌, IfSome, length, eqb};
 ghost use Rattle.basics.specs.Base.{Bytes};
+ghost use Rattle.refusals.specs.Numbers.{number_of};
 ghost use Rattle.text.specs.Writing.{Writes};
 ghost use Rattle.trace.specs.Line.{image_length, said, line_from};
 ghost use Rattle.trace.specs.Tracking.{steps_of, Tracks, Fresh, Goes};
 
 use arrayvec::ArrayVec;
+use refusals::Refusal;
 use running::Planned;
-
-// What a step entry answers past the plan's end.
-const PAST_END: u32 = 16;
 
 // How far a trace is the plan's.
 #[derive(Drop)]
 pub enum Trace {
-    // The commit is refused with this number, 1 or 4.
-    Refused(u32),
+    // The commit is refused, with 1 or 4.
+    Refused(Refusal),
     // So many steps were met, and behind them so many bytes of the next step's field, which is empty past the plan's end.
     Along {
         steps: u32,
-        field: ArrayVec<u8, 197>,
+        field: ArrayVec<u8, { basics::STEP_ROOM }>,
         met: usize,
     },
     // So many steps were met, and behind them another byte than the plan's.
@@ -40,17 +39,19 @@ pub fn image_length(s: &[u8]) -> usize
         if 0x14 < s[at] {
             return at;
         }
-        let left = s.len() - at;
-        if left < 3 {
+        let Ok(x) = field::read_field(s, at) else {
             return s.len();
-        }
-        let n = usize::from(u16::from_le_bytes([s[at + 1], s[at + 2]]));
-        if left - 3 < n {
-            return s.len();
-        }
-        at += 3 + n;
+        };
+        at = x.end;
     }
     at
+}
+
+// Whether a step entry's refusal says that the step number is past the plan's end.
+fn is_past_end(refusal: Refusal) -> bool
+    ensures { result ≡ eqb (number_of refusal) 16 }
+{
+    matches!(refusal, Refusal::PastTheEnd)
 }
 
 // The trace after n steps that were met, none of the bytes behind them.
@@ -58,21 +59,17 @@ fn behind(image: &[u8], n: u32) -> Trace
     ensures { Fresh image.now n result }
 {
     let mut out = [0u8; basics::IMAGE_ROOM];
-    let mut written: usize = 0;
-    let mut step = [0u8; 197];
-    let mut len: usize = 0;
-    let number = running::run_steps(
-        Planned::Commit,
-        image,
-        n as u64 + 1,
-        &mut out,
-        &mut written,
-        &mut step,
-        &mut len,
-    );
-    if number != 0 && number != PAST_END {
-        return Trace::Refused(number);
-    }
+    let mut step = [0u8; basics::STEP_ROOM];
+    let done = running::run_steps(Planned::Commit, image, n as u64 + 1, &mut out, &mut step);
+    let len = match done {
+        Ok((_, len)) => len,
+        Err(refusal) => {
+            if !is_past_end(refusal) {
+                return Trace::Refused(refusal);
+            }
+            0
+        }
+    };
     let mut field = ArrayVec::from(step);
     field.truncate(len);
     Trace::Along {
@@ -83,7 +80,7 @@ fn behind(image: &[u8], n: u32) -> Trace
 }
 
 // A word, a number and a line feed, written whole, or not at all where they have no room. The answer is how many bytes were written.
-fn put_said(word: &[u8], n: u32, out: &mut [u8]) -> usize
+fn put_said(word: &[u8], n: u32, out: &mut [u8]) -> Option<usize>
     requires { length word.now ≤ 10 }
     ensures { Writes (said word.now n) out.old out.new result }
 {
@@ -91,13 +88,13 @@ fn put_said(word: &[u8], n: u32, out: &mut [u8]) -> usize
     let k = text::digits(n);
     let size = w + 2 + k;
     if out.len() < size {
-        return 0;
+        return None;
     }
     field::put_bytes(out, 0, word);
     field::put_u8(out, w, b' ');
     text::put_decimal(n, out, w + 1);
     field::put_u8(out, w + 1 + k, b'\n');
-    size
+    Some(size)
 }
 
 impl Trace {
@@ -158,12 +155,12 @@ impl Trace {
     }
 
     // The line, where no byte follows.
-    pub fn put_line(&self, out: &mut [u8]) -> usize
+    pub fn put_line(&self, out: &mut [u8]) -> Option<usize>
         requires { steps_of self.now < 0xFFFF_FFFF }
-        ensures { (result ≤ length out.new) × ((image b : Bytes) → Tracks image b self.now → Writes (line_from image 0 b) out.old out.new result) }
+        ensures { IfSome result (λ n. n ≤ length out.new) × ((image b : Bytes) → Tracks image b self.now → Writes (line_from image 0 b) out.old out.new result) }
     {
         match self {
-            Trace::Refused(number) => put_said(b"answer", *number, out),
+            Trace::Refused(refusal) => put_said(b"answer", u32::from(*refusal), out),
             Trace::Along { steps, met, .. } => {
                 if *met == 0 {
                     return put_said(b"steps", *steps, out);

@@ -1,6 +1,6 @@
 use Rattle.steps.specs.Steps.{step_of}
 use Rattle.bench.proofs.syncs.Goals as goal
 
-pub advance-run-requires : goal.advance-run-requires
+pub advance-requires : goal.advance-requires
 unfolding step_of
-advance-run-requires c = ((c.loop.invariant, record { names = tt }), tt)
+advance-requires c = ((c.loop.invariant, record { names = tt }), tt)

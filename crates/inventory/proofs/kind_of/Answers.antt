@@ -1,9 +1,10 @@
 -- `kind_of` meets its contract.
+use mathlib.Core.Path.{sym, ◌∙◌}
 use Rattle.inventory.proofs.Walks.{dir-kind, file-kind}
 use Rattle.inventory.proofs.kind_of.Goals as goal
 
-pub returns-then-length_of-eq0 : goal.returns-then-length_of-eq0
-returns-then-length_of-eq0 c = dir-kind c.length_of.ensures.0 c.if-length_of-eq0.true
+pub returns-then-is_dir : goal.returns-then-is_dir
+returns-then-is_dir c = dir-kind (sym c.is_dir.ensures ∙ c.if-is_dir.true)
 
-pub returns-else-length_of-eq0 : goal.returns-else-length_of-eq0
-returns-else-length_of-eq0 c = file-kind c.length_of.ensures.0 c.if-length_of-eq0.false
+pub returns-else-is_dir : goal.returns-else-is_dir
+returns-else-is_dir c = file-kind (sym c.is_dir.ensures ∙ c.if-is_dir.false)

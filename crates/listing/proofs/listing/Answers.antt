@@ -1,23 +1,21 @@
 -- `listing` meets its contract: a refused image, a refused log, or the tree that recovery leaves.
-use mathlib.Core.Path.{refl}
-use Rattle.decode.proofs.Filling.{unused}
-use Rattle.listing.proofs.Answered.{broken, turned_down, listed, fitting, short}
+use Rattle.listing.proofs.Answered.{no-nodes, broken, turned_down, fitting, short, listed}
 use Rattle.listing.proofs.listing.Goals as goal
 
 pub put_text-requires : goal.put_text-requires
-put_text-requires c = (unused refl).sound
+put_text-requires c = no-nodes _ c.new.ensures
 
-pub returns-then-not-ok : goal.returns-then-not-ok
-returns-then-not-ok c = broken c.decode-d.ensures (c.if-not-ok.true) (unused refl) c.put_text.ensures
+pub returns-in_default : goal.returns-in_default
+returns-in_default c = broken _ c.new.ensures _ c.put_text.ensures c.in_default.ensures c.from.ensures
 
-pub recover-r-requires : goal.recover-r-requires
-recover-r-requires c = (fitting c.decode-d.ensures (c.if-not-ok.false), (c.decode-d.ensures.plain, short c.decode-d.ensures (c.if-not-ok.false)))
+pub recover-requires : goal.recover-requires
+recover-requires c = (fitting c.in-Some.ensures, (c.in-Some.ensures.plain, short c.in-Some.ensures))
 
-pub put_text-requires-then-number-ne0 : goal.put_text-requires-then-number-ne0
-put_text-requires-then-number-ne0 c = (unused refl).sound
+pub put_text-requires-in-Err : goal.put_text-requires-in-Err
+put_text-requires-in-Err c = no-nodes _ c.new-in-Err.ensures
 
-pub returns-then-number-ne0 : goal.returns-then-number-ne0
-returns-then-number-ne0 c = turned_down c.decode-d.ensures (c.if-not-ok.false) c.recover-r.ensures c.if-number-ne0.true (unused refl) c.put_text-then-number-ne0.ensures
+pub returns-in-Ok : goal.returns-in-Ok
+returns-in-Ok c = listed c.in-Some.ensures c.in-Ok.ensures c.put_text-in-Ok.ensures
 
-pub returns : goal.returns
-returns c = listed c.decode-d.ensures (c.if-not-ok.false) c.recover-r.ensures refl c.if-number-ne0.false c.put_text-2.ensures
+pub returns-in-Err : goal.returns-in-Err
+returns-in-Err c = turned_down _ c.new-in-Err.ensures _ c.put_text-in-Err.ensures c.in-Some.ensures c.in-Err.ensures c.from-in-Err.ensures

@@ -4,12 +4,9 @@ use Rattle.recording.proofs.Lent.{has_room}
 use Rattle.rotation.proofs.Having.{has-none}
 use Rattle.rotation.proofs.has_file.Goals as goal
 
-pub returns-then-o-ne0 : goal.returns-then-o-ne0
-returns-then-o-ne0 c =
-    has-none c.args.name.now c.args.image.now c.open_image-o.ensures c.if-o-ne0.true
+pub returns-in_default : goal.returns-in_default
+returns-in_default c = has-none c.args.name.now c.args.image.now c.in_default.ensures
 
 pub has_file_in-requires : goal.has_file_in-requires
 has_file_in-requires c =
-    let o = c.open_image-o.ensures in
-    let h = c.if-o-ne0.false in
-    record { opens = o; done = h; roomy = has_room {n = 19582} (omega arith) (omega (arith, (o.held h).short)) (omega arith) }
+    record { opens = c.in-Ok.ensures; roomy = has_room {n = 19582} (omega arith) (omega (arith, c.in-Ok.ensures.held.short)) (omega arith) }

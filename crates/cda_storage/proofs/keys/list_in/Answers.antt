@@ -7,19 +7,17 @@ use Rattle.cda_storage.proofs.keys.list_in.Goals as goal
 
 pub list_keys-requires : goal.list_keys-requires
 list_keys-requires c =
-    let g = c.lend_name-c.ensures in
-    let l = lent-next (copied c.requires.roomy c.put_bytes.ensures) g in
-    keys-ask c.args.collection.now c.args.image.now (length c.args.out.now) c.requires.opens c.requires.done
-    (stands (below g)) l.begins c.if-valid.true
-
-pub returns-then-valid : goal.returns-then-valid
-returns-then-valid c =
-    let g = c.lend_name-c.ensures in
-    let l = lent-next (copied c.requires.roomy c.put_bytes.ensures) g in
-    keys-listed c.args.collection.now c.args.image.now (length c.args.out.now) c.requires.opens c.requires.done
-    (stands (below g)) l.begins c.if-valid.true refl c.list_keys.ensures
+    let l = lent-next (copied c.requires.roomy c.put_bytes.ensures) c.lend_name-named.ensures in
+    let g = stands (below c.lend_name-named.ensures) in
+    keys-ask c.args.collection.now c.args.image.now (length c.args.out.now) c.requires.opens (rw c.in-Some.is at g) l.begins
 
 pub returns : goal.returns
 returns c =
-    keys-invalid c.args.collection.now c.args.image.now (length c.args.out.now) c.requires.opens c.requires.done
-    (stands (below c.lend_name-c.ensures)) c.if-valid.false
+    let l = lent-next (copied c.requires.roomy c.put_bytes.ensures) c.lend_name-named.ensures in
+    let g = stands (below c.lend_name-named.ensures) in
+    keys-listed c.args.collection.now c.args.image.now (length c.args.out.now) c.requires.opens (rw c.in-Some.is at g) l.begins refl c.list_keys.ensures
+
+pub returns-in_default : goal.returns-in_default
+returns-in_default c =
+    let g = stands (below c.lend_name-named.ensures) in
+    keys-invalid c.args.collection.now c.args.image.now (length c.args.out.now) c.requires.opens (rw c.in_default.is at g)

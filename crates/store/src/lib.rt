@@ -10,7 +10,8 @@ ghost use Rattle.model.specs.Step.{remove_dir, rename_dir};
 ghost use Rattle.paths.specs.Compare.{order_of};
 ghost use Rattle.spans.specs.Spans.{name_of, length_of, Sound};
 ghost use Rattle.store.specs.Places.{put_in};
-ghost use Rattle.store.specs.Tables.{key_of, map_of, SoundNode, SoundTable, Holds, Finds, held_of, Counted, FilesFrom, Lists};
+ghost use Rattle.store.specs.Nodes.{is_dir};
+ghost use Rattle.store.specs.Tables.{key_of, node_of, map_of, SoundNode, SoundTable, Holds, Finds, held_of, Counted, FilesFrom, Lists};
 
 use arrayvec::ArrayVec;
 use basics::Status;
@@ -34,7 +35,8 @@ pub struct Node {
 impl Node {
     // Whether it is a directory's own.
     pub fn is_dir(&self) -> bool
-        ensures { result ≡ nat_eq (length_of self.now.file) 0 }
+        ensures by_length { result ≡ nat_eq (length_of self.now.file) 0 }
+        ensures by_key { (src : Bytes) → SoundNode src self.now → result ≡ is_dir (node_of src self.now) }
     {
         spans::length_of(self.file) == 0
     }

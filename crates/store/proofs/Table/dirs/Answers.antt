@@ -13,7 +13,7 @@ pub loop-x-preserved : goal.loop-x-preserved
 loop-x-preserved c =
     let h : c.loop-x.x-index < length (live c.args.self.now) = rw (← c.as_slice-x-items.ensures.value) (omega arith) in
     let r = sym (same_item c.loop-x.x-index c.as_slice-x-items.ensures.value) in
-    let t = ap own r ∙ sym c.is_dir.ensures in
+    let t = ap own r ∙ sym c.is_dir.ensures.by_length in
     elim c.if-is_dir.branch [
       | then-is_dir w ↦ dirs-next c.loop-x.invariant h (t ∙ w.if-is_dir.true) (ap (λ l. l.items) w.names-is ∙ rw r w.push.ensures.items)
       | else-is_dir w ↦ dirs-pass c.loop-x.invariant h (t ∙ w.if-is_dir.false) w.names-is

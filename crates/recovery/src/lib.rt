@@ -3,7 +3,7 @@
 // them, one for files and one for directories (docs/TWINS.md); each clause names its plan.
 #![tactic(auto)]
 
-ghost use Rattle.std.specs.Prelude.{◌≡◌, [], ◌∷◌, map, reverse, ◌≤◌, length};
+ghost use Rattle.std.specs.Prelude.{◌≡◌, [], ◌∷◌, false, map, reverse, ◌≤◌, length};
 ghost use Rattle.basics.specs.Base.{Bytes, is_some, any_of};
 ghost use Rattle.basics.specs.Map.{look};
 ghost use Rattle.basic_laws.specs.Tests.{All};
@@ -463,7 +463,8 @@ fn recover_from(
 
 // A run on a store whose open mark is dropped.
 fn begun(store: Store, budget: Option<u64>) -> Run
-    ensures { (src : Bytes) → Fits src store → Begun src store budget result }
+    ensures begins { (src : Bytes) → Fits src store → Begun src store budget result }
+    ensures unmarked { result.store ≡ record { tree = store.tree; staging = store.staging; log = store.log; open_mark = false } }
 {
     let mut store = store;
     store.open_mark = false;

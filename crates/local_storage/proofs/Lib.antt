@@ -1,5 +1,6 @@
 pub mod Opened
 pub mod Outcomes
+pub mod Givens
 pub mod Ends
 pub mod Stagings
 pub mod Renamed

@@ -6,6 +6,7 @@ use Rattle.basics.specs.Limits.{staging_limit}
 use Rattle.basics.specs.Order.{Name}
 use Rattle.basics.specs.Map.{Map, look, put}
 use Rattle.basics.specs.Base.{Bytes, is_some}
+use Rattle.basics.specs.Name.{valid_name, lower}
 use Rattle.model.specs.Operation.{Op}
 use Rattle.model.specs.Log.{Journal, absent, recording, committing, held}
 use Rattle.model.specs.Store as model
@@ -13,7 +14,7 @@ use Rattle.model.specs.Store.{staging_key, valid_number}
 use Rattle.model.specs.Record.{Outcome, refuse, give, transaction, record_into}
 use Rattle.refusals.specs.Numbers.{number_of}
 use Rattle.refusals.specs.declared.Refusal.{Refusal}
-use Rattle.spans.specs.Spans.{name_of}
+use Rattle.spans.specs.Spans.{name_of, Given}
 use Rattle.spans.specs.declared.NameRef.{NameRef}
 use Rattle.store.specs.Tables.{map_of}
 use Rattle.store.specs.Stores.{AsRead, store_of, log_bytes, SoundLog, SoundStore}
@@ -66,6 +67,19 @@ pub record Answers (src : Bytes) (o : Outcome) (before : LocalStorage) (r : Reco
   pub same : outcome_of src r ≡ o
   pub sound : SoundStore src r.storage.store
   pub stands : Stands src (storage_of src before) (storage_of src r.storage) r.done
+
+-- 01, Sixteen numbers, 6: "key lowered first". A collection and a key that were tested beforehand; with them the staging name of a Write. Where all
+-- are given, all are valid and stand in the bytes; where one is not given, not all are valid, and which of them is not need not be known.
+abbrev pub GivenKey : Bytes → Option NameRef → Option NameRef → Name → Name → Type 0
+GivenKey src None k n key = (valid_name n && valid_name (lower key)) ≡ false
+GivenKey src (Some r) None n key = (valid_name n && valid_name (lower key)) ≡ false
+GivenKey src (Some r) (Some k) n key = Given src (Some r) n × Given src (Some k) (lower key)
+
+abbrev pub GivenWrite : Bytes → Option NameRef → Option NameRef → Option NameRef → Name → Name → Name → Type 0
+GivenWrite src None k f n key file = (valid_name n && valid_name (lower key) && valid_name file) ≡ false
+GivenWrite src (Some r) None f n key file = (valid_name n && valid_name (lower key) && valid_name file) ≡ false
+GivenWrite src (Some r) (Some k) None n key file = (valid_name n && valid_name (lower key) && valid_name file) ≡ false
+GivenWrite src (Some r) (Some k) (Some f) n key file = Given src (Some r) n × (Given src (Some k) (lower key) × Given src (Some f) file)
 
 -- A log that was begun and not committed.
 abbrev pub is_recording : Journal → Bool

@@ -1,14 +1,13 @@
 // The methods of local_collection.rs that record.
 ghost use Rattle.std.specs.Prelude.{◌≡◌, ◌<◌, length, IfSome};
 ghost use Rattle.basics.specs.Order.{Name};
-ghost use Rattle.basics.specs.Name.{lower};
 ghost use Rattle.model.specs.Record.{record_write, record_delete, record_delete_all};
 ghost use Rattle.spans.specs.Spans.{name_of, Sound, Given};
 ghost use Rattle.store.specs.Places.{table_room};
 ghost use Rattle.store.specs.Tables.{map_of, SoundTable};
 ghost use Rattle.store.specs.Stores.{SoundStore};
 ghost use Rattle.steps.specs.Steps.{FileName, Within};
-ghost use Rattle.local_storage.specs.Recording.{Readable, Ready, storage_of, Answers, can_stage, Staged};
+ghost use Rattle.local_storage.specs.Recording.{Readable, Ready, storage_of, Answers, GivenKey, GivenWrite, can_stage, Staged};
 
 use crate::{LocalStorage, Recorded};
 use refusals::Refusal;
@@ -53,7 +52,7 @@ impl LocalStorage {
         number: u32,
     ) -> Recorded
         requires { Ready src.now self.store × (IfSome collection (Sound src.now) × (IfSome key (Sound src.now) × IfSome staged (Sound src.now))) }
-        ensures { (c k f : Name) → Given src.now collection c → Given src.now key (lower k) → Given src.now staged f → Answers src.now (record_write c k f number (storage_of src.now self)) self result }
+        ensures { (c k f : Name) → GivenWrite src.now collection key staged c k f → Answers src.now (record_write c k f number (storage_of src.now self)) self result }
     {
         if let Err(refusal) = crate::admit(src, &self.store) {
             return self.refuse(refusal);
@@ -73,7 +72,7 @@ impl LocalStorage {
     // 4, 5, 6; "8. The key to delete is missing, after the case rename."
     pub fn delete(self, src: &[u8], collection: Option<NameRef>, key: Option<NameRef>) -> Recorded
         requires { (Ready src.now self.store × Within (map_of src.now self.store.tree)) × (IfSome collection (Sound src.now) × IfSome key (FileName src.now)) }
-        ensures { (c k : Name) → Given src.now collection c → Given src.now key (lower k) → Answers src.now (record_delete c k (storage_of src.now self)) self result }
+        ensures { (c k : Name) → GivenKey src.now collection key c k → Answers src.now (record_delete c k (storage_of src.now self)) self result }
     {
         if let Err(refusal) = crate::admit(src, &self.store) {
             return self.refuse(refusal);

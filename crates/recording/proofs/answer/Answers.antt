@@ -1,4 +1,5 @@
 -- `recording::answer`: by what is asked.
+use Rattle.local_storage.proofs.Givens.{given-key, given-write}
 use Rattle.recording.proofs.Given.{given-asks, given-file}
 use Rattle.recording.proofs.answer.Goals as goal
 
@@ -36,10 +37,10 @@ pub returns-in-Begin : goal.returns-in-Begin
 returns-in-Begin c = rw c.in-Begin.is (c.begin_transaction.ensures c.requires.ready.sound)
 
 pub returns-in-Write : goal.returns-in-Write
-returns-in-Write c = rw c.in-Write.is (c.write.ensures c.args.collection.now c.args.key.now c.args.other.now c.requires.collection c.requires.key c.requires.other)
+returns-in-Write c = rw c.in-Write.is (c.write.ensures c.args.collection.now c.args.key.now c.args.other.now (given-write _ _ _ _ _ _ _ c.requires.collection c.requires.key c.requires.other))
 
 pub returns-in-Delete : goal.returns-in-Delete
-returns-in-Delete c = rw c.in-Delete.is (c.delete.ensures c.args.collection.now c.args.key.now c.requires.collection c.requires.key)
+returns-in-Delete c = rw c.in-Delete.is (c.delete.ensures c.args.collection.now c.args.key.now (given-key _ _ _ _ _ c.requires.collection c.requires.key))
 
 pub returns-in-DeleteAll : goal.returns-in-DeleteAll
 returns-in-DeleteAll c = rw c.in-DeleteAll.is (c.delete_all.ensures c.requires.ready.sound c.args.collection.now c.requires.collection)

@@ -14,12 +14,25 @@ ghost use Rattle.wal.specs.Logs.{journal_of, payload_at, cause_of, cause_if, end
 
 use arrayvec::ArrayVec;
 use basics::Status;
+use crc32::ALL_ONES;
+use crc32::table::TABLE;
 use std::ops::Range;
 use transaction::Operation;
 
 // 01, How a store is handed over: "The log header: 0xCA, status (0x00 Recording, 0x01 Committing), two zero bytes, CRC-32 of the first two". 02, item 6:
 // "status 0x02, Held".
 const WAL_MAGIC: u8 = 0xCA;
+
+// The register behind the first byte, and the checksums behind each status: looked up in the table when this is compiled.
+const MAGIC_FED: u32 = (ALL_ONES >> 8) ^ TABLE[((ALL_ONES ^ WAL_MAGIC as u32) % 256) as usize];
+
+const RECORDING_CHECKSUM: u32 = (MAGIC_FED >> 8) ^ TABLE[(MAGIC_FED % 256) as usize] ^ ALL_ONES;
+
+const COMMITTING_CHECKSUM: u32 = (MAGIC_FED >> 8)
+    ^ TABLE[((MAGIC_FED ^ 1) % 256) as usize]
+    ^ ALL_ONES;
+
+const HELD_CHECKSUM: u32 = (MAGIC_FED >> 8) ^ TABLE[((MAGIC_FED ^ 2) % 256) as usize] ^ ALL_ONES;
 
 // The bytes of a header, and those of an entry before its payload.
 const WAL_FILE_HEADER_SIZE: usize = 8;
@@ -83,9 +96,9 @@ fn header_checksum(status: Status) -> u32
     ensures { result ≡ crc32 (0xCA ∷ status_byte status ∷ []) }
 {
     match status {
-        Status::Recording => 0x70CC_2D3B,
-        Status::Committing => 0x07CB_1DAD,
-        Status::Held => 0x9EC2_4C17,
+        Status::Recording => RECORDING_CHECKSUM,
+        Status::Committing => COMMITTING_CHECKSUM,
+        Status::Held => HELD_CHECKSUM,
     }
 }
 

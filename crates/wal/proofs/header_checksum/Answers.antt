@@ -1,4 +1,4 @@
--- `wal::header_checksum` meets its contract: the three numbers are computed.
+-- `wal::header_checksum` meets its contract: the three constants are computed.
 use Rattle.basics.specs.Crc32.{add_polynomial, shift, shifts, feed_byte, register, crc32}
 use Rattle.wal.proofs.header_checksum.Goals as goal
 

@@ -19,7 +19,7 @@ use Rattle.wal.specs.declared.Cause.{Cause}
 use Rattle.wal.specs.declared.Cause.TheVariants.{HeaderShort, PayloadMissing, ChecksumWrong}
 use Rattle.wal.specs.declared.Ending.{Ending}
 use Rattle.wal.specs.declared.Ending.TheVariants as code
-use Rattle.wal.specs.declared.Walker.{Walker}
+use Rattle.wal.specs.declared.CheckedEntries.{CheckedEntries}
 use Rattle.wal.specs.declared.WalRead.{WalRead}
 
 -- The log as commit and recovery see it, by its status and its entries; absent where it has no valid header.
@@ -85,19 +85,19 @@ HeadAt log at (Err c) = EntryAt log at (Err c)
 abbrev pub Known : Bytes → ℕ → std.Option ℕ → Type 0
 Known log at ahead = IfSome ahead (λ sum. sum ≡ crc32 (payload_at log (at + 8) (at + 8 + u32_at log (at + 4))))
 
--- A walker has the table, and knows the checksum of its next entry's payload where it says one.
-abbrev pub CanWalk : Walker → Type 0
-CanWalk w = (w.table.now ≡ byte_table) × Known w.log.now w.at w.ahead
+-- The checked entries have the table, and know the checksum of the next one's payload where they say one.
+abbrev pub CanWalk : CheckedEntries → Type 0
+CanWalk w = (w.table.now ≡ byte_table) × Known w.walker.log.now w.walker.at w.ahead
 
 -- Where a walker goes on: behind the payload; behind a broken entry at the log's end.
 abbrev pub place_behind : Bytes → Entry → ℕ
 place_behind log (Ok r) = r.end
 place_behind log (Err c) = length log
 
--- What a walker hands out and what becomes of it: the entry at its place, up to the log's end.
-abbrev pub GivesEntry : Walker → std.Option Entry → Walker → Type 0
-GivesEntry w None v = (length w.log.now ≤ w.at) × (v ≡ w)
-GivesEntry w (Some e) v = (w.at < length w.log.now) × EntryAt w.log.now w.at e × (v.log ≡ w.log) × (v.at ≡ place_behind w.log.now e)
+-- What the checked entries hand out and what becomes of them: the entry at the walker's place, up to the log's end.
+abbrev pub GivesEntry : CheckedEntries → std.Option Entry → CheckedEntries → Type 0
+GivesEntry w None v = (length w.walker.log.now ≤ w.walker.at) × (v ≡ w)
+GivesEntry w (Some e) v = (w.walker.at < length w.walker.log.now) × EntryAt w.walker.log.now w.walker.at e × (v.walker.log ≡ w.walker.log) × (v.walker.at ≡ place_behind w.walker.log.now e)
 
 abbrev pub ending_of : Ending → model.Ending
 ending_of code.Whole = model.whole

@@ -182,25 +182,58 @@ fn held_to(sum: u32, log: &[u8], at: usize, found: Range<usize>) -> Result<Range
     Ok(found)
 }
 
-// The log walker: it borrows the log and the checksums' table, and remembers where its next entry stands, and that entry's checksum where it is known.
-// 01, Forms that change shape: "The loop of `read_wal`".
+// The log walker: it borrows the log and remembers its next entry. 01, Forms that change shape: "The loop of `read_wal`".
 #[derive(Clone, Copy)]
 pub struct Walker<'a> {
     pub log: &'a [u8],
     pub at: usize,
+}
+
+impl<'a> Walker<'a> {
+    // A walker behind the header.
+    pub fn new(log: &'a [u8]) -> Walker<'a>
+        ensures { (result.log ≡ log.entry) × (result.at ≡ 8) }
+    {
+        Walker {
+            log,
+            at: WAL_FILE_HEADER_SIZE,
+        }
+    }
+
+    // The walker's next entry, by its head.
+    pub fn next(self) -> Result<Range<usize>, Cause>
+        ensures { HeadAt self.entry.log.now self.entry.at result }
+    {
+        entry_at(self.log, self.at)
+    }
+
+    // The walker behind the payload that ends at `end`.
+    pub fn advance(self, end: usize) -> Walker<'a>
+        ensures { (result.log ≡ self.entry.log) × (result.at ≡ end) }
+    {
+        Walker {
+            log: self.log,
+            at: end,
+        }
+    }
+}
+
+// The entries that a walker comes to, each held to its checksum: with the walker the checksums' table, and its next entry's checksum where that is known.
+#[derive(Clone, Copy)]
+struct CheckedEntries<'a> {
+    walker: Walker<'a>,
     table: &'a [u32; 256],
     ahead: Option<u32>,
 }
 
-impl<'a> Walker<'a> {
-    // A walker from a place of the log on.
-    pub fn new(log: &'a [u8], table: &'a [u32; 256], at: usize) -> Self
-        ensures place { (result.log ≡ log.entry) × (result.at ≡ at) }
+impl<'a> CheckedEntries<'a> {
+    // Those from the walker's place on.
+    fn new(walker: Walker<'a>, table: &'a [u32; 256]) -> Self
+        ensures place { result.walker ≡ walker.entry }
         ensures sums { (result.table ≡ table.entry) × (result.ahead ≡ None) }
     {
-        Walker {
-            log,
-            at,
+        CheckedEntries {
+            walker,
             table,
             ahead: None,
         }
@@ -209,18 +242,18 @@ impl<'a> Walker<'a> {
     // The checksum of the next entry's payload, which is taken here unless it is known, and in turn with it that of the entry behind, if the head of one
     // stands there.
     fn sums(&self, found: &Range<usize>) -> (u32, Option<u32>)
-        requires { CanWalk self.now × PayloadHead self.now.log.now self.now.at found.now.start found.now.end }
-        ensures sum { result.0 ≡ crc32 (payload_at self.now.log.now found.now.start found.now.end) }
-        ensures behind { Known self.now.log.now found.now.end result.1 }
+        requires { CanWalk self.now × PayloadHead self.now.walker.log.now self.now.walker.at found.now.start found.now.end }
+        ensures sum { result.0 ≡ crc32 (payload_at self.now.walker.log.now found.now.start found.now.end) }
+        ensures behind { Known self.now.walker.log.now found.now.end result.1 }
     {
         if let Some(sum) = self.ahead {
             return (sum, None);
         }
-        let here = payload(self.log, found.start, found.end);
-        match entry_at(self.log, found.end) {
+        let here = payload(self.walker.log, found.start, found.end);
+        match self.walker.advance(found.end).next() {
             Err(_) => (crc32::hash_by(self.table, here), None),
             Ok(next) => {
-                let behind = payload(self.log, next.start, next.end);
+                let behind = payload(self.walker.log, next.start, next.end);
                 let (sum, ahead) = crc32::hash_two(self.table, here, behind);
                 (sum, Some(ahead))
             }
@@ -230,38 +263,38 @@ impl<'a> Walker<'a> {
     // The next entry, held to its checksum; with it the checksum of the entry behind it, where that was taken too.
     fn entry(&self) -> Result<(Range<usize>, Option<u32>), Cause>
         requires { CanWalk self.now }
-        ensures { MatchResult result (λ x. EntryAt self.now.log.now self.now.at (Ok x.0) × Known self.now.log.now x.0.end x.1)
-            (λ cause. EntryAt self.now.log.now self.now.at (Err cause)) }
+        ensures { MatchResult result (λ x. EntryAt self.now.walker.log.now self.now.walker.at (Ok x.0) × Known self.now.walker.log.now x.0.end x.1)
+            (λ cause. EntryAt self.now.walker.log.now self.now.walker.at (Err cause)) }
     {
-        let found = entry_at(self.log, self.at)?;
+        let found = self.walker.next()?;
         let (sum, behind) = self.sums(&found);
-        let held = held_to(sum, self.log, self.at, found)?;
+        let held = held_to(sum, self.walker.log, self.walker.at, found)?;
         Ok((held, behind))
     }
 }
 
-// The entries of a log, each held to its checksum, up to the log's end. A broken entry does not say where the next one stands: it is the last.
-impl<'a> Iterator for Walker<'a> {
+// Up to the log's end. A broken entry does not say where the next one stands: it is the last.
+impl<'a> Iterator for CheckedEntries<'a> {
     type Item = Result<Range<usize>, Cause>;
 
     ghost can_next = { CanWalk };
 
     ghost next_gives = { GivesEntry };
 
-    ghost remaining = { λ w. at_most (length w.log.now - w.at) };
+    ghost remaining = { λ w. at_most (length w.walker.log.now - w.walker.at) };
 
     fn next(&mut self) -> Option<Result<Range<usize>, Cause>> {
-        if self.log.len() <= self.at {
+        if self.walker.log.len() <= self.walker.at {
             return None;
         }
         match self.entry() {
             Ok((found, behind)) => {
-                self.at = found.end;
+                self.walker = self.walker.advance(found.end);
                 self.ahead = behind;
                 Some(Ok(found))
             }
             Err(cause) => {
-                self.at = self.log.len();
+                self.walker = self.walker.advance(self.walker.log.len());
                 self.ahead = None;
                 Some(Err(cause))
             }
@@ -281,7 +314,7 @@ fn walk_entries(src: &[u8], first: usize, end: usize) -> WalRead
         return WalRead { ops, ending };
     }
     let table = crc32::byte_table();
-    for entry in Walker::new(&src[..end], &table, first) {
+    for entry in CheckedEntries::new(Walker::new(&src[..end]).advance(first), &table) {
         let found = match entry {
             Ok(found) => found,
             Err(cause) => {

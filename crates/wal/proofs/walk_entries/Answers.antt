@@ -17,8 +17,8 @@ loop-entry-init c =
     rw c.into_iter-entry-iterator.ensures.into_iter_gives (
       (rw n.sums.0 c.byte_table-table.ensures, rw n.sums.1 tt),
       tt,
-      rw n.place.0 refl,
-      rw n.place.1 f,
+      rw (n.place, c.advance.ensures.0, c.new.ensures.0) refl,
+      rw (n.place, c.advance.ensures.1) f,
       λ h. rw c.new-ops.ensures (omega arith),
       refl,
     )
@@ -39,7 +39,7 @@ loop-entry-preserved c =
     let x = rw (c.in-Ok.is, i.2) at s.1 in
     let e = rw c.in-Ok.is at s.3 in
     let w = at_operation i.3 c.requires.within h (i.4 h) c.requires.short x c.decode_operation.ensures c.in-Some-decode_operation.is c.push.ensures.items in
-    let room : c.next.new.self.at < c.args.end → length c.push.new.self.items < 32 =
+    let room : c.next.new.self.walker.at < c.args.end → length c.push.new.self.items < 32 =
     λ m. elim c.else-len-ge-OPERATION_LIMIT.branch [
       | else-len-ge-OPERATION_LIMIT-via-then-len-ge-OPERATION_LIMIT+else-found-end w ↦ absurd (omega (arith, w.if-found-end.false, e, m))
       | else-len-ge-OPERATION_LIMIT-via-else-len-ge-OPERATION_LIMIT w ↦ omega (arith, w.if-len-ge-OPERATION_LIMIT.false, c.len.ensures.value)

@@ -10,7 +10,7 @@ abbrev pub invariant-loop-entry : goal.invariant-loop-entry
 invariant-loop-entry l =
     (goal.iterator-loop-entry).can_next l.entry-iterator
     × (goal.iterator-loop-entry).is_finite l.entry-iterator
-    × (l.entry-iterator.log.now ≡ take l.end l.src)
-    × Walking l.src l.first l.end l.ops.items l.entry-iterator.at
-    × (l.entry-iterator.at < l.end → length l.ops.items < 32)
+    × (l.entry-iterator.walker.log.now ≡ take l.end l.src)
+    × Walking l.src l.first l.end l.ops.items l.entry-iterator.walker.at
+    × (l.entry-iterator.walker.at < l.end → length l.ops.items < 32)
     × (l.ending ≡ Whole)

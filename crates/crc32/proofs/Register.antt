@@ -35,8 +35,8 @@ module _ {c b n r : ℕ} (w : Shifting c b n r) where
 pub record Feeding (whole : ℕ) (s : Bytes) (i c : ℕ) : Type 0 where
   pub same : register c (drop i s) ≡ whole
 
-pub feeding : (s : Bytes) (c : ℕ) → Feeding (register c s) s 0 c
-feeding s c = record { same = refl }
+pub feeding : (s : Bytes) (i c : ℕ) → Feeding (register c (drop i s)) s i c
+feeding s i c = record { same = refl }
 
 module _ {whole : ℕ} {s : Bytes} {i c : ℕ} (w : Feeding whole s i c) where
   pub fed : {j q : ℕ} → j ≡ i + 1 → q ≡ feed_byte c (get_or s i 0) → i < length s → Feeding whole s j q

@@ -11,6 +11,11 @@ all-at P [] i d h l = absurd (omega arith)
 all-at P (a ∷ r) zero d h l = h.0
 all-at P (a ∷ r) (suc i) d h l = all-at P r i d h.1 (omega arith)
 
+pub map_at : {A B : Type 0} (f : A → B) (l : List A) (i : ℕ) (d : A) (e : B) → i < length l → get_or (map f l) i e ≡ f (get_or l i d)
+map_at f [] i d e h = absurd (omega arith)
+map_at f (a ∷ l) zero d e h = refl
+map_at f (a ∷ l) (suc i) d e h = map_at f l i d e (omega arith)
+
 pub map-append : {A B : Type 0} (f : A → B) (l m : List A) → map f (l ++ m) ≡ map f l ++ map f m
 map-append f [] m = refl
 map-append f (a ∷ l) m = ap (f a ∷◌) (map-append f l m)

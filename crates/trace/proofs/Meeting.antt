@@ -19,7 +19,7 @@ use Rattle.trace.specs.Tracking.{step_behind, told, Due, Tracks, Fresh, Goes}
 use Rattle.trace.specs.declared.Trace.{Trace}
 use Rattle.trace.specs.declared.Trace.TheVariants.{Refused, Along, Differs}
 use Rattle.arrayvec.specs.ArrayVec.{ArrayVec}
-use Rattle.trace.proofs.Next.{Next, refused, ended, ahead, next}
+use Rattle.trace.proofs.Next.{Next, refused, ended, ahead, refused-so, next}
 
 not-empty : {A : Type 0} (p : Bytes) (x : ℕ) (l : Bytes) (a b : A) → if_empty (p ++ x ∷ l) a b ≡ b
 not-empty [] x l a b = refl
@@ -57,21 +57,45 @@ byte_at l f m y e h i = rw (sym e) (sym (h ∙ same l m i))
     same (x ∷ l) zero i = refl
     same (x ∷ l) (suc m) i = same l m (omega arith)
 
+no_field : (f : Bytes) (a b : ℕ) → length f ≡ 0 → if_empty f a b ≡ a
+no_field [] a b h = refl
+no_field (x ∷ f) a b h = absurd (omega (arith, h))
+
+a_field : (f : Bytes) (a b : ℕ) → 1 ≤ length f → if_empty f a b ≡ b
+a_field [] a b h = absurd (omega arith)
+a_field (x ∷ f) a b h = refl
+
+-- Where no step is due, the plan is at its end.
+pub at_end : {image : Bytes} {n m : ℕ} {f : Bytes} → Due image n f m → ((step_behind image n).number ≡ 0 → ⊥) → (step_behind image n).number ≡ 16
+at_end {image} {n} {m} {f} d h = go f d.number
+  where
+    go : (f : Bytes) → (step_behind image n).number ≡ if_empty f 16 0 → (step_behind image n).number ≡ 16
+    go [] e = e
+    go (x ∷ f) e = absurd (h e)
+
 -- Before a step's first byte: the step is due, or the commit is refused with this number.
 module _ (image : Bytes) (n : ℕ) {k : ℕ} (e : k ≡ (step_behind image n).number) where
   pub fresh-along : (f : ArrayVec ℕ) → f.items ≡ (step_behind image n).step → ((k ≡ 0 → ⊥) → k ≡ 16) → Fresh image n (Along n f 0)
   fresh-along f s w = record {
     steps = omega arith;
     tracks = λ b h. record {
-      stands = record { number = λ z. sym e ∙ w (λ y. z (sym e ∙ y)); same = s; inside = λ z. absurd (omega arith) };
+      stands = record { number = go (next image n); same = s; inside = λ z. absurd (omega arith) };
       line = h;
     };
   }
+    where
+      go : Next image n (step_behind image n) → (step_behind image n).number ≡ if_empty f.items 16 0
+      go (refused j m y q o g) = absurd (q (sym m ∙ sym e ∙ w (λ c. y (sym m ∙ sym e ∙ c))))
+      go (ended m y g) = m ∙ sym (no_field f.items 16 0 (ap length s ∙ y))
+      go (ahead m y g) = m ∙ sym (a_field f.items 16 0 (omega (arith, y, ap length s)))
 
   pub fresh-refused : (r : Refusal) → k ≡ number_of r → eqb (number_of r) 16 ≡ false → Fresh image n (Refused r)
   fresh-refused r f p = record {
     steps = omega arith;
-    tracks = λ b h. record { stands = tt; line = λ l. h l ∙ go (next image n) l };
+    tracks = λ b h. record {
+      stands = refused-so image n (sym e ∙ f) (some-number r) (eqb-false (number_of r) 16 p);
+      line = λ l. h l ∙ go (next image n) l;
+    };
   }
     where
       go : Next image n (step_behind image n) → (l : Bytes) → line_from image n l ≡ answer_line (number_of r)
@@ -87,10 +111,10 @@ module _ (image : Bytes) (x : ℕ) where
 
   -- Where the line is told already, it stays.
   pub still-refused : (r : Refusal) → Goes image (x ∷ []) (Refused r) (Refused r)
-  still-refused r = record { steps = omega arith; tracks = λ b w. record { stands = tt; line = on w } }
+  still-refused r = record { steps = omega arith; tracks = λ b w. record { stands = w.stands; line = on w } }
 
-  pub still-differs : (n : ℕ) → Goes image (x ∷ []) (Differs n) (Differs n)
-  still-differs n = record { steps = omega arith; tracks = λ b w. record { stands = tt; line = on w } }
+  pub still-differs : (n : ℕ) (f : ArrayVec ℕ) (m : ℕ) → Goes image (x ∷ []) (Differs n f m) (Differs n f m)
+  still-differs n f m = record { steps = omega arith; tracks = λ b w. record { stands = w.stands; line = on w } }
 
   -- Where the plan is followed, m bytes of the field being met.
   module _ (n : ℕ) (f : ArrayVec ℕ) (m : ℕ) where
@@ -105,14 +129,14 @@ module _ (image : Bytes) (x : ℕ) where
     p_long h = length-take-le m f.items (omega arith)
 
     -- Another byte than the one that is due, or one where none is.
-    pub goes-apart : (m < length f.items → get_or f.items m 0 ≡ x → ⊥) → Goes image (x ∷ []) (Along n f m) (Differs n)
+    pub goes-apart : (m < length f.items → get_or f.items m 0 ≡ x → ⊥) → Goes image (x ∷ []) (Along n f m) (Differs n f m)
     goes-apart h = record {
       steps = omega arith;
-      tracks = λ b w. record { stands = tt; line = λ l. on w l ∙ go w.stands (next image n) l };
+      tracks = λ b w. record { stands = w.stands; line = λ l. on w l ∙ go w.stands (next image n) l };
     }
       where
         go : Due image n f.items m → Next image n (step_behind image n) → (l : Bytes) → line_from image n (p ++ x ∷ l) ≡ differs_line (suc n)
-        go d (refused k y z q o g) l = absurd (q (sym y ∙ d.number (λ e. z (sym y ∙ e))))
+        go d (refused k y z q o g) l = absurd (q (sym y ∙ at_end d (λ e. z (sym y ∙ e))))
         go d (ended y z g) l = g (p ++ x ∷ l) ∙ not-empty p x l (steps_line n) (differs_line (suc n))
         go d (ahead y z g) l =
             let i = due m f.items d.inside (omega (arith, z, ap length d.same)) in
@@ -151,7 +175,7 @@ module _ (image : Bytes) (x : ℕ) where
           whole d l = ap (λ (b : Bytes). b ++ l) (take_all (m + 1) f.items h ∙ d.same)
 
           go : Due image n f.items m → Next image n (step_behind image n) → (l : Bytes) → line_from image n (s ++ l) ≡ line_from image (n + 1) l
-          go d (refused k y z q o g) l = absurd (q (sym y ∙ d.number (λ c. z (sym y ∙ c))))
+          go d (refused k y z q o g) l = absurd (q (sym y ∙ at_end d (λ c. z (sym y ∙ c))))
           go d (ended y z g) l = absurd (omega (arith, i, z, ap length d.same))
           go d (ahead y z g) l =
               let u : suc n ≡ n + 1 = omega arith in

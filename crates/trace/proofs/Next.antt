@@ -78,6 +78,27 @@ unfolding line_from
 by-transaction image n s d none t = refused 4 refl (λ z. omega (arith, z)) (λ z. omega (arith, z)) (λ h. refl) (λ m l. rw (d, t))
 by-transaction image n s d (some ops) t = stepped image n (commit_plan s) (λ m l. rw (d, t)) (ending_at commit_end (suc n) s)
 
+-- A commit that is refused is refused so whatever step is asked for.
+pub refused-so : (image : Bytes) (n : ℕ) {k : ℕ} → (step_behind image n).number ≡ k → (k ≡ 0 → ⊥) → (k ≡ 16 → ⊥) → (m : ℕ) → step_behind image m ≡ refusal k
+unfolding commit_step
+refused-so image n {k} e z p m = go (decode image) e
+  where
+    by_length : (b c : Bool) (f g : Bytes) (i j : Bytes)
+        → (if b then record { number = 0; image = i; step = f } else refusal 16).number ≡ k → (if c then record { number = 0; image = j; step = g } else refusal 16) ≡ refusal k
+    by_length true c f g i j e = absurd (z (sym e))
+    by_length false c f g i j e = absurd (p (sym e))
+
+    with_ops : (s : model.Store) (t : Option (List Op))
+        → (case_option t (refusal 4) (λ ops. step_answer (suc n) (commit_plan s) (ending_at commit_end (suc n) s))).number ≡ k
+        → case_option t (refusal 4) (λ ops. step_answer (suc m) (commit_plan s) (ending_at commit_end (suc m) s)) ≡ refusal k
+    with_ops s none e = ap refusal e
+    with_ops s (some ops) e = by_length (leb (suc n) (length (commit_plan s))) (leb (suc m) (length (commit_plan s))) _ _ _ _ e
+
+    go : (o : Option model.Store) → (case_option o (refusal 1) (λ s. ending_step commit_end (suc n) s)).number ≡ k
+        → case_option o (refusal 1) (λ s. ending_step commit_end (suc m) s) ≡ refusal k
+    go none e = ap refusal e
+    go (some s) e = with_ops s (transaction s) e
+
 pub next : (image : Bytes) (n : ℕ) → Next image n (step_behind image n)
 unfolding commit_step
 next image n = go (decode image) refl

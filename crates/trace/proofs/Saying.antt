@@ -23,7 +23,7 @@ use Rattle.trace.specs.declared.Trace.{Trace}
 use Rattle.trace.specs.declared.Trace.TheVariants.{Refused, Along, Differs}
 use Rattle.arrayvec.specs.ArrayVec.{ArrayVec}
 use Rattle.trace.proofs.Next.{Next, refused, ended, ahead, next}
-use Rattle.trace.proofs.Meeting.{some_byte}
+use Rattle.trace.proofs.Meeting.{some_byte, at_end}
 
 module _ (word : Bytes) (n : ℕ) {k : ℕ} (d : Digits n k) where
   digits_long : length (decimal 10 n) ≡ k
@@ -79,7 +79,7 @@ pub all-met : {image : Bytes} {n : ℕ} {f : Bytes} → Due image n f 0 → line
 all-met {image} {n} d = go (next image n)
   where
     go : Next image n (step_behind image n) → line_from image n [] ≡ steps_line n
-    go (refused j p z q o h) = absurd (q (sym p ∙ d.number (λ e. z (sym p ∙ e))))
+    go (refused j p z q o h) = absurd (q (sym p ∙ at_end d (λ e. z (sym p ∙ e))))
     go (ended p z h) = h []
     go (ahead p z h) = h []
 
@@ -91,7 +91,7 @@ cut_off {image} {n} {m} {f} d h = go (next image n)
     long = rw (append-nil (take m f)) (length-take-le m f (let i = d.inside h in omega arith))
 
     go : Next image n (step_behind image n) → line_from image n (take m f ++ []) ≡ differs_line (suc n)
-    go (refused j p z q o g) = absurd (q (sym p ∙ d.number (λ e. z (sym p ∙ e))))
+    go (refused j p z q o g) = absurd (q (sym p ∙ at_end d (λ e. z (sym p ∙ e))))
     go (ended p z g) = absurd (let i = d.inside h in omega (arith, z, ap length d.same))
     go (ahead p z g) =
         let i = d.inside h in
@@ -114,5 +114,5 @@ module _ {out after : Bytes} {k : Option ℕ} where
   pub tells_cut : (n : ℕ) (f : ArrayVec ℕ) (m : ℕ) → 0 < m → Writes (differs_line (n + 1)) out after k → (image b : Bytes) → Tracks image b (Along n f m) → Writes (line_from image 0 b) out after k
   tells_cut n f m h v image b w = let e : n + 1 ≡ suc n = omega arith in same_text (ends w ∙ cut_off w.stands h) (rw e at v)
 
-  pub tells_differs : (n : ℕ) → Writes (differs_line (n + 1)) out after k → (image b : Bytes) → Tracks image b (Differs n) → Writes (line_from image 0 b) out after k
-  tells_differs n v image b w = let e : n + 1 ≡ suc n = omega arith in same_text (ends w) (rw e at v)
+  pub tells_differs : (n : ℕ) (f : ArrayVec ℕ) (m : ℕ) → Writes (differs_line (n + 1)) out after k → (image b : Bytes) → Tracks image b (Differs n f m) → Writes (line_from image 0 b) out after k
+  tells_differs n f m v image b w = let e : n + 1 ≡ suc n = omega arith in same_text (ends w) (rw e at v)

@@ -13,6 +13,9 @@ use arrayvec::ArrayVec;
 use refusals::Refusal;
 use running::Planned;
 
+// The field of a step.
+type StepField = ArrayVec<u8, { basics::STEP_ROOM }>;
+
 // How far a trace is the plan's.
 #[derive(Drop)]
 pub enum Trace {
@@ -21,12 +24,14 @@ pub enum Trace {
     // So many steps were met, and behind them so many bytes of the next step's field, which is empty past the plan's end.
     Along {
         steps: u32,
-        field: ArrayVec<u8, { basics::STEP_ROOM }>,
+        field: StepField,
         met: usize,
     },
-    // So many steps were met, and behind them another byte than the plan's.
+    // So many steps were met, and behind them so many bytes of the next step's field, as above, and then another byte than the plan's.
     Differs {
         steps: u32,
+        field: StepField,
+        met: usize,
     },
 }
 
@@ -112,7 +117,7 @@ impl Trace {
         match self {
             Trace::Refused(_) => 0,
             Trace::Along { steps, .. } => *steps,
-            Trace::Differs { steps } => *steps,
+            Trace::Differs { steps, .. } => *steps,
         }
     }
 
@@ -124,10 +129,10 @@ impl Trace {
         match self {
             Trace::Along { steps, field, met } => {
                 let Some(&due) = field.get(met) else {
-                    return Trace::Differs { steps };
+                    return Trace::Differs { steps, field, met };
                 };
                 if due != x {
-                    return Trace::Differs { steps };
+                    return Trace::Differs { steps, field, met };
                 }
                 if met + 1 < field.len() {
                     return Trace::Along {
@@ -167,7 +172,7 @@ impl Trace {
                 }
                 put_said(b"differs at", *steps + 1, out)
             }
-            Trace::Differs { steps } => put_said(b"differs at", *steps + 1, out),
+            Trace::Differs { steps, .. } => put_said(b"differs at", *steps + 1, out),
         }
     }
 }

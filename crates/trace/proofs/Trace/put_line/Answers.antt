@@ -22,4 +22,4 @@ returns-else-met-eq0 c =
 pub returns-in-Differs : goal.returns-in-Differs
 returns-in-Differs c =
     let p = c.put_said-in-Differs in
-    (within p.ensures, rw c.in-Differs.is (tells_differs _ p.ensures))
+    (within p.ensures, rw c.in-Differs.is (tells_differs _ _ _ p.ensures))

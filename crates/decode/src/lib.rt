@@ -25,7 +25,7 @@ pub struct Spot {
 }
 
 // The store of an image, and where its tree ends.
-#[derive(Drop)]
+#[derive(Clone, Copy)]
 pub struct Decoded {
     pub store: Store,
     pub tree_end: usize,

@@ -18,7 +18,7 @@ use Rattle.field.specs.Writing.{written, Writes, field}
 use Rattle.field.proofs.Written.{written-written, written-nil, length-written}
 use Rattle.spans.specs.Spans.{name_of}
 use Rattle.spans.specs.declared.NameRef.{NameRef}
-use Rattle.arrayvec.specs.ArrayVec.{ArrayVec}
+use Rattle.fixed_vec.specs.FixedVec.{FixedVec}
 use Rattle.store.specs.Tables.{Lists}
 use Rattle.store.proofs.Listed.{no_name, listed-end, listed-rest}
 use Rattle.steps.specs.Steps.{FileName}
@@ -44,14 +44,14 @@ module _ (f : Name) where
     case_next k = refl
 
 -- The loop of `other_case`: none of the names before i is the key in another case.
-pub record Seeking (src : Bytes) (l : ArrayVec NameRef) (names : List Name) (key : NameRef) (i : ℕ) : Type 0 where
+pub record Seeking (src : Bytes) (l : FixedVec NameRef) (names : List Name) (key : NameRef) (i : ℕ) : Type 0 where
   pub lists : Lists src l names
   pub same : other_case (name_of src key) (drop i names) ≡ other_case (name_of src key) names
 
-pub seeking : {src : Bytes} {l : ArrayVec NameRef} {names : List Name} {key : NameRef} → Lists src l names → Seeking src l names key 0
+pub seeking : {src : Bytes} {l : FixedVec NameRef} {names : List Name} {key : NameRef} → Lists src l names → Seeking src l names key 0
 seeking s = record { lists = s; same = refl }
 
-module _ {src : Bytes} {l : ArrayVec NameRef} {names : List Name} {key : NameRef} {i : ℕ} (w : Seeking src l names key i) where
+module _ {src : Bytes} {l : FixedVec NameRef} {names : List Name} {key : NameRef} {i : ℕ} (w : Seeking src l names key i) where
   -- The name r at i, by the tests of the code.
   module _ {r : NameRef} (e : r ≡ get_or l.items i no_name) (h : i < length l.items) where
     here : {a b : Bool} → is_key (name_of src r) ≡ a → same_bytes (lower (name_of src r)) (name_of src key) ≡ b →
@@ -76,7 +76,7 @@ module _ {src : Bytes} {l : ArrayVec NameRef} {names : List Name} {key : NameRef
   sought_nothing h = record { sound = tt; same = ap (other_case (name_of src key)) (sym (listed-end w.lists h)) ∙ w.same }
 
 -- The loop of `put_keys`: what the names from i on give is still to be written, at `at`.
-pub record Listing (src : Bytes) (l : ArrayVec NameRef) (names : List Name) (before now : Bytes) (at i : ℕ) : Type 0 where
+pub record Listing (src : Bytes) (l : FixedVec NameRef) (names : List Name) (before now : Bytes) (at i : ℕ) : Type 0 where
   pub lists : Lists src l names
   pub room : length (keys_in names) ≤ length before
   pub small : at ≤ 67 * i
@@ -84,7 +84,7 @@ pub record Listing (src : Bytes) (l : ArrayVec NameRef) (names : List Name) (bef
   pub told : at + length (keys_in (drop i names)) ≡ length (keys_in names)
   pub wrote : written at (keys_in (drop i names)) now ≡ written 0 (keys_in names) before
 
-module _ {src : Bytes} {l : ArrayVec NameRef} {names : List Name} {before now : Bytes} {at i : ℕ} (w : Listing src l names before now at i) where
+module _ {src : Bytes} {l : FixedVec NameRef} {names : List Name} {before now : Bytes} {at i : ℕ} (w : Listing src l names before now at i) where
   -- The name r at i, by the test of the code.
   module _ {r : NameRef} (e : r ≡ get_or l.items i no_name) (h : i < length l.items) where
     abbrev new : Bytes
@@ -135,7 +135,7 @@ module _ {src : Bytes} {l : ArrayVec NameRef} {names : List Name} {before now : 
       }
 
 -- The names of the listing are a directory's files: where the loop starts, and where it ends.
-module _ (d : Name) (m : Map) {src : Bytes} {l : ArrayVec NameRef} where
+module _ (d : Name) (m : Map) {src : Bytes} {l : FixedVec NameRef} where
   pub listing : Lists src l (files d m) → {out : Bytes} → length (keys_of d m) ≤ length out → Listing src l (files d m) out out 0 0
   unfolding keys_of
   listing s h = record { lists = s; room = h; small = omega arith; size = refl; told = omega arith; wrote = refl }

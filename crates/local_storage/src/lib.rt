@@ -25,20 +25,20 @@ use store::{LogRef, Store, Table};
 use transaction::Operation;
 use wal::{Ending, Tail, WalRead};
 
-#[derive(Drop)]
+#[derive(Clone, Copy)]
 pub struct LocalStorage {
     pub store: Store,
 }
 
 // The store handed on, and what follows its log, or the refusal.
-#[derive(Drop)]
+#[derive(Clone, Copy)]
 pub struct Recorded {
     pub storage: LocalStorage,
     pub done: Result<Tail, Refusal>,
 }
 
 // What `commit` answers: the run, whose store is the one handed on, and its refusal, if a step failed; where no transaction is found no step is done.
-#[derive(Drop)]
+#[derive(Clone, Copy)]
 pub struct Committed {
     pub run: Run,
     pub found: Result<(), Refusal>,

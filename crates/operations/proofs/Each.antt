@@ -17,7 +17,7 @@ use Rattle.plans.specs.Machine.{single, seq_over, Going}
 use Rattle.plans.proofs.MachineLaws.{begin, turn, goes_as, finish}
 use Rattle.plans.specs.ModelPlans.{careful, in_turn_lem, in_turn-single}
 use Rattle.spans.specs.declared.NameRef.{NameRef}
-use Rattle.arrayvec.specs.ArrayVec.{ArrayVec}
+use Rattle.fixed_vec.specs.FixedVec.{FixedVec}
 use Rattle.store.specs.Tables.{map_of}
 use Rattle.store.proofs.Lists.{all_get_d}
 use Rattle.store.proofs.Listed.{no_name}
@@ -39,7 +39,7 @@ each h f = single (h f)
 abbrev pub back_up_file : Name → Name → Step
 back_up_file d f = rename_file d f (backup_name f)
 
-module _ {src : Bytes} {run now : Run} {listing : ArrayVec NameRef} {i : ℕ} (h : Name → Step) (d : Name) (w : Over lawful src (each h) listing (files d (map_of src run.store.tree)) run now i) where
+module _ {src : Bytes} {run now : Run} {listing : FixedVec NameRef} {i : ℕ} (h : Name → Step) (d : Name) (w : Over lawful src (each h) listing (files d (map_of src run.store.tree)) run now i) where
   -- The name at i is not empty.
   pub each-name : {r : NameRef} → r ≡ get_or listing.items i no_name → i < length listing.items → FileName src r
   each-name e l = listed-named d (map_of src run.store.tree) w.lists e l

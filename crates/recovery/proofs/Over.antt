@@ -14,7 +14,7 @@ use Rattle.plans.proofs.MachineLaws.{begin, turn, goes_as, finish}
 use Rattle.plans.specs.ModelPlans.{plain, in_turn_lem, in_turn-single}
 use Rattle.spans.specs.Spans.{name_of, Sound}
 use Rattle.spans.specs.declared.NameRef.{NameRef}
-use Rattle.arrayvec.specs.ArrayVec.{ArrayVec}
+use Rattle.fixed_vec.specs.FixedVec.{FixedVec}
 use Rattle.store.specs.Tables.{map_of, Lists}
 use Rattle.store.proofs.Listed.{no_name, listed-end, listed-sound, listed-rest}
 use Rattle.steps.specs.declared.Run.{Run}
@@ -24,16 +24,16 @@ use Rattle.recovery.proofs.Follow.{lawful, follows_as}
 
 module _ {m : Machine Store Step ModelRun} (l : Lawful m) where
   -- The first i names of a listing are done.
-  pub record Over (src : Bytes) (g : Name → Store → List Step) (listing : ArrayVec NameRef) (names : List Name) (start now : Run) (i : ℕ) : Type 0 where
+  pub record Over (src : Bytes) (g : Name → Store → List Step) (listing : FixedVec NameRef) (names : List Name) (start now : Run) (i : ℕ) : Type 0 where
     pub lists : Lists src listing names
     pub sound : SoundRun src now
     pub within : i ≤ length listing.items
     pub going : Going m (seq_over m.apply g names) (seq_over m.apply g (drop i names)) (run_of src start) (run_of src now)
 
-  pub over-start : {src : Bytes} {g : Name → Store → List Step} {listing : ArrayVec NameRef} {names : List Name} {run : Run} → Lists src listing names → SoundRun src run → Over src g listing names run run 0
+  pub over-start : {src : Bytes} {g : Name → Store → List Step} {listing : FixedVec NameRef} {names : List Name} {run : Run} → Lists src listing names → SoundRun src run → Over src g listing names run run 0
   over-start s r = record { lists = s; sound = r; within = omega arith; going = begin l }
 
-  module _ {src : Bytes} {g : Name → Store → List Step} {listing : ArrayVec NameRef} {names : List Name} {start now : Run} {i : ℕ} (w : Over src g listing names start now i) where
+  module _ {src : Bytes} {g : Name → Store → List Step} {listing : FixedVec NameRef} {names : List Name} {start now : Run} {i : ℕ} (w : Over src g listing names start now i) where
     pub end : length listing.items ≤ i → Follows m src (seq_over m.apply g names) start now
     end h = record {
       sound = w.sound;
@@ -54,7 +54,7 @@ module _ {m : Machine Store Step ModelRun} (l : Lawful m) where
       }
 
 -- A walk through the tree, or through the staging files, of the run that it started with.
-module _ {src : Bytes} {run now : Run} {listing : ArrayVec NameRef} {i : ℕ} where
+module _ {src : Bytes} {run now : Run} {listing : FixedVec NameRef} {i : ℕ} where
   pub files-end : (g : Name → Name → Store → List Step) (d : Name) → Over lawful src (g d) listing (files d (map_of src run.store.tree)) run now i → length listing.items ≤ i → Follows plain src (over_files g d) run now
   unfolding over_files
   files-end g d w h = follows_as lawful (end lawful w h) (in_turn_lem (g d) (files d (map_of src run.store.tree)) _)

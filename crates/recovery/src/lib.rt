@@ -424,7 +424,7 @@ fn recover_committing(src: &[u8], run: &mut Run, w: &WalRead)
 }
 
 // What is left of a recovery that is not refused: the cause of a truncated log that is discarded, and the run that did its steps.
-#[derive(Drop)]
+#[derive(Clone, Copy)]
 pub struct Recovered {
     pub cause: Option<Cause>,
     pub run: Run,

@@ -27,7 +27,7 @@ pub enum Planned {
 }
 
 // What a plan leaves: the run of its steps; the refusal of the step that failed, if one did; how the log broke that it discards, if it did.
-#[derive(Drop)]
+#[derive(Clone, Copy)]
 pub struct Ran {
     pub run: Run,
     pub refusal: Option<Refusal>,

@@ -13,7 +13,7 @@ use Rattle.basic_laws.specs.Tests.{All, all_drop, in_all}
 use Rattle.spans.specs.Spans.{name_of, Sound}
 use Rattle.spans.specs.declared.NameRef.{NameRef}
 use Rattle.spans.proofs.Parts.{length-name}
-use Rattle.arrayvec.specs.ArrayVec.{ArrayVec}
+use Rattle.fixed_vec.specs.FixedVec.{FixedVec}
 use Rattle.store.specs.Tables.{Lists}
 use Rattle.store.proofs.Listed.{no_name, listed-sound, listed-rest}
 use Rattle.steps.specs.Steps.{FileName}
@@ -30,7 +30,7 @@ module _ {src : Bytes} {r : NameRef} where
       some (y ∷ ys) h = omega arith
 
 -- A directory's files are listed: the name r at i is a file's.
-module _ {src : Bytes} {l : ArrayVec NameRef} (d : Name) (m : Map) (s : Lists src l (files d m)) where
+module _ {src : Bytes} {l : FixedVec NameRef} (d : Name) (m : Map) (s : Lists src l (files d m)) where
   pub listed-named : {i : ℕ} {r : NameRef} → r ≡ get_or l.items i no_name → i < length l.items → FileName src r
   listed-named {i} e h =
       file-name (listed-sound s e h)

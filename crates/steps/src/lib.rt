@@ -48,7 +48,7 @@ pub enum Step {
 
 // A store on which steps are done: at most `budget` more, where there is one. `stopped`: a step was due with none left. `refusal`: that of the step
 // that failed. `last`: the step that was done last.
-#[derive(Drop)]
+#[derive(Clone, Copy)]
 pub struct Run {
     pub store: Store,
     pub budget: Option<u64>,

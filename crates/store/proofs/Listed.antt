@@ -6,7 +6,7 @@ use native.Mathlib.Numerals.{add-one}
 use native.Mathlib.Omega.{arith}
 use lib.ListN.{length, drop, get_or, length-map, get_or-map, drop_of_length-le}
 use lib.Seq.{drop-cons}
-use Rattle.arrayvec.specs.ArrayVec.{ArrayVec}
+use Rattle.fixed_vec.specs.FixedVec.{FixedVec}
 use Rattle.basics.specs.Order.{Name}
 use Rattle.basics.specs.Base.{Bytes}
 use Rattle.spans.specs.Spans.{name_of, Sound}
@@ -19,10 +19,10 @@ abbrev pub no_name : NameRef
 no_name = record { start = 0; len = 0; baks = 0 }
 
 -- The names of a listing.
-abbrev pub names_in : Bytes → ArrayVec NameRef → List Name
+abbrev pub names_in : Bytes → FixedVec NameRef → List Name
 names_in src l = map (name_of src) l.items
 
-module _ {src : Bytes} {l : ArrayVec NameRef} {names : List Name} (s : Lists src l names) where
+module _ {src : Bytes} {l : FixedVec NameRef} {names : List Name} (s : Lists src l names) where
   pub listed-own : Lists src l (names_in src l)
   listed-own = record { each = s.each; same = refl }
 

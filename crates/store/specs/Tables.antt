@@ -3,7 +3,7 @@
 use Rattle.std.specs.Prelude.{◌≡◌, ℕ, ◌≤◌, List, [], map, length, drop, Option, None, Some, Result, Ok, Err}
 use Rattle.std.proofs.Math.Option as maths
 use Rattle.std.proofs.Math.Option.{none, some}
-use Rattle.arrayvec.specs.ArrayVec.{ArrayVec}
+use Rattle.fixed_vec.specs.FixedVec.{FixedVec}
 use Rattle.basics.specs.Order.{Key, Name}
 use Rattle.basics.specs.Map as model
 use Rattle.basics.specs.Base.{Bytes}
@@ -67,6 +67,6 @@ pub record FilesFrom (d : Name) (m : model.Map) (i : ℕ) : Type 0 where
   pub above : All (Over (d, [])) (drop i m)
 
 -- A listing of names.
-pub record Lists (src : Bytes) (l : ArrayVec NameRef) (names : List Name) : Type 0 where
+pub record Lists (src : Bytes) (l : FixedVec NameRef) (names : List Name) : Type 0 where
   pub each : All (Sound src) l.items
   pub same : map (name_of src) l.items ≡ names

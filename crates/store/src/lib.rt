@@ -13,8 +13,8 @@ ghost use Rattle.store.specs.Places.{put_in};
 ghost use Rattle.store.specs.Nodes.{is_dir};
 ghost use Rattle.store.specs.Tables.{key_of, node_of, map_of, SoundNode, SoundTable, Holds, Finds, held_of, Counted, FilesFrom, Lists};
 
-use arrayvec::ArrayVec;
 use basics::Status;
+use fixed_vec::FixedVec;
 use spans::NameRef;
 use std::cmp::Ordering;
 use std::mem;
@@ -43,7 +43,7 @@ impl Node {
 }
 
 // Names as they are listed where a walk starts: 01, Listings and file steps, "A directory is listed as it stands when its walk starts".
-pub type Listing = ArrayVec<NameRef, ROOM>;
+pub type Listing = FixedVec<NameRef, ROOM>;
 
 #[derive(Clone, Copy, Debug, PartialEq, Eq)]
 pub struct Counts {
@@ -53,9 +53,9 @@ pub struct Counts {
 
 // Its names lie in bytes that each function is lent, and not in the table: a table that was read from an image is also used over a buffer in which
 // further names stand behind the image.
-#[derive(Drop)]
+#[derive(Clone, Copy)]
 pub struct Table {
-    pub nodes: ArrayVec<Node, ROOM>,
+    pub nodes: FixedVec<Node, ROOM>,
 }
 
 // The log's bytes as a part of the lent bytes; `rewritten` is the status that its header was rewritten with, if it was.
@@ -77,7 +77,7 @@ impl LogRef {
 }
 
 // A store: the tree, the staging files, the log if one stands, the mark.
-#[derive(Drop)]
+#[derive(Clone, Copy)]
 pub struct Store {
     pub tree: Table,
     pub staging: Table,
@@ -99,7 +99,7 @@ impl Table {
         ensures { result.nodes.items ≡ [] }
     {
         Table {
-            nodes: ArrayVec::new(),
+            nodes: FixedVec::new(),
         }
     }
 
@@ -165,9 +165,7 @@ impl Table {
         }
         let found = self.find(src, x.dir, x.file);
         match found {
-            Ok(i) => {
-                self.nodes[i] = x;
-            }
+            Ok(i) => self.nodes.set(i, x),
             Err(i) => self.nodes.insert(i, x),
         }
     }

@@ -18,7 +18,7 @@ use Rattle.trace.specs.Line.{steps_line, differs_line, answer_line, line_from}
 use Rattle.trace.specs.Tracking.{step_behind, told, Due, Tracks, Fresh, Goes}
 use Rattle.trace.specs.declared.Trace.{Trace}
 use Rattle.trace.specs.declared.Trace.TheVariants.{Refused, Along, Differs}
-use Rattle.arrayvec.specs.ArrayVec.{ArrayVec}
+use Rattle.fixed_vec.specs.FixedVec.{FixedVec}
 use Rattle.trace.proofs.Next.{Next, refused, ended, ahead, refused-so, next}
 
 not-empty : {A : Type 0} (p : Bytes) (x : ℕ) (l : Bytes) (a b : A) → if_empty (p ++ x ∷ l) a b ≡ b
@@ -75,7 +75,7 @@ at_end {image} {n} {m} {f} d h = go f d.number
 
 -- Before a step's first byte: the step is due, or the commit is refused with this number.
 module _ (image : Bytes) (n : ℕ) {k : ℕ} (e : k ≡ (step_behind image n).number) where
-  pub fresh-along : (f : ArrayVec ℕ) → f.items ≡ (step_behind image n).step → ((k ≡ 0 → ⊥) → k ≡ 16) → Fresh image n (Along n f 0)
+  pub fresh-along : (f : FixedVec ℕ) → f.items ≡ (step_behind image n).step → ((k ≡ 0 → ⊥) → k ≡ 16) → Fresh image n (Along n f 0)
   fresh-along f s w = record {
     steps = omega arith;
     tracks = λ b h. record {
@@ -113,11 +113,11 @@ module _ (image : Bytes) (x : ℕ) where
   pub still-refused : (r : Refusal) → Goes image (x ∷ []) (Refused r) (Refused r)
   still-refused r = record { steps = omega arith; tracks = λ b w. record { stands = w.stands; line = on w } }
 
-  pub still-differs : (n : ℕ) (f : ArrayVec ℕ) (m : ℕ) → Goes image (x ∷ []) (Differs n f m) (Differs n f m)
+  pub still-differs : (n : ℕ) (f : FixedVec ℕ) (m : ℕ) → Goes image (x ∷ []) (Differs n f m) (Differs n f m)
   still-differs n f m = record { steps = omega arith; tracks = λ b w. record { stands = w.stands; line = on w } }
 
   -- Where the plan is followed, m bytes of the field being met.
-  module _ (n : ℕ) (f : ArrayVec ℕ) (m : ℕ) where
+  module _ (n : ℕ) (f : FixedVec ℕ) (m : ℕ) where
     abbrev s : Bytes
     s = (step_behind image n).step
 

@@ -21,7 +21,7 @@ use Rattle.trace.specs.Line.{said, steps_line, differs_line, answer_line, line_f
 use Rattle.trace.specs.Tracking.{step_behind, told, Due, Tracks}
 use Rattle.trace.specs.declared.Trace.{Trace}
 use Rattle.trace.specs.declared.Trace.TheVariants.{Refused, Along, Differs}
-use Rattle.arrayvec.specs.ArrayVec.{ArrayVec}
+use Rattle.fixed_vec.specs.FixedVec.{FixedVec}
 use Rattle.trace.proofs.Next.{Next, refused, ended, ahead, next}
 use Rattle.trace.proofs.Meeting.{some_byte, at_end}
 
@@ -108,11 +108,11 @@ module _ {out after : Bytes} {k : Option ℕ} where
   pub tells_answer : (r : Refusal) {n : ℕ} → n ≡ number_of r → Writes (answer_line n) out after k → (image b : Bytes) → Tracks image b (Refused r) → Writes (line_from image 0 b) out after k
   tells_answer r e v image b w = same_text (ends w) (rw e at v)
 
-  pub tells_steps : (n : ℕ) (f : ArrayVec ℕ) → Writes (steps_line n) out after k → (image b : Bytes) → Tracks image b (Along n f 0) → Writes (line_from image 0 b) out after k
+  pub tells_steps : (n : ℕ) (f : FixedVec ℕ) → Writes (steps_line n) out after k → (image b : Bytes) → Tracks image b (Along n f 0) → Writes (line_from image 0 b) out after k
   tells_steps n f v image b w = same_text (ends w ∙ all-met w.stands) v
 
-  pub tells_cut : (n : ℕ) (f : ArrayVec ℕ) (m : ℕ) → 0 < m → Writes (differs_line (n + 1)) out after k → (image b : Bytes) → Tracks image b (Along n f m) → Writes (line_from image 0 b) out after k
+  pub tells_cut : (n : ℕ) (f : FixedVec ℕ) (m : ℕ) → 0 < m → Writes (differs_line (n + 1)) out after k → (image b : Bytes) → Tracks image b (Along n f m) → Writes (line_from image 0 b) out after k
   tells_cut n f m h v image b w = let e : n + 1 ≡ suc n = omega arith in same_text (ends w ∙ cut_off w.stands h) (rw e at v)
 
-  pub tells_differs : (n : ℕ) (f : ArrayVec ℕ) (m : ℕ) → Writes (differs_line (n + 1)) out after k → (image b : Bytes) → Tracks image b (Differs n f m) → Writes (line_from image 0 b) out after k
+  pub tells_differs : (n : ℕ) (f : FixedVec ℕ) (m : ℕ) → Writes (differs_line (n + 1)) out after k → (image b : Bytes) → Tracks image b (Differs n f m) → Writes (line_from image 0 b) out after k
   tells_differs n f m v image b w = let e : n + 1 ≡ suc n = omega arith in same_text (ends w) (rw e at v)

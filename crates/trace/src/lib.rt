@@ -9,15 +9,15 @@ ghost use Rattle.text.specs.Writing.{Writes};
 ghost use Rattle.trace.specs.Line.{image_length, said, line_from};
 ghost use Rattle.trace.specs.Tracking.{steps_of, Tracks, Fresh, Goes};
 
-use arrayvec::ArrayVec;
+use fixed_vec::FixedVec;
 use refusals::Refusal;
 use running::Planned;
 
 // The field of a step.
-type StepField = ArrayVec<u8, { basics::STEP_ROOM }>;
+type StepField = FixedVec<u8, { basics::STEP_ROOM }>;
 
 // How far a trace is the plan's.
-#[derive(Drop)]
+#[derive(Clone, Copy)]
 pub enum Trace {
     // The commit is refused, with 1 or 4.
     Refused(Refusal),
@@ -75,7 +75,7 @@ fn behind(image: &[u8], n: u32) -> Trace
             0
         }
     };
-    let mut field = ArrayVec::from(step);
+    let mut field = FixedVec::from(step);
     field.truncate(len);
     Trace::Along {
         steps: n,

@@ -8,7 +8,7 @@ use Rattle.field.specs.Writing.{Writes}
 use Rattle.spans.specs.Spans.{name_of, Sound}
 use Rattle.transaction.specs.declared.Operation.{Operation}
 use Rattle.transaction.specs.declared.Operation.TheVariants as code
-use Rattle.arrayvec.specs.ArrayVec.{ArrayVec}
+use Rattle.fixed_vec.specs.FixedVec.{FixedVec}
 
 abbrev pub op_of : Bytes → Operation → Op
 op_of src (code.Write c k s) = write (record { collection = name_of src c; key = name_of src k; staged = name_of src s; mark = none })
@@ -57,7 +57,7 @@ pub record Decodes (src : Bytes) (start end : ℕ) (d : std.Option Operation) : 
 
 -- What `payload_of` answers: the payload, and none where the operation's names do not all lie in the bytes. A payload has room for five fields of 3 + 64
 -- bytes each.
-abbrev pub Encodes : Bytes → Operation → std.Option (ArrayVec ℕ) → Type 0
+abbrev pub Encodes : Bytes → Operation → std.Option (FixedVec ℕ) → Type 0
 Encodes src o None = SoundOp src o → ⊥
 Encodes src o (Some p) = SoundOp src o × (p.items ≡ encode_payload (op_of src o))
 

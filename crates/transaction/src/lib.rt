@@ -7,13 +7,13 @@ ghost use Rattle.basics.specs.Field.{encode_field};
 ghost use Rattle.model.specs.Operation.{field_tags, is_mark, valid_value, encode_payload};
 ghost use Rattle.field.specs.Writing.{field};
 ghost use Rattle.spans.specs.Spans.{name_of, Sound, Decides};
-ghost use Rattle.arrayvec.specs.ArrayVec.{array_vec_len};
+ghost use Rattle.fixed_vec.specs.FixedVec.{fixed_vec_len};
 ghost use Rattle.basic_laws.specs.Tests.{All};
 ghost use Rattle.transaction.specs.Operations.{op_of, SoundOp, in_bounds, Decodes, Encodes, WritesOp};
 ghost use Rattle.transaction.specs.Rows.{kind_number, NamesKind, SoundParts, Matches, Makes, column_of, SoundColumn, row_payload};
 
 use Column::{Byte, Name};
-use arrayvec::ArrayVec;
+use fixed_vec::FixedVec;
 use spans::NameRef;
 
 // A recorded operation. Its names are parts of the lent bytes.
@@ -40,7 +40,7 @@ impl Default for Operation {
 }
 
 // A payload's bytes. Five fields have at most 3 + 64 bytes each.
-pub type Payload = ArrayVec<u8, 335>;
+pub type Payload = FixedVec<u8, 335>;
 
 // The kinds by the bytes that stand for them. 02, item 4: "A new kind 7, marked Write".
 #[derive(Clone, Copy, Debug, PartialEq, Eq)]
@@ -222,9 +222,9 @@ pub fn is_sound(src: &[u8], op: Operation) -> bool
 
 // A field behind what a payload has.
 fn push_field(src: &[u8], tag: u8, value: Column, payload: &mut Payload)
-    requires { SoundColumn src.now value × (array_vec_len payload.old + 67 ≤ 335) }
+    requires { SoundColumn src.now value × (fixed_vec_len payload.old + 67 ≤ 335) }
     ensures items { payload.new.items ≡ payload.old.items ++ encode_field (field tag (column_of src.now value)) }
-    ensures len { array_vec_len payload.new ≤ array_vec_len payload.old + 67 }
+    ensures len { fixed_vec_len payload.new ≤ fixed_vec_len payload.old + 67 }
 {
     payload.push(tag);
     match value {
@@ -237,8 +237,8 @@ fn push_field(src: &[u8], tag: u8, value: Column, payload: &mut Payload)
             let (part, baks) = spans::slices(src, r);
             payload.push((part.len() + baks.len()) as u8);
             payload.push(0);
-            payload.try_extend_from_slice(part).unwrap();
-            payload.try_extend_from_slice(baks).unwrap();
+            payload.extend_from_slice(part);
+            payload.extend_from_slice(baks);
         }
     }
 }
@@ -248,7 +248,7 @@ fn row_of(src: &[u8], kind: Kind, values: &[Column]) -> Payload
     requires { All (SoundColumn src.now) values.now }
     ensures { result.items ≡ row_payload src.now kind values.now }
 {
-    let mut payload = ArrayVec::new();
+    let mut payload = FixedVec::new();
     push_field(src, 1, Byte(u8::from(kind)), &mut payload);
     for (tag, value) in kind.tags()[1..].iter().zip(values) {
         push_field(src, *tag, *value, &mut payload);

@@ -20,7 +20,7 @@ use Rattle.transaction.specs.Operations.{op_of, SoundOp, decoded_of, Bounds, in_
 use Rattle.transaction.specs.declared.Operation.{Operation}
 use Rattle.transaction.proofs.Lists.{map-append, all-append}
 use Rattle.transaction.proofs.Payloads.{part-drop, in_bounds_lem, decoded-there}
-use Rattle.arrayvec.specs.ArrayVec.{ArrayVec}
+use Rattle.fixed_vec.specs.FixedVec.{FixedVec}
 use Rattle.basics.specs.declared.Status.{Status}
 use Rattle.wal.specs.Logs.{journal_of, EntryAt, ending_of, entries_of, entries_at, ReadsLog, WalksLog}
 use Rattle.wal.specs.declared.Cause.{Cause}
@@ -80,7 +80,7 @@ pub record Walking (src : Bytes) (first end : ℕ) (ops : List Operation) (at : 
 pub none_read : (src : Bytes) {first end : ℕ} {ops : List Operation} → first ≤ end → ops ≡ [] → Walking src first end ops first
 none_read src h e = rw e (record { within = omega arith; inside = h; sound = tt; same = refl })
 
-module _ {src : Bytes} {first end : ℕ} {ops : ArrayVec Operation} {at : ℕ} (w : Walking src first end ops.items at) where
+module _ {src : Bytes} {first end : ℕ} {ops : FixedVec Operation} {at : ℕ} (w : Walking src first end ops.items at) where
   -- The walk ends here.
   ends : {e : Ending} → walk (32 - length ops.items) 0 (drop at (take end src)) ≡ stop (ending_of e) → WalksLog src first end (record { ops = ops; ending = e })
   ends {e} h = record {
@@ -142,7 +142,7 @@ module _ {src : Bytes} {first end : ℕ} {ops : ArrayVec Operation} {at : ℕ} (
               }
 
 -- `read_wal`: no log there; and the entries behind the header, of which there may be none.
-pub no-log : {src : Bytes} {start end : ℕ} {ops : ArrayVec Operation} → in_bounds src start end ≡ false → ops.items ≡ [] → ReadsLog src start end (record { ops = ops; ending = code.Undecodable })
+pub no-log : {src : Bytes} {start end : ℕ} {ops : FixedVec Operation} → in_bounds src start end ≡ false → ops.items ≡ [] → ReadsLog src start end (record { ops = ops; ending = code.Undecodable })
 unfolding entries_at
 no-log h e = record { held = record { within = rw e (omega arith); sound = rw e tt }; same = rw (h, e) refl }
 

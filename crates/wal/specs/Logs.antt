@@ -14,7 +14,7 @@ use Rattle.field.specs.Reading.{u32_at}
 use Rattle.transaction.specs.Operations.{op_of, SoundOp, in_bounds, part}
 use Rattle.basics.specs.declared.Status.{Status}
 use Rattle.basics.specs.declared.Status.TheVariants.{Recording, Committing, Held}
-use Rattle.arrayvec.specs.ArrayVec.{array_vec_len}
+use Rattle.fixed_vec.specs.FixedVec.{fixed_vec_len}
 use Rattle.wal.specs.declared.Cause.{Cause}
 use Rattle.wal.specs.declared.Cause.TheVariants.{HeaderShort, PayloadMissing, ChecksumWrong}
 use Rattle.wal.specs.declared.Ending.{Ending}
@@ -114,7 +114,7 @@ entries_of src r = record { ops = ops_read src r; end = ending_of r.ending }
 
 -- All names of the operations lie in the bytes, and there are at most 32 of them.
 pub record SoundRead (src : Bytes) (r : WalRead) : Type 0 where
-  pub within : array_vec_len r.ops ≤ 32
+  pub within : fixed_vec_len r.ops ≤ 32
   pub sound : All (SoundOp src) r.ops.items
 
 -- The entries of the log between two places; where spans cannot point there, nothing is decoded.

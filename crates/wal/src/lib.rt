@@ -12,10 +12,10 @@ ghost use Rattle.spans.specs.Spans.{name_of};
 ghost use Rattle.transaction.specs.Operations.{op_of, Bounds, WritesOp};
 ghost use Rattle.wal.specs.Logs.{journal_of, payload_at, cause_of, cause_if, ending_of, HeadAt, PayloadHead, EntryAt, Known, CanWalk, GivesEntry, ReadsLog, WalksLog};
 
-use arrayvec::ArrayVec;
 use basics::Status;
 use crc32::ALL_ONES;
 use crc32::table::TABLE;
+use fixed_vec::FixedVec;
 use std::ops::Range;
 use transaction::Operation;
 
@@ -77,9 +77,9 @@ impl Ending {
 }
 
 // The operations of a log, and how the walk ended (`WalReadResult`).
-#[derive(Drop)]
+#[derive(Clone, Copy)]
 pub struct WalRead {
-    pub ops: ArrayVec<Operation, { basics::OPERATION_LIMIT }>,
+    pub ops: FixedVec<Operation, { basics::OPERATION_LIMIT }>,
     pub ending: Ending,
 }
 
@@ -308,7 +308,7 @@ fn walk_entries(src: &[u8], first: usize, end: usize) -> WalRead
     requires { Bounds src.now first end }
     ensures { WalksLog src.now first end result }
 {
-    let mut ops = ArrayVec::new();
+    let mut ops = FixedVec::new();
     let mut ending = Ending::Whole;
     if end <= first {
         return WalRead { ops, ending };
@@ -341,7 +341,7 @@ pub fn read_wal(src: &[u8], start: usize, end: usize) -> WalRead
 {
     if !transaction::in_bounds(src, start, end) {
         return WalRead {
-            ops: ArrayVec::new(),
+            ops: FixedVec::new(),
             ending: Ending::Undecodable,
         };
     }

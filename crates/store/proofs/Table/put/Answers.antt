@@ -6,7 +6,6 @@ use lib.ListN.{length}
 use Rattle.std.proofs.Common.{lit<, rules}
 use Rattle.store.specs.Places.{table_room}
 use Rattle.store.specs.Tables.{live}
-use Rattle.store.proofs.Lists.{set_through}
 use Rattle.store.proofs.Search.{within, at_most}
 use Rattle.store.proofs.Change.{put_full, put-over, put-new}
 use Rattle.store.proofs.Table.put.Goals as goal
@@ -16,11 +15,8 @@ returns-then-is_full c =
     let e : length (live c.args.self.now) ≡ table_room = search rules in
     put_full c.requires.0 _ _ (omega arith)
 
-pub offset_bounds-deref_mut-i : goal.offset_bounds-deref_mut-i
-offset_bounds-deref_mut-i c = omega (arith, within _ _ (c.in-Ok.ensures.at _ refl).1, c.requires.0.room)
-
-pub bounds-deref_mut-i : goal.bounds-deref_mut-i
-bounds-deref_mut-i c = rw c.deref_mut.ensures.value (within _ _ (c.in-Ok.ensures.at _ refl).1)
+pub set-requires : goal.set-requires
+set-requires c = (lit< tt, within _ _ (c.in-Ok.ensures.at _ refl).1)
 
 pub insert-requires : goal.insert-requires
 insert-requires c = (lit< tt, (at_most _ _ (c.in-Err.ensures.missing _ refl), search rules))
@@ -28,7 +24,7 @@ insert-requires c = (lit< tt, (at_most _ _ (c.in-Err.ensures.missing _ refl), se
 pub returns-in-Ok : goal.returns-in-Ok
 returns-in-Ok c =
     let h : length (live c.args.self.now) < table_room = search rules in
-    put-over c.requires.0 c.requires.1 h _ (c.in-Ok.ensures.at _ refl).1 (set_through _ _ _ _ c.deref_mut.ensures.value)
+    put-over c.requires.0 c.requires.1 h _ (c.in-Ok.ensures.at _ refl).1 c.set.ensures.items
 
 pub returns-in-Err : goal.returns-in-Err
 returns-in-Err c =

@@ -1,0 +1,8 @@
+use Rattle.std.specs.Prelude.{◌-◌, take}
+use Rattle.std.proofs.Common.{arith, ap, ◌∙◌}
+use Rattle.fixed_vec.proofs.Cells.{remove-told}
+use Rattle.fixed_vec.proofs.FixedVec.remove.Goals as goal
+
+pub returns-clause-items : goal.returns-clause-items
+returns-clause-items g c =
+    ap (take (c.self.inside.len - 1)) c.copy_within.ensures.after ∙ remove-told c.self.inside.cells c.self.inside.len c.args.index (ap (λ v. v.items) c.self.view_is) c.requires (omega (arith, c.self.invariant.0, c.self.invariant.1))

@@ -13,9 +13,8 @@ use Rattle.model.specs.Operation.{encode_payload}
 use Rattle.laws.specs.AppendLaws.{entry_length}
 use Rattle.field.specs.Writing.{written, Writes}
 use Rattle.field.proofs.Written.{written_then, written-room, written_none}
-use Rattle.transaction.specs.Operations.{op_of, Encodes, WritesOp}
+use Rattle.transaction.specs.Operations.{op_of, SoundOp, WritesOp}
 use Rattle.transaction.specs.declared.Operation.{Operation}
-use Rattle.fixed_vec.specs.FixedVec.{FixedVec}
 
 -- The checksum goes behind the first four bytes of the header.
 pub header_made : (status crc : ℕ) {h : Bytes} → crc ≡ crc32 (0xCA ∷ status ∷ []) → h ≡ written 4 (little_endian 4 crc) (0xCA ∷ status ∷ 0 ∷ 0 ∷ 0 ∷ 0 ∷ 0 ∷ 0 ∷ []) → h ≡ header status
@@ -36,6 +35,6 @@ module _ (at n : ℕ) (p out : Bytes) (l : n ≡ length p) where
   entry-none h = record { same = written_none at (entry p) out (omega (arith, entry_length p)); size = omega (arith, entry_length p) }
 
 -- The entry of an operation is that of its payload.
-pub one_entry : (src : Bytes) (o : Operation) {p : FixedVec ℕ} {at : ℕ} {out new : Bytes} {n : ℕ} → Encodes src o (Some p) → Writes (entry p.items) at out new n →
+pub one_entry : (src : Bytes) (o : Operation) {items : Bytes} {at : ℕ} {out new : Bytes} {n : ℕ} → SoundOp src o → items ≡ encode_payload (op_of src o) → Writes (entry items) at out new n →
     WritesOp src o (entry (encode_payload (op_of src o))) at out new (Some n)
-one_entry src o e w = (e.0, rw (← e.1) w)
+one_entry src o s e w = (s, rw (← e) w)

@@ -80,33 +80,33 @@ pub record Walking (src : Bytes) (first end : ℕ) (ops : List Operation) (at : 
 pub none_read : (src : Bytes) {first end : ℕ} {ops : List Operation} → first ≤ end → ops ≡ [] → Walking src first end ops first
 none_read src h e = rw e (record { within = omega arith; inside = h; sound = tt; same = refl })
 
-module _ {src : Bytes} {first end : ℕ} {ops : FixedVec Operation} {at : ℕ} (w : Walking src first end ops.items at) where
+module _ {src : Bytes} {first end : ℕ} {items : List Operation} {at : ℕ} (w : Walking src first end items at) where
   -- The walk ends here.
-  ends : {e : Ending} → walk (32 - length ops.items) 0 (drop at (take end src)) ≡ stop (ending_of e) → WalksLog src first end (record { ops = ops; ending = e })
-  ends {e} h = record {
+  ends : {spare : List Operation} {e : Ending} → walk (32 - length items) 0 (drop at (take end src)) ≡ stop (ending_of e) → WalksLog src first end (record { ops = record { items = items; spare = spare }; ending = e })
+  ends {e = e} h = record {
     held = record { within = w.within; sound = w.sound };
-    same = ap (λ (l : List Op). record { ops = l; end = ending_of e }) (sym (append-nil (map (op_of src) ops.items))) ∙ ap (joined (map (op_of src) ops.items)) (sym h) ∙ w.same;
+    same = ap (λ (l : List Op). record { ops = l; end = ending_of e }) (sym (append-nil (map (op_of src) items))) ∙ ap (joined (map (op_of src) items)) (sym h) ∙ w.same;
   }
 
   module _ (k : end ≤ length src) where
     log-length : length (take end src) ≡ end
     log-length = length-take-le end src k
 
-    pub at-end : end ≤ at → WalksLog src first end (record { ops = ops; ending = code.Whole })
-    at-end h = ends (walk_end (take end src) at (32 - length ops.items) (omega (arith, log-length)))
+    pub at-end : {spare : List Operation} → end ≤ at → WalksLog src first end (record { ops = record { items = items; spare = spare }; ending = code.Whole })
+    at-end h = ends (walk_end (take end src) at (32 - length items) (omega (arith, log-length)))
 
     module _ (h : at < end) where
-      pub at-limit : 32 ≤ length ops.items → WalksLog src first end (record { ops = ops; ending = code.TooMany })
+      pub at-limit : {spare : List Operation} → 32 ≤ length items → WalksLog src first end (record { ops = record { items = items; spare = spare }; ending = code.TooMany })
       at-limit m =
-          let z : 32 - length ops.items ≡ 0 = omega arith in
+          let z : 32 - length items ≡ 0 = omega arith in
           ends (rw z (walk_more (take end src) at (omega (arith, log-length))))
 
-      module _ (m : length ops.items < 32) where
-        fuel : 32 - length ops.items ≡ suc (32 - (length ops.items + 1))
+      module _ (m : length items < 32) where
+        fuel : 32 - length items ≡ suc (32 - (length items + 1))
         fuel = omega arith
 
-        pub at-truncated : {c : Cause} → EntryAt (take end src) at (Err c) → WalksLog src first end (record { ops = ops; ending = code.Truncated c })
-        at-truncated {c} y = ends (rw (fuel, y.told) (walk-truncated (take end src) at (omega (arith, log-length)) (32 - (length ops.items + 1)) (sym y.same)))
+        pub at-truncated : {spare : List Operation} {c : Cause} → EntryAt (take end src) at (Err c) → WalksLog src first end (record { ops = record { items = items; spare = spare }; ending = code.Truncated c })
+        at-truncated {c = c} y = ends (rw (fuel, y.told) (walk-truncated (take end src) at (omega (arith, log-length)) (32 - (length items + 1)) (sym y.same)))
 
         module _ (c : length src ≤ 0xFFFF) {r : Range ℕ} {d : std.Option Operation} (x : EntryAt (take end src) at (Ok r)) (q : Decodes src r.start r.end d) where
           bound : (r.start ≤ r.end) × (r.end ≤ end)
@@ -118,27 +118,27 @@ module _ {src : Bytes} {first end : ℕ} {ops : FixedVec Operation} {at : ℕ} (
           decoded : decoded_of src d ≡ decode_payload (part src r.start r.end)
           decoded = q.same ∙ decoded-there (record { ordered = bound.0; within = omega (arith, bound.1); short = c })
 
-          pub at-undecodable : d ≡ None → WalksLog src first end (record { ops = ops; ending = code.Undecodable })
+          pub at-undecodable : {spare : List Operation} → d ≡ None → WalksLog src first end (record { ops = record { items = items; spare = spare }; ending = code.Undecodable })
           at-undecodable u =
               let y : none ≡ decode_payload (part src r.start r.end) = rw u at decoded in
-              ends (rw fuel (walk-undecodable (take end src) at (omega (arith, log-length)) (32 - (length ops.items + 1)) (part src r.start r.end) here (sym y)))
+              ends (rw fuel (walk-undecodable (take end src) at (omega (arith, log-length)) (32 - (length items + 1)) (part src r.start r.end) here (sym y)))
 
-          pub at_operation : {op : Operation} {new : List Operation} → d ≡ Some op → new ≡ ops.items ++ op ∷ [] → Walking src first end new r.end
+          pub at_operation : {op : Operation} {new : List Operation} → d ≡ Some op → new ≡ items ++ op ∷ [] → Walking src first end new r.end
           at_operation {op} {new} u p =
-              let n : ℕ = length ops.items in
+              let n : ℕ = length items in
               let y : some (op_of src op) ≡ decode_payload (part src r.start r.end) = rw u at decoded in
               let s : SoundOp src op = rw u at q.sound in
               let len : length (part src r.start r.end) ≡ r.end - r.start = length-take-le (r.end - r.start) (drop r.start src) (omega (arith, bound, length-drop r.start src)) in
               let on : walk (32 - n) 0 (drop at (take end src)) ≡ after (op_of src op) (walk (32 - (n + 1)) 0 (drop r.end (take end src))) =
               rw fuel (walk-on (take end src) at (omega (arith, log-length)) (32 - (n + 1)) (part src r.start r.end) here (op_of src op) r.end (sym y) (let b = x.bounded in omega (arith, bound)) (omega (arith, bound, log-length))) in
-              let more : map (op_of src) new ≡ map (op_of src) ops.items ++ op_of src op ∷ [] = rw p (map-append (op_of src) ops.items (op ∷ [])) in
-              let longer : length new ≡ n + 1 = rw p (length-append ops.items (op ∷ [])) in
+              let more : map (op_of src) new ≡ map (op_of src) items ++ op_of src op ∷ [] = rw p (map-append (op_of src) items (op ∷ [])) in
+              let longer : length new ≡ n + 1 = rw p (length-append items (op ∷ [])) in
               let rest : Entries = walk (32 - (n + 1)) 0 (drop r.end (take end src)) in
               record {
                 within = omega (arith, longer, fuel);
                 inside = bound.1;
-                sound = rw p (all-append (SoundOp src) ops.items op w.sound s);
-                same = rw (longer, more) (ap (λ (l : List Op). record { ops = l; end = rest.end }) (append_assoc (map (op_of src) ops.items) (op_of src op ∷ []) rest.ops)) ∙ ap (joined (map (op_of src) ops.items)) (sym on) ∙ w.same;
+                sound = rw p (all-append (SoundOp src) items op w.sound s);
+                same = rw (longer, more) (ap (λ (l : List Op). record { ops = l; end = rest.end }) (append_assoc (map (op_of src) items) (op_of src op ∷ []) rest.ops)) ∙ ap (joined (map (op_of src) items)) (sym on) ∙ w.same;
               }
 
 -- `read_wal`: no log there; and the entries behind the header, of which there may be none.

@@ -57,6 +57,14 @@ impl<T, const N: usize> FixedVec<T, N> {
         self.len
     }
 
+    // Whether there is no element.
+    #[inline]
+    pub fn is_empty(&self) -> bool
+        ensures { result ≡ (fixed_vec_len self.now == 0) }
+    {
+        self.len == 0
+    }
+
     // Whether there is no room left.
     #[inline]
     pub fn is_full(&self) -> bool

@@ -6,7 +6,8 @@ use Rattle.store.specs.Tables.{map_of}
 use Rattle.recovery.proofs.Over.{Over}
 use Rattle.operations.proofs.Careful.{lawful}
 use Rattle.operations.proofs.Each.{each}
+use Rattle.fixed_vec.specs.FixedVec.{of_items}
 use Rattle.operations.proofs.copy_dir_contents.Given as goal
 
 abbrev pub invariant-loop-file : goal.invariant-loop-file
-invariant-loop-file l = Over lawful l.src (each (copy_file (name_of l.src l.from) (name_of l.src l.to))) (record { items = l.file-items }) (files (name_of l.src l.from) (map_of l.src l.initial.run.store.tree)) l.initial.run l.run l.file-index
+invariant-loop-file l = Over lawful l.src (each (copy_file (name_of l.src l.from) (name_of l.src l.to))) (of_items l.file-items) (files (name_of l.src l.from) (map_of l.src l.initial.run.store.tree)) l.initial.run l.run l.file-index

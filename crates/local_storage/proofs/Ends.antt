@@ -21,19 +21,19 @@ use Rattle.local_storage.specs.Recording.{storage_of, Answers, Opens, Discarded}
 use Rattle.local_storage.proofs.Outcomes.{refused_with, refused}
 
 -- A table without nodes.
-pub empty-map : (src : Bytes) {t : Table} → t.nodes.items ≡ [] → map_of src t ≡ []
+pub empty-map : (src : Bytes) (t : Table) → t.nodes.items ≡ [] → map_of src t ≡ []
 unfolding map_of
-empty-map src e = rw e
+empty-map src t e = rw e
 
-pub empty-sound : (src : Bytes) {t : Table} → t.nodes.items ≡ [] → SoundTable src t
+pub empty-sound : (src : Bytes) (t : Table) → t.nodes.items ≡ [] → SoundTable src t
 unfolding map_of
-empty-sound src e = record { room = rw e (omega arith); each = rw e tt; sorted = rw e tt }
+empty-sound src t e = record { room = rw e (omega arith); each = rw e tt; sorted = rw e tt }
 
 pub all-gone : (src : Bytes) {s : Store} {t : Table} → t.nodes.items ≡ [] → Discarded src s (record { tree = s.tree; staging = t; log = None; open_mark = false })
 unfolding log_bytes
-all-gone src e = record {
-  sound = λ g. record { tree = g.tree; staging = empty-sound src e; log = record { inside = tt } };
-  same = rw (empty-map src e);
+all-gone src {t = t} e = record {
+  sound = λ g. record { tree = g.tree; staging = empty-sound src t e; log = record { inside = tt } };
+  same = rw (empty-map src t e);
 }
 
 module _ {src : Bytes} {self : LocalStorage} (g : SoundStore src self.store) where

@@ -6,7 +6,7 @@ use native.Mathlib.Numerals.{add-one}
 use native.Mathlib.Omega.{arith}
 use lib.ListN.{length, drop, get_or, length-map, get_or-map, drop_of_length-le}
 use lib.Seq.{drop-cons}
-use Rattle.fixed_vec.specs.FixedVec.{FixedVec}
+use Rattle.fixed_vec.specs.FixedVec.{FixedVec, of_items}
 use Rattle.basics.specs.Order.{Name}
 use Rattle.basics.specs.Base.{Bytes}
 use Rattle.spans.specs.Spans.{name_of, Sound}
@@ -21,6 +21,10 @@ no_name = record { start = 0; len = 0; baks = 0 }
 -- The names of a listing.
 abbrev pub names_in : Bytes → FixedVec NameRef → List Name
 names_in src l = map (name_of src) l.items
+
+-- A walk through the names has them as a slice.
+pub items-listed : {src : Bytes} {l : FixedVec NameRef} {names : List Name} → Lists src l names → Lists src (of_items l.items) names
+items-listed s = record { each = s.each; same = s.same }
 
 module _ {src : Bytes} {l : FixedVec NameRef} {names : List Name} (s : Lists src l names) where
   pub listed-own : Lists src l (names_in src l)

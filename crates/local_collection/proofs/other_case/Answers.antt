@@ -1,5 +1,5 @@
 use mathlib.Core.Path.{refl, sym, ◌∙◌}
-use Rattle.store.proofs.Listed.{listed-sound}
+use Rattle.store.proofs.Listed.{listed-sound, items-listed}
 use Rattle.steps.proofs.FileNames.{listed-named}
 use Rattle.local_collection.proofs.Listed.{seeking, sought_past, sought_other, sought_found, sought_nothing}
 use native.Mathlib.Omega.{arith}
@@ -7,7 +7,7 @@ use Rattle.local_collection.proofs.other_case.Goals as goal
 use Rattle.local_collection.proofs.other_case.Goals.{else-is_valid_key-via-then-is_valid_key+else-lowers_to, else-is_valid_key-via-else-is_valid_key}
 
 pub loop-file-init : goal.loop-file-init
-loop-file-init c = seeking (rw c.as_slice-file-items.ensures.value c.files-listing.ensures)
+loop-file-init c = seeking (rw c.as_slice-file-items.ensures.value (items-listed c.files-listing.ensures))
 
 pub is_valid_key-requires : goal.is_valid_key-requires
 is_valid_key-requires c = listed-sound c.loop-file.invariant.lists refl (omega arith)

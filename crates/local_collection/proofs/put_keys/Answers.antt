@@ -1,12 +1,12 @@
 use mathlib.Core.Path.{refl, sym, ◌∙◌}
-use Rattle.store.proofs.Listed.{listed-sound}
+use Rattle.store.proofs.Listed.{listed-sound, items-listed}
 use Rattle.local_collection.proofs.Listed.{listing, listed-past, listed-key, listed-all}
 use native.Mathlib.Omega.{arith}
 use Rattle.local_collection.proofs.put_keys.Goals as goal
 use Rattle.local_collection.proofs.put_keys.Goals.{then-is_valid_key, else-is_valid_key}
 
 pub loop-file-init : goal.loop-file-init
-loop-file-init c = listing _ _ (rw c.as_slice-file-items.ensures.value c.files-listing.ensures) c.requires.1
+loop-file-init c = listing _ _ (rw c.as_slice-file-items.ensures.value (items-listed c.files-listing.ensures)) c.requires.1
 
 pub is_valid_key-requires : goal.is_valid_key-requires
 is_valid_key-requires c = listed-sound c.loop-file.invariant.lists refl (omega arith)

@@ -5,3 +5,4 @@ pub mod Encode
 pub mod Lists
 pub mod Payloads
 pub mod Same
+pub mod Table

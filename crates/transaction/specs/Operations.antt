@@ -29,6 +29,10 @@ SoundOp src (code.DeleteCollection c) = Sound src c
 SoundOp src (code.CopyCollection a b x) = Sound src a × Sound src b
 SoundOp src (code.MarkedWrite c k s x) = Sound src c × (Sound src k × Sound src s)
 
+-- The operation of an unused place.
+abbrev pub unused : Operation
+unused = code.DeleteAll (record { start = 0; len = 0; baks = 0 })
+
 -- What a decoder's answer stands for: the operation, or none where the bytes do not decode.
 abbrev pub decoded_of : Bytes → std.Option Operation → Option Op
 decoded_of src (Some o) = some (op_of src o)

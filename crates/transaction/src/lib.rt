@@ -9,7 +9,7 @@ ghost use Rattle.field.specs.Writing.{field};
 ghost use Rattle.spans.specs.Spans.{name_of, Sound, Decides};
 ghost use Rattle.fixed_vec.specs.FixedVec.{fixed_vec_len};
 ghost use Rattle.basic_laws.specs.Tests.{All};
-ghost use Rattle.transaction.specs.Operations.{op_of, SoundOp, in_bounds, Decodes, Encodes, WritesOp};
+ghost use Rattle.transaction.specs.Operations.{op_of, SoundOp, unused, in_bounds, Decodes, Encodes, WritesOp};
 ghost use Rattle.transaction.specs.Rows.{kind_number, NamesKind, SoundParts, Matches, Makes, column_of, SoundColumn, row_payload};
 
 use Column::{Byte, Name};
@@ -34,6 +34,8 @@ pub enum Operation {
 
 // What an unused place of a fixed-size vector holds.
 impl Default for Operation {
+    ghost is_default = { λ op. op ≡ unused };
+
     fn default() -> Operation {
         Operation::DeleteAll(spans::EMPTY)
     }
@@ -85,19 +87,24 @@ impl TryFrom<u8> for Kind {
     }
 }
 
+// 01: "The fields of each kind stand in one constant table of six rows"; 02, item 4: "the table's seventh row". The tags of a kind.
+const FIELD_TABLE: &[&[u8]; 7] = &[
+    &[1, 2, 3, 4],
+    &[1, 2, 3],
+    &[1, 2],
+    &[1, 2],
+    &[1, 2],
+    &[1, 2, 5, 6],
+    &[1, 2, 3, 4, 7],
+];
+
 impl Kind {
-    // The tags of a kind's fields. 01: "The fields of each kind stand in one constant table of six rows"; 02, item 4: "the table's seventh row".
+    // The tags of a kind's fields: its row of the table, counted from 1.
     #[tactic(auto, unfolding(model::specs::Operation::field_tags, model::specs::Operation::field_table))]
     fn tags(self) -> &'static [u8]
         ensures { result.now ≡ field_tags (kind_number self) }
     {
-        match self {
-            Kind::Write => &[1, 2, 3, 4],
-            Kind::Delete => &[1, 2, 3],
-            Kind::DeleteAll | Kind::CreateCollection | Kind::DeleteCollection => &[1, 2],
-            Kind::CopyCollection => &[1, 2, 5, 6],
-            Kind::MarkedWrite => &[1, 2, 3, 4, 7],
-        }
+        FIELD_TABLE[self as usize - 1]
     }
 }
 

@@ -137,22 +137,34 @@ fn pattern(i: usize, turn: usize) -> u8 {
     ((i % 251 + turn % 251) % 251) as u8
 }
 
+// The byte of the pattern behind another: no division for each byte.
+fn behind(due: u8) -> u8 {
+    if due < 250 { due + 1 } else { 0 }
+}
+
 fn fill(out: &mut [u8], turn: usize)
     ensures { length out.new ≡ length out.old }
 {
-    for (i, b) in out.iter_mut().enumerate() {
-        *b = pattern(i, turn);
+    let mut due = pattern(0, turn);
+    for b in out.iter_mut() {
+        *b = due;
+        due = behind(due);
     }
 }
 
 // Whether the bytes behind those that were written hold the pattern.
 fn is_clean(out: &[u8], written: usize, turn: usize) -> bool {
-    written <= out.len()
-        && out
-            .iter()
-            .enumerate()
-            .skip(written)
-            .all(|(i, b)| *b == pattern(i, turn))
+    let Some(rest) = out.get(written..) else {
+        return false;
+    };
+    let mut due = pattern(written, turn);
+    for b in rest {
+        if *b != due {
+            return false;
+        }
+        due = behind(due);
+    }
+    true
 }
 
 // The bytes at the front of an output; none where it has fewer.

@@ -1,9 +1,8 @@
 -- `field::u32_at` meets its contract: the four bytes that it reads are those at the place.
-use mathlib.Core.Path.{ap, ◌∙◌}
+use mathlib.Core.Path.{◌∙◌}
 use native.Mathlib.Omega.{arith}
 use Prim.Native.Nat.{◌<◌}
 use lib.ListN.{length}
-use Rattle.std.specs.Int.{w32, from_le_bytes}
 use Rattle.std.proofs.Common.{rules, tests}
 use Rattle.field.proofs.Reading.{number_read, number-missing, first-four}
 use Rattle.field.proofs.Numbers.{number-four}
@@ -14,8 +13,7 @@ pub returns-in-Some-first_chunk : goal.returns-in-Some-first_chunk
 returns-in-Some-first_chunk c =
     let rest = c.in-Some.ensures.lookup.0 in
     let first = c.in-Some-first_chunk.ensures.cases in
-    c.from_le_bytes.ensures
-    ∙ ap (from_le_bytes w32) (first-four c.args.s.now c.args.at rest.2 first.enough first.same)
+    rw (first-four c.args.s.now c.args.at rest.2 first.enough first.same) at c.from_le_bytes.ensures
     ∙ number-four _ _ _ _
     ∙ number_read _ _ (omega (arith, rest.3, first.enough))
 

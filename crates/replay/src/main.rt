@@ -46,7 +46,7 @@ fn count(tally: &mut Tally, part: Part<'_>) {
     };
     if is_equal(q) {
         tally.agrees(
-            questions::call_of(q),
+            questions::byte(q, questions::CALL),
             questions::byte(q, NUMBER),
             by_documents,
         );

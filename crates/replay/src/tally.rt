@@ -7,6 +7,9 @@ const ENTRIES: usize = 23;
 
 const NUMBERS: usize = 22;
 
+// A call is counted by the last five bits of its byte, so a byte that no entry has counts for the entry that has those.
+const CALLS: u8 = 32;
+
 // The equal answers of an entry, by number.
 #[derive(Clone, Copy)]
 struct Row {
@@ -37,13 +40,13 @@ impl Tally {
     }
 
     // One question more, whose answer is equal.
-    pub fn agrees(&mut self, call: Option<Call>, number: u8, by_documents: bool) {
+    pub fn agrees(&mut self, call: u8, number: u8, by_documents: bool) {
         self.asked = self.asked.wrapping_add(1);
         self.equal = self.equal.wrapping_add(1);
         if by_documents {
             self.by_documents = self.by_documents.wrapping_add(1);
         }
-        if let Some(call) = call {
+        if let Ok(call) = Call::try_from(call % CALLS) {
             self.add(call, number);
         }
     }

@@ -1,4 +1,6 @@
 // The exported entries, as a list numbers them.
+ghost use Rattle.questions.specs.Calls.{NamesCall};
+
 use std::fmt;
 
 // Their numbers go on from 1.
@@ -70,12 +72,38 @@ impl Call {
 impl TryFrom<u8> for Call {
     type Error = NoEntry;
 
+    ghost try_from_gives = { NamesCall };
+
     fn try_from(number: u8) -> Result<Self, NoEntry> {
-        Call::ALL
-            .iter()
-            .copied()
-            .find(|call| *call as u8 == number)
-            .ok_or(NoEntry)
+        match number {
+            1 => Ok(Call::Begin),
+            2 => Ok(Call::Write),
+            3 => Ok(Call::Delete),
+            4 => Ok(Call::DeleteAll),
+            5 => Ok(Call::CreateCollection),
+            6 => Ok(Call::DeleteCollection),
+            7 => Ok(Call::CopyCollection),
+            8 => Ok(Call::Rollback),
+            9 => Ok(Call::Commit),
+            10 => Ok(Call::CommitStep),
+            11 => Ok(Call::HasPendingWork),
+            12 => Ok(Call::Recover),
+            13 => Ok(Call::RecoverStep),
+            14 => Ok(Call::ListKeys),
+            15 => Ok(Call::FindBackup),
+            16 => Ok(Call::LogCause),
+            17 => Ok(Call::Inventory),
+            18 => Ok(Call::Hold),
+            19 => Ok(Call::HoldStep),
+            20 => Ok(Call::Keep),
+            21 => Ok(Call::KeepStep),
+            22 => Ok(Call::Revert),
+            23 => Ok(Call::RevertStep),
+            24 => Ok(Call::CanonicalLog),
+            25 => Ok(Call::DeleteKeys),
+            26 => Ok(Call::Rotate),
+            _ => Err(NoEntry),
+        }
     }
 }
 

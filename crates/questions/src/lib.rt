@@ -1,5 +1,5 @@
 // Asks the exported entries what a list asks: the library of the programs corners and replay, which only test. It takes any bytes whatever.
-// Its contracts say that a list's fields come to an end and how much is lent, and no more; what an entry answers is said in crate cda_storage.
+// Its contracts say which field is read, which call a byte is and how much is lent, and no more; what an entry answers is said in crate cda_storage.
 //
 // A list is a sequence of fields (01, How a store is handed over): 0x40, text to be printed; 0x41, a question whose answer is the original's, but
 // for the kinds and marks of Writes; 0x42, one whose answer documents 01 and 02 alone decide. A question is itself a sequence of fields:
@@ -24,7 +24,9 @@ mod calls;
 mod layout;
 mod list;
 
-ghost use Rattle.std.specs.Prelude.{◌≡◌, ◌≤◌, length};
+ghost use Rattle.std.specs.Prelude.{◌≡◌, ◌≤◌, ℕ, List, Option, length};
+ghost use Rattle.questions.specs.Calls.{IsCall};
+ghost use Rattle.questions.specs.Layout.{Finds, value_in, byte_in};
 
 pub use calls::{Call, NoEntry};
 use cda_storage::{
@@ -46,7 +48,7 @@ pub const ASKED: u8 = 0x41;
 
 pub const ASKED_BY_DOCUMENTS: u8 = 0x42;
 
-const CALL: u8 = 0x01;
+pub const CALL: u8 = 0x01;
 
 const NAME: u8 = 0x02;
 
@@ -72,12 +74,12 @@ pub const ROOM: usize = 19_430;
 pub const STEP_ROOM: usize = 300;
 
 // What a counter, and the pending word and the cause, hold before a call: one that holds it still was not written.
-const UNTOUCHED: usize = 0x5A5A_5A5A;
+pub const UNTOUCHED: usize = 0x5A5A_5A5A;
 
-const UNTOUCHED_WORD: u32 = 0x5A5A_5A5A;
+pub const UNTOUCHED_WORD: u32 = 0x5A5A_5A5A;
 
 // The number of a call that no entry has.
-const NO_ENTRY: u32 = 99;
+pub const NO_ENTRY: u32 = 99;
 
 // The most fields that a list has.
 pub const MOST: u32 = 65_536;
@@ -106,7 +108,9 @@ pub struct Answer<'a> {
 }
 
 // The call of a question, if an entry has it.
-pub fn call_of(q: &[u8]) -> Option<Call> {
+pub fn call_of(q: &[u8]) -> Option<Call>
+    ensures { (r : Option (List ℕ)) × Finds q.now 1 0 r × IsCall (byte_in (value_in r)) result }
+{
     Call::try_from(byte(q, CALL)).ok()
 }
 

@@ -97,7 +97,10 @@ pub fn put_bytes(out: &mut [u8], at: usize, s: &[u8])
     ensures { out.new ≡ written at s.now out.old }
 {
     if at <= out.len() && s.len() <= out.len() - at {
-        out[at..at + s.len()].copy_from_slice(s);
+        // Not by `copy_from_slice`: the library for C is to need no `memmove`.
+        for (i, b) in s.iter().enumerate() {
+            out[at + i] = *b;
+        }
     }
 }
 

@@ -23,6 +23,11 @@ module _ {A : Type 0} {B : Type 0} (f : A → B) where
   map-drop (suc n) [] = refl
   map-drop (suc n) (x ∷ l) = map-drop n l
 
+  pub map-set : (l : List A) (i : ℕ) (a : A) → map f (set l i a) ≡ set (map f l) i (f a)
+  map-set [] i a = refl
+  map-set (x ∷ l) zero a = refl
+  map-set (x ∷ l) (suc i) a = ap (f x ∷◌) (map-set l i a)
+
 pub take_whole : {A : Type 0} (n : ℕ) (l : List A) → length l ≤ n → take n l ≡ l
 take_whole zero [] h = refl
 take_whole zero (x ∷ l) h = absurd (not-suc-le-zero h)

@@ -2,7 +2,7 @@
 // none.
 #![tactic(auto)]
 
-ghost use Rattle.std.specs.Prelude.{◌≡◌, ◌+◌, ◌<◌, ◌≤◌, ◌==◌, [], ◌∷◌, ◌++◌, length, take, insert, remove, slice_set, slice_index_or};
+ghost use Rattle.std.specs.Prelude.{◌≡◌, ◌+◌, ◌<◌, ◌≤◌, ◌==◌, [], ◌∷◌, ◌++◌, ◌-◌, length, take, drop, insert, remove, slice_set, slice_index_or};
 ghost use Rattle.std.proofs.Math.Seq.{paste};
 ghost use Rattle.fixed_vec.specs.FixedVec.{fixed_vec_len};
 
@@ -84,12 +84,35 @@ impl<T, const N: usize> FixedVec<T, N> {
     }
 }
 
-// Elements written over those from a place on.
+// Elements written over those from a place on. One by one, here and below: a library for C is to need nothing that moves memory.
 fn write_at<T: Copy>(cells: &mut [T], at: usize, xs: &[T])
     requires { at + length xs.now ≤ length cells.old }
     ensures { cells.new ≡ paste cells.old at xs.now (length xs.now) }
 {
-    cells[at..at + xs.len()].copy_from_slice(xs);
+    for (i, x) in xs.iter().enumerate() {
+        cells[at + i] = *x;
+    }
+}
+
+// An element put in at a place, and those from there up to `len` moved up.
+fn move_up<T: Copy>(cells: &mut [T], index: usize, len: usize, x: T)
+    requires { (index ≤ len) × (len < length cells.old) }
+    ensures { cells.new ≡ take (len + 1) (insert cells.old index x) ++ drop (len + 1) cells.old }
+{
+    for i in (index..len).rev() {
+        cells[i + 1] = cells[i];
+    }
+    cells[index] = x;
+}
+
+// Those behind a place, up to `len`, moved down.
+fn move_down<T: Copy>(cells: &mut [T], index: usize, len: usize)
+    requires { (index < len) × (len ≤ length cells.old) }
+    ensures { cells.new ≡ take (len - 1) (remove cells.old index) ++ drop (len - 1) cells.old }
+{
+    for i in index..len - 1 {
+        cells[i] = cells[i + 1];
+    }
 }
 
 impl<T: Copy, const N: usize> FixedVec<T, N> {
@@ -135,8 +158,7 @@ impl<T: Copy, const N: usize> FixedVec<T, N> {
         ensures len { fixed_vec_len self.new ≡ fixed_vec_len self.old + 1 }
     {
         let len = self.len;
-        self.cells.copy_within(index..len, index + 1);
-        self.cells[index] = x;
+        move_up(&mut self.cells, index, len, x);
         self.len = len + 1;
     }
 
@@ -149,7 +171,7 @@ impl<T: Copy, const N: usize> FixedVec<T, N> {
     {
         let len = self.len;
         let x = self.cells[index];
-        self.cells.copy_within(index + 1..len, index);
+        move_down(&mut self.cells, index, len);
         self.len = len - 1;
         x
     }

@@ -5,4 +5,4 @@ use Rattle.fixed_vec.proofs.FixedVec.remove.Goals as goal
 
 pub returns-clause-items : goal.returns-clause-items
 returns-clause-items g c =
-    ap (take (c.self.inside.len - 1)) c.copy_within.ensures.after ∙ remove-told c.self.inside.cells c.self.inside.len c.args.index (ap (λ v. v.items) c.self.view_is) c.requires (omega (arith, c.self.invariant.0, c.self.invariant.1))
+    ap (take (c.self.inside.len - 1)) c.move_down.ensures ∙ remove-told c.self.inside.cells c.self.inside.len (ap (λ v. v.items) c.self.view_is) (omega (arith, c.self.invariant.0, c.self.invariant.1)) c.args.index c.requires

@@ -19,9 +19,9 @@ pub record NodesRead (staged : Bool) (src : Bytes) (at : ℕ) (t : Table) (next 
   pub sound : SoundTable src t
   pub reads : Reads (map (listed staged)) (Formed staged) (own staged) src at (map_of src t) next
 
-abbrev pub ReadsNodes : Bool → Bytes → ℕ → Option (Table × ℕ) → Type 0
-ReadsNodes staged src at None = Lacks (map (listed staged)) (Formed staged) (own staged) src at
-ReadsNodes staged src at (Some r) = NodesRead staged src at r.0 r.1
+abbrev pub ReadsNodes : Bool → Bytes → ℕ → Table → Option ℕ → Type 0
+ReadsNodes staged src at t None = Lacks (map (listed staged)) (Formed staged) (own staged) src at
+ReadsNodes staged src at t (Some next) = NodesRead staged src at t next
 
 -- Its header is as the image has it.
 pub record LogRead (src : Bytes) (at : ℕ) (l : Option LogRef) (next : ℕ) : Type 0 where

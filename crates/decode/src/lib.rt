@@ -3,7 +3,7 @@
 // turned into that flag in every clause.
 #![tactic(auto)]
 
-ghost use Rattle.std.specs.Prelude.{◌≡◌, true, false, ◌≤◌, eqb, length};
+ghost use Rattle.std.specs.Prelude.{◌≡◌, [], true, false, ◌≤◌, eqb, length};
 ghost use Rattle.basics.specs.Limits.{image_room};
 ghost use Rattle.spans.specs.Spans.{name_of, Sound};
 ghost use Rattle.decode.specs.Reading.{Comes};
@@ -146,13 +146,12 @@ fn node_of(src: &[u8], last: Spot, x: Item, staged: bool) -> Option<Spot>
     file_at(src, last, x, staged)
 }
 
-// The listing that stands at a place, the directories with their files or the staging files, and the place behind it. Its nodes come in ascending
-// order, so each is stored behind the one before.
-fn read_nodes(src: &[u8], at: usize, staged: bool) -> Option<(Table, usize)>
-    requires { (length src.now ≤ image_room) × (at ≤ length src.now) }
-    ensures { ReadsNodes staged src.now at result }
+// The listing that stands at a place, the directories with their files or the staging files, read into an empty table, and the place behind it. Its
+// nodes come in ascending order, so each is stored behind the one before. The table is lent, so that it is laid down once and not handed on.
+fn read_nodes(src: &[u8], at: usize, staged: bool, table: &mut Table) -> Option<usize>
+    requires { ((length src.now ≤ image_room) × (at ≤ length src.now)) × (table.old.nodes.items ≡ []) }
+    ensures { ReadsNodes staged src.now at table.new result }
 {
-    let mut table = Table::new();
     let mut last = Spot {
         node: Node::default(),
         next: at,
@@ -164,7 +163,7 @@ fn read_nodes(src: &[u8], at: usize, staged: bool) -> Option<(Table, usize)>
         last = node_of(src, last, x, staged)?;
         table.nodes.push(last.node);
     }
-    Some((table, last.next))
+    Some(last.next)
 }
 
 // "the log, 0x13, absent if there is none", and the place behind it.
@@ -206,8 +205,10 @@ fn read_image(src: &[u8]) -> Option<Decoded>
     requires { length src.now ≤ image_room }
     ensures { Decodes src.now result }
 {
-    let (tree, tree_end) = read_nodes(src, 0, false)?;
-    let (staging, staging_end) = read_nodes(src, tree_end, true)?;
+    let mut tree = Table::new();
+    let tree_end = read_nodes(src, 0, false, &mut tree)?;
+    let mut staging = Table::new();
+    let staging_end = read_nodes(src, tree_end, true, &mut staging)?;
     let (log, log_end) = read_log(src, staging_end)?;
     let (open_mark, end) = read_mark(src, log_end)?;
     let store = Store {

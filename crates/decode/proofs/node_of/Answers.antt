@@ -1,6 +1,6 @@
 -- `decode::node_of` meets its contract, one lemma for each tag.
-use mathlib.Core.Path.{refl, sym, ◌∙◌}
-use Rattle.decode.proofs.Choices.{tag-is, tree-tag, nowhere, of-file}
+use mathlib.Core.Path.{sym, ◌∙◌}
+use Rattle.decode.proofs.Choices.{nowhere, of-file}
 use Rattle.decode.proofs.node_of.Goals as goal
 use Rattle.decode.proofs.node_of.Goals.{else-x-eq17-via-then-x-eq17+else-length_of-eq0, else-x-eq17-via-else-x-eq17}
 

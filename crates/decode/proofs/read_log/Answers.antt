@@ -1,5 +1,5 @@
 -- `decode::read_log` meets its contract: no log, one that is too long, or the log.
-use Rattle.decode.proofs.Single.{no-log, log-here, log-long}
+use Rattle.decode.proofs.Single.{no-log, log-here}
 use Rattle.decode.proofs.read_log.Goals as goal
 
 pub returns-in_default : goal.returns-in_default

@@ -4,7 +4,7 @@ use Rattle.decode.proofs.Progress.{begin, room, goes_on, stops, breaks}
 use Rattle.decode.proofs.read_nodes.Goals as goal
 
 pub loop-x-init : goal.loop-x-init
-loop-x-init c = begin c.new-table.ensures c.default.ensures c.requires.1
+loop-x-init c = begin c.requires.1 c.default.ensures c.requires.0.1
 
 pub returns-in_err-last : goal.returns-in_err-last
 returns-in_err-last c = rw c.from_residual.ensures (breaks c.loop-x.invariant c.in_err-last.ensures)

@@ -69,7 +69,7 @@ same_text e w = rw e w
 pub no-nodes : (b : Bytes) {n : Table} → live n ≡ [] → SoundTable b n
 no-nodes b e = (unused e).sound
 
-module _ (b : Bytes) {n : Table} (e : live n ≡ []) (r : ℕ) {out after : Bytes} {k : Option ℕ} (v : Writes (text_of r (map_of b n)) out after k) where
+module _ (b : Bytes) (n : Table) (e : live n ≡ []) (r : ℕ) {out after : Bytes} {k : Option ℕ} (v : Writes (text_of r (map_of b n)) out after k) where
   refused : listing b ≡ text_of r [] → Writes (listing b) out after k
   refused h = same_text (h ∙ ap (text_of r) (sym (unused {src = b} e).same)) v
 

@@ -6,7 +6,7 @@ pub put_text-requires : goal.put_text-requires
 put_text-requires c = no-nodes _ c.new.ensures
 
 pub returns-in_default : goal.returns-in_default
-returns-in_default c = broken _ c.new.ensures _ c.put_text.ensures c.in_default.ensures c.from.ensures
+returns-in_default c = broken _ _ c.new.ensures _ c.put_text.ensures c.in_default.ensures c.from.ensures
 
 pub recover-requires : goal.recover-requires
 recover-requires c = (fitting c.in-Some.ensures, (c.in-Some.ensures.plain, short c.in-Some.ensures))
@@ -18,4 +18,4 @@ pub returns-in-Ok : goal.returns-in-Ok
 returns-in-Ok c = listed c.in-Some.ensures c.in-Ok.ensures c.put_text-in-Ok.ensures
 
 pub returns-in-Err : goal.returns-in-Err
-returns-in-Err c = turned_down _ c.new-in-Err.ensures _ c.put_text-in-Err.ensures c.in-Some.ensures c.in-Err.ensures c.from-in-Err.ensures
+returns-in-Err c = turned_down _ _ c.new-in-Err.ensures _ c.put_text-in-Err.ensures c.in-Some.ensures c.in-Err.ensures c.from-in-Err.ensures

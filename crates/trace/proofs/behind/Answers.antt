@@ -22,7 +22,7 @@ returns c =
     let g = c.run_steps-done.ensures 0 0 in
     let e = number-behind c.args.image.now c.args.n (length-replicate {A = ℕ} 19_390 0) (length-replicate {A = ℕ} 197 0) g in
     let f = field-behind c.args.image.now c.args.n (length-replicate {A = ℕ} 19_390 0) (length-replicate {A = ℕ} 197 0) g in
-    let items = λ (p : c.match-done.len ≡ (handed c.run_steps-done.result (0, 0)).1). c.truncate.ensures.items ∙ ap (take c.match-done.len) c.from-field.ensures.0 ∙ ap (λ (k : ℕ). take k c.run_steps-done.new.step) p ∙ f in
+    let items = λ (p : c.match-done.len ≡ (handed c.run_steps-done.result (0, 0)).1). c.truncate.ensures ∙ ap (take c.match-done.len) c.from-field.ensures.0 ∙ ap (λ (k : ℕ). take k c.run_steps-done.new.step) p ∙ f in
     elim c.match-done.branch [
       | in-Ok w ↦
           fresh-along c.args.image.now c.args.n e c.truncate.new.self (items (w.len-is ∙ ap (λ (r : Result (ℕ × ℕ) Refusal). (handed r (0, 0)).1) (sym w.in-Ok.is))) (λ z. absurd (z (ap told w.in-Ok.is)))
